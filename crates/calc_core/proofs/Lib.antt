@@ -1,0 +1,4 @@
+pub mod Division
+pub mod Registers
+pub mod Words
+pub mod Ends

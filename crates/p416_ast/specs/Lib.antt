@@ -1,0 +1,5 @@
+pub mod Tree
+pub mod Blocks
+pub mod Code
+pub mod Views
+pub mod Words

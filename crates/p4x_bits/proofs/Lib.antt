@@ -1,0 +1,4 @@
+pub mod BitLists
+pub mod Counts
+pub mod Masks
+pub mod Splices

@@ -1,0 +1,4 @@
+pub mod Untold
+pub mod Desks
+pub mod Reading
+pub mod Slots
