@@ -1,0 +1,4 @@
+pub mod Leaders
+pub mod Matches
+pub mod Indexes
+pub mod Prefixed

@@ -1,0 +1,6 @@
+pub mod Matching
+pub mod Best
+pub mod Fits
+pub mod Stores
+pub mod Index
+pub mod Prefixes

@@ -1,0 +1,63 @@
+// A table, filled with its entries.
+ghost use Rattle.std.specs.Prelude.{◌≡◌, ℕ, ◌^◌, ◌<◌, length, All, IfOk};
+ghost use Rattle.match_core.specs.Best.{Filled, IsBest, best};
+ghost use Rattle.match_core.specs.Fits.{AreSpecs, FitsKeys};
+
+use crate::entries::Entry;
+use crate::index::{Index, find, index_of};
+use crate::key::Key;
+use crate::signatures::KeySpec;
+use p4x_bits::OutOfMemory;
+use std::alloc::Global;
+use std::marker::Model;
+
+/// A table with its entries, ready for look-ups.
+#[derive(Drop)]
+pub struct Table {
+    specs: Vec<KeySpec>,
+    entries: Vec<Entry>,
+    index: Index,
+}
+
+impl Model for Table {
+    ghost use Rattle.std.specs.Prelude.{◌^◌, ◌<◌, length, All};
+    ghost use Rattle.match_core.specs.Fits.{FitsKeys};
+    ghost use Rattle.match_core.specs.Best.{Filled};
+    ghost use Rattle.match_core.specs.Index.{IsIndex};
+
+    ghost Value = { Filled };
+
+    ghost view = { λ t. record { specs = t.specs.items; entries = t.entries.items } };
+
+    ghost invariant = { λ t. (length t.entries.items < 2 ^ 32) × All (FitsKeys t.specs.items) t.entries.items × IsIndex (record { specs = t.specs.items; entries = t.entries.items }) t.index };
+}
+
+impl Table {
+    /// A table with these keys and a copy of these entries. The one error is want of memory.
+    pub fn build(alloc: Global, entries: &[Entry], keys: &[KeySpec]) -> Result<Table, OutOfMemory>
+        requires specs { AreSpecs keys.now }
+        requires few { length entries.now < 2 ^ 32 }
+        requires fits { All (FitsKeys keys.now) entries.now }
+        ensures { IfOk result (λ table. table ≡ record { specs = keys.now; entries = entries.now }) }
+    {
+        let mut copies = Vec::with_capacity(alloc, entries.len())?;
+        for entry in entries {
+            copies.push(entry.copy(alloc)?)?;
+        }
+        let index = index_of(alloc, keys, entries)?;
+        Ok(Table {
+            specs: Vec::from_slice(alloc, keys)?,
+            entries: copies,
+            index,
+        })
+    }
+
+    /// The number of the best entry that a key matches, from 0 in the order of the entries, and None
+    /// where it matches none. It takes no memory.
+    pub fn lookup(&self, key: &Key) -> Option<u32>
+        ensures best { IsBest self.now key.now result }
+        ensures scan { result ≡ best self.now key.now }
+    {
+        find(&self.index, &self.specs, &self.entries, key)
+    }
+}

@@ -1,0 +1,13 @@
+use Rattle.std.proofs.Common.{◌-◌, drop, All}
+use Rattle.std.proofs.lemmas.Result.{IfOk-weaker}
+use Rattle.token_division.specs.Layout.{IsPieceOf}
+use Rattle.p414_tok.specs.Front.{front}
+use Rattle.p414_tok.specs.Spelled.{IsSpelled}
+use Rattle.p414_tok.proofs.Spelling.{tokens_spelled}
+use Rattle.p414_tok.proofs.lexicon.tokens.Goals as goal
+
+pub returns-clause-spelled : goal.returns-clause-spelled
+returns-clause-spelled c =
+    let text = c.args.text.now in
+    IfOk-weaker c.divide.result (All (IsPieceOf front text)) (All (λ token. IsSpelled token.kind (drop token.from text) (token.to - token.from)))
+    (tokens_spelled text) c.divide.ensures.pieces

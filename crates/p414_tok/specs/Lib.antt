@@ -1,0 +1,3 @@
+pub mod Lines
+pub mod Front
+pub mod Spelled

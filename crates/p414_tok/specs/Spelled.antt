@@ -1,0 +1,40 @@
+-- How the tokens of a text are written in it.
+use Rattle.std.specs.Prelude.{◌≡◌, ◌≤◌, ◌%◌, ◌^◌, ◌∷◌, ◌++◌, ℕ, Option, Some, None, List, length, take, slice_index, false, IsTrue, All, Contains}
+use Rattle.std.specs.List.{AllPass}
+use Rattle.token_division.specs.declared.literals.Base.TheVariants.{Decimal}
+use Rattle.token_division.specs.Octets.{is_letter, is_decimal, is_word}
+use Rattle.token_division.specs.Literals.{IsLiteral, value_of, largest}
+use Rattle.token_division.specs.Pieces.{begins}
+use Rattle.p414_tok.specs.declared.kind.TokenKind14.{TokenKind14}
+use Rattle.p414_tok.specs.declared.kind.TokenKind14.TheVariants as kind
+use Rattle.p414_tok.specs.Front.{marks}
+
+-- a letter or `_`, and letters, digits and `_` behind it
+abbrev pub IsName : List ℕ → Type 0
+IsName octets = IsTrue (is_letter (slice_index octets 0)) × AllPass is_word octets
+
+-- The octets are decimal digits, a `'` and a number: a width from 1 to 128, and a value that is the
+-- number modulo 2 ^ width.
+pub record IsWideNumber (octets : List ℕ) (width value : ℕ) : Type 0 where
+  pub digits : List ℕ
+  pub rest : List ℕ
+  pub written : ℕ
+  pub parts : octets ≡ digits ++ 39 ∷ rest
+  pub has_digits : AllPass is_decimal digits
+  pub width_is : width ≡ value_of Decimal digits
+  pub width_fits : (1 ≤ width) × (width ≤ 128)
+  pub has_number : IsLiteral rest written
+  pub number_fits : written ≤ largest
+  pub value_is : value ≡ written % 2 ^ width
+
+-- the octets are a number with this width, if it has one, and this value
+abbrev pub IsNumber : Option ℕ → ℕ → List ℕ → Type 0
+IsNumber None value octets = IsLiteral octets value × (value ≤ largest)
+IsNumber (Some width) value octets = IsWideNumber octets width value
+
+-- The text begins with a token of this kind in so many octets: a name that no octet of a word follows, a
+-- number with its width and value, or a mark, where no longer one stands.
+abbrev pub IsSpelled : TokenKind14 → List ℕ → ℕ → Type 0
+IsSpelled kind.Name text size = IsName (take size text) × (is_word (slice_index text size) ≡ false)
+IsSpelled (kind.Number width value) text size = IsNumber width value (take size text)
+IsSpelled kind.Mark text size = Contains marks (take size text) × All (λ mark. IsTrue (begins text mark) → length mark ≤ size) marks

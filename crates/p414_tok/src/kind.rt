@@ -1,0 +1,16 @@
+// The kinds of tokens.
+use token_division::Token;
+
+/// The kind of a P4_14 token. The octets of its span tell a name from another and a mark from another.
+#[derive(Clone, Copy, Debug, PartialEq, Eq)]
+pub enum TokenKind14 {
+    /// A letter or `_`, and letters, digits and `_` behind it. No word is reserved.
+    Name,
+    /// A number. With a width, from 1 to 128 bits, the value is that of the number modulo 2^width.
+    Number { width: Option<u8>, value: u128 },
+    /// One of `{ } ( ) [ ] ; : , . = < > <= >= == != << >> + - * & | ^ ~`.
+    Mark,
+}
+
+/// A token of a P4_14 text: its kind, its octets in the text and its place.
+pub type Token14 = Token<TokenKind14>;

@@ -1,0 +1,10 @@
+use Rattle.std.proofs.Common.{◌≡◌, map, length}
+use Rattle.p4x_cmd.specs.Division.{token_of}
+use Rattle.p4x_cmd.specs.Places14 as places
+use Rattle.p4x_cmd.proofs.reader.places.behind_fields.Given as goal
+
+abbrev pub invariant-loop-left : goal.invariant-loop-left
+invariant-loop-left l = places.behind_fields (map token_of l.left) ≡ places.behind_fields (map token_of l.tokens)
+
+abbrev pub decreases-loop-left : goal.decreases-loop-left
+decreases-loop-left l = length l.left

@@ -1,0 +1,29 @@
+-- Why a command ends without status 0: its status and its line (this project's own).
+use Rattle.std.specs.Prelude.{ℕ, List, codes, Result, Ok, Err}
+use Rattle.p4x_cmd.specs.declared.stop.Stop.{Stop}
+use Rattle.p4x_cmd.specs.declared.stop.Stop.TheVariants.{Fault, Usage, Program, Entries, Capture, Memory}
+
+abbrev pub stop_code : Stop → ℕ
+stop_code Fault = 1
+stop_code Usage = 2
+stop_code Program = 3
+stop_code Entries = 4
+stop_code Capture = 5
+stop_code Memory = 7
+
+abbrev pub stop_line : Stop → List ℕ
+stop_line Fault = codes "fault\n"
+stop_line Usage = codes "usage\n"
+stop_line Program = codes "refused C25\n"
+stop_line Entries = codes "refused E1 at 1:1\n"
+stop_line Capture = codes "refused K2\n"
+stop_line Memory = codes "no memory\n"
+
+-- the line and the status of what the work ended with: its own line and 0, or those of what stopped it
+abbrev pub line_of : Result (List ℕ) Stop → List ℕ
+line_of (Ok line) = line
+line_of (Err stop) = stop_line stop
+
+abbrev pub code_of : Result (List ℕ) Stop → ℕ
+code_of (Ok line) = 0
+code_of (Err stop) = stop_code stop

@@ -1,0 +1,24 @@
+//! The commands of `p4x` over a desk of files and a sink to print to.
+#![tactic(auto)]
+
+mod captures;
+mod carry;
+mod lowering;
+mod names;
+mod one_table;
+mod packets;
+mod reader;
+mod reports;
+mod runner;
+mod stop;
+mod tokens;
+mod top;
+mod words;
+mod writer;
+
+pub use names::Names;
+pub use one_table::{Field, OneTable14, OneTable16};
+pub use packets::{Arrival, Capture, RunResult, Sent};
+pub use stop::Stop;
+pub use tokens::Token;
+pub use top::p4x;

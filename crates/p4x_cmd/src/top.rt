@@ -1,0 +1,54 @@
+// The top call.
+ghost use Rattle.std.specs.Prelude.{◌≡◌, ◌⊎◌, ℕ, List, Option, Some, None, map, string_bytes};
+ghost use Rattle.p4x_io.specs.Desk.{Rose};
+ghost use Rattle.p4x_cmd.specs.Calls.{WorksFor, Outcome, OwnRose, IsDue, Carried};
+ghost use Rattle.p4x_cmd.specs.Outcomes.{Tells, line_view};
+ghost use Rattle.p4x_cmd.specs.Words.{Files, form, inputs_of};
+
+use crate::carry::carry;
+use crate::stop::{Stop, stop_code, stop_line};
+use crate::words::read_words;
+use p4x_io::{Desk, Sink, say};
+use std::alloc::Global;
+
+// The work of any words: the line that it prints, or why it stops.
+fn work<D: Desk>(alloc: Global, words: &[String], desk: &mut D) -> Result<Vec<u8>, Stop>
+    ensures { WorksFor (form (map string_bytes words.now)) (D.view desk.old) (D.view desk.new) (line_view result) }
+{
+    match read_words(words) {
+        Some(names) => carry(alloc, desk, &names),
+        None => Err(Stop::Usage),
+    }
+}
+
+// The work, and then the line of its end.
+fn run<D: Desk, K: Sink>(alloc: Global, words: &[String], desk: &mut D, out: &mut K) -> u8
+    ensures { Outcome (form (map string_bytes words.now)) (D.view desk.old) (D.view desk.new) (K.view out.old) (K.view out.new) result }
+{
+    match work(alloc, words, desk) {
+        Ok(line) => say(out, &line, 0),
+        Err(stop) => say(out, stop_line(stop), stop_code(stop)),
+    }
+}
+
+/// Runs a command line over a desk of files, prints one line to a sink and answers the status.
+///
+/// The words are `carry PROGRAM ENTRIES CAPTURE --text F --sent F --report F`. The status is 0 where the program was carried; 1 after a
+/// fault of a file that the words name or of the sink; 2 where the words are no form of the command; 3 where the program isn't one of the one-table form
+/// of P4_14; 4 where the entries file has an octet; 5 where the capture isn't a little-endian one that is whole; and 7 for want of memory.
+pub fn p4x<D: Desk, K: Sink>(alloc: Global, words: &[String], desk: &mut D, out: &mut K) -> u8
+    ensures outcome { Outcome (form (map string_bytes words.now)) (D.view desk.old) (D.view desk.new) (K.view out.old) (K.view out.new) result }
+    // 0: the text reads as one program, and the files and the line are those of this program's run.
+    ensures carried { (f : Files) (files : List ℕ → Option (List ℕ)) → form (map string_bytes words.now) ≡ Some f → Tells (inputs_of f) (D.view desk.old) files
+        → result ≡ 0 → Carried f files (D.view desk.old) (D.view desk.new) (K.view out.old) (K.view out.new) }
+    // 1 comes only where an own count rose.
+    ensures fault { result ≡ 1 → OwnRose (form (map string_bytes words.now)) (D.view desk.old) (D.view desk.new) (K.view out.old) (K.view out.new) }
+    // 2 comes exactly where the words are no form, or else the sink failed.
+    ensures usage { result ≡ 2 → form (map string_bytes words.now) ≡ None }
+    ensures words { form (map string_bytes words.now) ≡ None → (result ≡ 2) ⊎ Rose (K.view out.old).writes (K.view out.new).writes }
+    // But for 1 and 7 the status is one that is due, with exactly the files that are due.
+    ensures due { (f : Files) (files : List ℕ → Option (List ℕ)) → form (map string_bytes words.now) ≡ Some f → Tells (inputs_of f) (D.view desk.old) files
+        → (result ≡ 1) ⊎ (result ≡ 7) ⊎ IsDue f files (D.view desk.old) (D.view desk.new) result }
+{
+    run(alloc, words, desk, out)
+}
