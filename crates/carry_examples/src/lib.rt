@@ -4,6 +4,8 @@
 #[cfg(test)]
 mod causes;
 #[cfg(test)]
+mod memory;
+#[cfg(test)]
 mod runs;
 #[cfg(test)]
 mod setting;

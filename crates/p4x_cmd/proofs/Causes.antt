@@ -1,14 +1,15 @@
 -- What an outcome says of each status.
-use Rattle.std.proofs.Common.{◌≡◌, ◌⊎◌, inl, inr, ℕ, List, Option, Some, None, Result, Ok, Err, refl, sym, ◌∙◌, ap, subst, arith}
+use Rattle.std.proofs.Common.{◌≡◌, ◌⊎◌, inl, inr, ℕ, ◌==◌, if◌then◌else◌, List, Option, Some, None, Result, Ok, Err, refl, sym, ◌∙◌, ap, subst, arith}
 use Rattle.p4x_io.specs.Desk.{DeskView, SinkView, Rose, said}
 use Rattle.p4x_cmd.specs.declared.packets.Capture.{Capture as Packets}
 use Rattle.p4x_cmd.specs.declared.stop.Stop.{Stop}
 use Rattle.p4x_cmd.specs.declared.stop.Stop.TheVariants.{Fault, Usage, Program, Entries, Capture, Memory}
-use Rattle.p4x_cmd.specs.Calls.{Outcome, WorksFor, OwnRose, IsDue, Carried}
+use Rattle.p4x_cmd.specs.Calls.{Outcome, WorksFor, OwnRose, IsDue, Carried, ComesWhere, Accepts, RefusesProgram, RefusesEntries, RefusesCapture, Prints, Translated, Fronts}
 use Rattle.p4x_cmd.specs.Carry.{CarryDue, reports_of, reports_end, capture_end, delivered}
-use Rattle.p4x_cmd.specs.Outcomes.{Due, Leaves, Tells, AllExact}
-use Rattle.p4x_cmd.specs.Stops.{code_of, line_of, stop_code}
+use Rattle.p4x_cmd.specs.Outcomes.{Due, Leaves, Tells, AllExact, AllKept}
+use Rattle.p4x_cmd.specs.Stops.{code_of, line_of, stop_code, stop_line}
 use Rattle.p4x_cmd.specs.Words.{Files, inputs_of, outputs_of}
+use Rattle.p4x_cmd.proofs.Statuses.{known_of, comes_accepts, comes_program, comes_entries, comes_capture, kept_is, translated_is, fronts_are}
 
 -- how the work ended, from its status
 is_fault : (end : Result (List ℕ) Stop) → code_of end ≡ 1 → end ≡ Err Fault
@@ -86,6 +87,29 @@ done f files old new before after end d (inr went) is zero printed outs = by_cap
           line_is = printed ∙ ap (λ (x : Result (List ℕ) Stop). said before.printed (line_of x)) (is ∙ ap (λ (x : Due). x.end) same);
         }
 
+-- each stop has its own status
+stop_of : ℕ → Option Stop
+stop_of code =
+    if code == 1 then Some Fault else if code == 2 then Some Usage else if code == 3 then Some Program else if code == 4 then Some Entries
+    else if code == 5 then Some Capture else Some Memory
+
+stop_again : (stop : Stop) → stop_of (stop_code stop) ≡ Some stop
+unfolding stop_of
+stop_again Fault = refl
+stop_again Usage = refl
+stop_again Program = refl
+stop_again Entries = refl
+stop_again Capture = refl
+stop_again Memory = refl
+
+-- the line of an end by its status
+line_by_code : (end : Result (List ℕ) Stop) (stop : Stop) → code_of end ≡ stop_code stop → line_of end ≡ stop_line stop
+line_by_code (Ok line) stop same = absurd (not_done stop same)
+line_by_code (Err other) stop same =
+    let alike : Some other ≡ Some stop = sym (stop_again other) ∙ ap stop_of same ∙ stop_again stop in
+    let equal : other ≡ stop = cc alike in
+    ap stop_line equal
+
 module _ (found : Option Files) (old new : DeskView) (before after : SinkView) (status : ℕ) (outcome : Outcome found old new before after status) where
   pub fault_is : status ≡ 1 → OwnRose found old new before after
   fault_is is = elim outcome.says.said [
@@ -99,13 +123,26 @@ module _ (found : Option Files) (old new : DeskView) (before after : SinkView) (
     | inr cut ↦ absurd (omega (arith, cut.0))
   ]
 
-  pub words_are : found ≡ None → (status ≡ 2) ⊎ Rose before.writes after.writes
+  pub words_are : found ≡ None → ((status ≡ 2) ⊎ Rose before.writes after.writes) × (new ≡ old)
   words_are none =
-      let works : WorksFor None old new outcome.end = subst (λ f. WorksFor f old new outcome.end) none outcome.works in
-      elim outcome.says.said [
-        | inl whole ↦ inl (whole.0 ∙ ap code_of works.0)
-        | inr cut ↦ inr cut.1
-      ]
+      let works : WorksFor None old new outcome.end = subst (λ f. WorksFor f old new outcome.end) none outcome.works in (
+        elim outcome.says.said [
+          | inl whole ↦ inl (whole.0 ∙ ap code_of works.0)
+          | inr cut ↦ inr cut.1
+        ],
+        works.1,
+      )
+
+  pub prints_is : Prints status before after
+  prints_is stop is = elim outcome.says.said [
+    | inl whole ↦ inl (whole.1 ∙ ap (said before.printed) (line_by_code outcome.end stop (sym whole.0 ∙ is)))
+    | inr cut ↦ inr cut.1
+  ]
+
+  pub fronts_is : (f : Files) (files : List ℕ → Option (List ℕ)) → found ≡ Some f → Tells (inputs_of f) old files → Fronts f files old new
+  fronts_is f files is told =
+      let works : WorksFor (Some f) old new outcome.end = subst (λ x. WorksFor x old new outcome.end) is outcome.works in
+      fronts_are f files outcome.end old new (works.leaves files told)
 
   pub due_is : (f : Files) (files : List ℕ → Option (List ℕ)) → found ≡ Some f → Tells (inputs_of f) old files → (status ≡ 1) ⊎ (status ≡ 7) ⊎ IsDue f files old new status
   due_is f files is told =
@@ -131,3 +168,22 @@ module _ (found : Option Files) (old new : DeskView) (before after : SinkView) (
         ]
         | inr cut ↦ absurd (omega (arith, cut.0))
       ]
+
+  module _ (f : Files) (files : List ℕ → Option (List ℕ)) (is : found ≡ Some f) (told : Tells (inputs_of f) old files) where
+    pub accepts_is : ComesWhere status 0 (Accepts f files)
+    accepts_is = comes_accepts f files status (known_of f files old new status (due_is f files is told))
+
+    pub program_is : ComesWhere status 3 (RefusesProgram f files)
+    program_is = comes_program f files status (known_of f files old new status (due_is f files is told))
+
+    pub entries_is : ComesWhere status 4 (RefusesEntries f files)
+    entries_is = comes_entries f files status (known_of f files old new status (due_is f files is told))
+
+    pub capture_is : ComesWhere status 5 (RefusesCapture f files)
+    capture_is = comes_capture f files status (known_of f files old new status (due_is f files is told))
+
+    pub kept_where : (status ≡ 3) ⊎ (status ≡ 4) → AllKept (outputs_of f) old new
+    kept_where = kept_is f files old new status (due_is f files is told)
+
+    pub translated_where : status ≡ 5 → Translated f files old new
+    translated_where = translated_is f files old new status (due_is f files is told)

@@ -16,6 +16,7 @@ pub mod RunLaws
 pub mod Sizes
 pub mod Spaced
 pub mod Spelling14
+pub mod Statuses
 pub mod Taking
 pub mod Typing16
 pub mod Writing

@@ -1,10 +1,13 @@
 // Why a command ends without status 0.
 ghost use Rattle.std.specs.Prelude.{◌≡◌};
+ghost use Rattle.p4x_fault.specs.Fault.{refusal_line};
+ghost use Rattle.p4x_io.specs.Files.{Says};
 ghost use Rattle.p4x_cmd.specs.Stops.{stop_code, stop_line};
 ghost use Rattle.p4x_cmd.specs.declared.stop.Stop.TheVariants.{Fault, Memory};
 
 use p4x_bits::OutOfMemory;
-use p4x_io::Failed;
+use p4x_fault::{Fault, Place, Rule, print};
+use p4x_io::{Failed, Sink, say};
 
 /// Why a command ends without status 0.
 #[derive(Clone, Copy, Debug, PartialEq, Eq, Drop)]
@@ -39,30 +42,28 @@ impl From<Failed> for Stop {
     }
 }
 
-/// The line that is printed.
-pub(crate) fn stop_line(stop: Stop) -> &'static [u8]
-    ensures { result.now ≡ stop_line stop }
+/// Prints the line of a stop, and gives the status that comes of it.
+pub(crate) fn say_stop<K: Sink>(out: &mut K, stop: Stop) -> u8
+    ensures { Says (stop_line stop) (stop_code stop) result (K.view out.old) (K.view out.new) }
 {
     match stop {
-        Stop::Fault => b"fault\n",
-        Stop::Usage => b"usage\n",
-        Stop::Program => b"refused C25\n",
-        Stop::Entries => b"refused E1 at 1:1\n",
-        Stop::Capture => b"refused K2\n",
-        Stop::Memory => b"no memory\n",
+        Stop::Fault => say(out, b"fault\n", 1),
+        Stop::Usage => say(out, b"usage\n", 2),
+        Stop::Program => say_refusal(out, Rule::C(25), None, 3),
+        Stop::Entries => say_refusal(out, Rule::E(1), Some(START), 4),
+        Stop::Capture => say_refusal(out, Rule::K(2), None, 5),
+        Stop::Memory => say(out, b"no memory\n", 7),
     }
 }
 
-/// The status.
-pub(crate) fn stop_code(stop: Stop) -> u8
-    ensures { result ≡ stop_code stop }
+/// The first octet of a file.
+const START: Place = Place { line: 1, column: 1 };
+
+/// Prints the line of a refusal, and gives the status that comes of it.
+fn say_refusal<K: Sink>(out: &mut K, rule: Rule, place: Option<Place>, status: u8) -> u8
+    ensures { Says (refusal_line (record { rule = rule; place = place })) status result (K.view out.old) (K.view out.new) }
 {
-    match stop {
-        Stop::Fault => 1,
-        Stop::Usage => 2,
-        Stop::Program => 3,
-        Stop::Entries => 4,
-        Stop::Capture => 5,
-        Stop::Memory => 7,
-    }
+    let mut line = [0; 64];
+    let length = print(&Fault { rule, place }, &mut line);
+    say(out, &line[..length], status)
 }

@@ -1,12 +1,12 @@
 // The top call.
 ghost use Rattle.std.specs.Prelude.{◌≡◌, ◌⊎◌, ℕ, List, Option, Some, None, map, string_bytes};
 ghost use Rattle.p4x_io.specs.Desk.{Rose};
-ghost use Rattle.p4x_cmd.specs.Calls.{WorksFor, Outcome, OwnRose, IsDue, Carried};
-ghost use Rattle.p4x_cmd.specs.Outcomes.{Tells, line_view};
-ghost use Rattle.p4x_cmd.specs.Words.{Files, form, inputs_of};
+ghost use Rattle.p4x_cmd.specs.Calls.{WorksFor, Outcome, OwnRose, IsDue, Carried, Prints, Translated, ComesWhere, Accepts, RefusesProgram, RefusesEntries, RefusesCapture, Fronts};
+ghost use Rattle.p4x_cmd.specs.Outcomes.{Tells, AllKept, line_view};
+ghost use Rattle.p4x_cmd.specs.Words.{Files, form, inputs_of, outputs_of};
 
 use crate::carry::carry;
-use crate::stop::{Stop, stop_code, stop_line};
+use crate::stop::{Stop, say_stop};
 use crate::words::read_words;
 use p4x_io::{Desk, Sink, say};
 use std::alloc::Global;
@@ -27,7 +27,7 @@ fn run<D: Desk, K: Sink>(alloc: Global, words: &[String], desk: &mut D, out: &mu
 {
     match work(alloc, words, desk) {
         Ok(line) => say(out, &line, 0),
-        Err(stop) => say(out, stop_line(stop), stop_code(stop)),
+        Err(stop) => say_stop(out, stop),
     }
 }
 
@@ -43,9 +43,29 @@ pub fn p4x<D: Desk, K: Sink>(alloc: Global, words: &[String], desk: &mut D, out:
         → result ≡ 0 → Carried f files (D.view desk.old) (D.view desk.new) (K.view out.old) (K.view out.new) }
     // 1 comes only where an own count rose.
     ensures fault { result ≡ 1 → OwnRose (form (map string_bytes words.now)) (D.view desk.old) (D.view desk.new) (K.view out.old) (K.view out.new) }
-    // 2 comes exactly where the words are no form, or else the sink failed.
+    // 2 comes exactly where the words are no form, or else the sink failed; then the desk is as it was.
     ensures usage { result ≡ 2 → form (map string_bytes words.now) ≡ None }
-    ensures words { form (map string_bytes words.now) ≡ None → (result ≡ 2) ⊎ Rose (K.view out.old).writes (K.view out.new).writes }
+    ensures words { form (map string_bytes words.now) ≡ None
+        → ((result ≡ 2) ⊎ Rose (K.view out.old).writes (K.view out.new).writes) × (D.view desk.new ≡ D.view desk.old) }
+    // 0, 3, 4 and 5 come exactly where the first cause in the order of the work says so, or else 1 or 7.
+    ensures accepts { (f : Files) (files : List ℕ → Option (List ℕ)) → form (map string_bytes words.now) ≡ Some f → Tells (inputs_of f) (D.view desk.old) files
+        → ComesWhere result 0 (Accepts f files) }
+    ensures program { (f : Files) (files : List ℕ → Option (List ℕ)) → form (map string_bytes words.now) ≡ Some f → Tells (inputs_of f) (D.view desk.old) files
+        → ComesWhere result 3 (RefusesProgram f files) }
+    ensures entries { (f : Files) (files : List ℕ → Option (List ℕ)) → form (map string_bytes words.now) ≡ Some f → Tells (inputs_of f) (D.view desk.old) files
+        → ComesWhere result 4 (RefusesEntries f files) }
+    ensures capture { (f : Files) (files : List ℕ → Option (List ℕ)) → form (map string_bytes words.now) ≡ Some f → Tells (inputs_of f) (D.view desk.old) files
+        → ComesWhere result 5 (RefusesCapture f files) }
+    // The line of a status other than 0 is printed whole, or else the sink failed.
+    ensures prints { Prints result (K.view out.old) (K.view out.new) }
+    // With 3 and 4 no output is made or changed; with 5 the text is whole, and the others are empty.
+    ensures kept { (f : Files) (files : List ℕ → Option (List ℕ)) → form (map string_bytes words.now) ≡ Some f → Tells (inputs_of f) (D.view desk.old) files
+        → (result ≡ 3) ⊎ (result ≡ 4) → AllKept (outputs_of f) (D.view desk.old) (D.view desk.new) }
+    ensures translated { (f : Files) (files : List ℕ → Option (List ℕ)) → form (map string_bytes words.now) ≡ Some f → Tells (inputs_of f) (D.view desk.old) files
+        → result ≡ 5 → Translated f files (D.view desk.old) (D.view desk.new) }
+    // With every status each output is as it was, or holds a front of what is due.
+    ensures fronts { (f : Files) (files : List ℕ → Option (List ℕ)) → form (map string_bytes words.now) ≡ Some f → Tells (inputs_of f) (D.view desk.old) files
+        → Fronts f files (D.view desk.old) (D.view desk.new) }
     // But for 1 and 7 the status is one that is due, with exactly the files that are due.
     ensures due { (f : Files) (files : List ℕ → Option (List ℕ)) → form (map string_bytes words.now) ≡ Some f → Tells (inputs_of f) (D.view desk.old) files
         → (result ≡ 1) ⊎ (result ≡ 7) ⊎ IsDue f files (D.view desk.old) (D.view desk.new) result }

@@ -1,4 +1,4 @@
-use Rattle.p4x_cmd.proofs.Causes.{carried_is, fault_is, usage_is, words_are, due_is}
+use Rattle.p4x_cmd.proofs.Causes.{carried_is, fault_is, usage_is, words_are, due_is, accepts_is, program_is, entries_is, capture_is, kept_where, translated_where, fronts_is, prints_is}
 use Rattle.p4x_cmd.proofs.top.p4x.Goals as goal
 
 pub returns-clause-carried : goal.returns-clause-carried
@@ -15,3 +15,27 @@ returns-clause-words g c = words_are _ _ _ _ _ _ c.run.ensures
 
 pub returns-clause-due : goal.returns-clause-due
 returns-clause-due g c = due_is _ _ _ _ _ _ c.run.ensures
+
+pub returns-clause-accepts : goal.returns-clause-accepts
+returns-clause-accepts g c = accepts_is _ _ _ _ _ _ c.run.ensures
+
+pub returns-clause-program : goal.returns-clause-program
+returns-clause-program g c = program_is _ _ _ _ _ _ c.run.ensures
+
+pub returns-clause-entries : goal.returns-clause-entries
+returns-clause-entries g c = entries_is _ _ _ _ _ _ c.run.ensures
+
+pub returns-clause-capture : goal.returns-clause-capture
+returns-clause-capture g c = capture_is _ _ _ _ _ _ c.run.ensures
+
+pub returns-clause-kept : goal.returns-clause-kept
+returns-clause-kept g c = kept_where _ _ _ _ _ _ c.run.ensures
+
+pub returns-clause-translated : goal.returns-clause-translated
+returns-clause-translated g c = translated_where _ _ _ _ _ _ c.run.ensures
+
+pub returns-clause-fronts : goal.returns-clause-fronts
+returns-clause-fronts g c = fronts_is _ _ _ _ _ _ c.run.ensures
+
+pub returns-clause-prints : goal.returns-clause-prints
+returns-clause-prints g c = prints_is _ _ _ _ _ _ c.run.ensures

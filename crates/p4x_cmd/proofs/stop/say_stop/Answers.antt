@@ -1,0 +1,41 @@
+use Rattle.std.proofs.Common.{◌≡◌, ℕ, List, [], ◌∷◌, ◌++◌, Some, None, codes, ◌∙◌, ap, subst, arith}
+use Rattle.std.specs.Fmt.{decimal}
+use Rattle.std.proofs.lemmas.Fmt.{decimal_digit, decimal_step}
+use Rattle.p4x_fault.specs.declared.Rule.TheVariants.{C, E, K}
+use Rattle.p4x_fault.specs.Fault.{refusal_line}
+use Rattle.p4x_io.specs.Desk.{SinkView}
+use Rattle.p4x_io.specs.Files.{Says}
+use Rattle.p4x_cmd.proofs.stop.say_stop.Goals as goal
+
+one : decimal 1 ≡ 49 ∷ []
+one = decimal_digit 1 (omega arith)
+
+two : decimal 2 ≡ 50 ∷ []
+two = decimal_digit 2 (omega arith)
+
+twenty_five : decimal 25 ≡ 50 ∷ 53 ∷ []
+twenty_five = decimal_step 25 (omega arith) (omega arith) ∙ ap (λ (l : List ℕ). l ++ (53 ∷ [])) two
+
+-- the lines of the refusals
+
+program_line : refusal_line (record { rule = C 25; place = None }) ≡ codes "refused C25\n"
+program_line = ap (λ (l : List ℕ). codes "refused " ++ (codes "C" ++ l) ++ [] ++ codes "\n") twenty_five
+
+entries_line : refusal_line (record { rule = E 1; place = Some (record { line = 1; column = 1 }) }) ≡ codes "refused E1 at 1:1\n"
+entries_line = ap (λ (l : List ℕ). codes "refused " ++ (codes "E" ++ l) ++ (codes " at " ++ l ++ codes ":" ++ l) ++ codes "\n") one
+
+capture_line : refusal_line (record { rule = K 2; place = None }) ≡ codes "refused K2\n"
+capture_line = ap (λ (l : List ℕ). codes "refused " ++ (codes "K" ++ l) ++ [] ++ codes "\n") two
+
+-- what is said of a line is said of an equal one
+of_equal : (a b : List ℕ) (due status : ℕ) (old new : SinkView) → a ≡ b → Says a due status old new → Says b due status old new
+of_equal a b due status old new same says = subst (λ (l : List ℕ). Says l due status old new) same says
+
+pub returns-in-Program : goal.returns-in-Program
+returns-in-Program g c = rw c.in-Program.is (of_equal _ _ _ _ _ _ program_line c.say_refusal.ensures)
+
+pub returns-in-Entries : goal.returns-in-Entries
+returns-in-Entries g c = rw c.in-Entries.is (of_equal _ _ _ _ _ _ entries_line c.say_refusal-in-Entries.ensures)
+
+pub returns-in-Capture : goal.returns-in-Capture
+returns-in-Capture g c = rw c.in-Capture.is (of_equal _ _ _ _ _ _ capture_line c.say_refusal-in-Capture.ensures)
