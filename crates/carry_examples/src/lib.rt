@@ -1,12 +1,15 @@
-//! The command `carry` over a desk and a sink in memory: whole runs, texts that read as no program, and each cause of a status. All of it is tests.
+//! The command `carry` over a desk and a sink in memory: whole runs, texts that read as no program, and each cause of a status. Beside the tests stands a plain program that follows the meaning of P4_14.
 #![tactic(auto)]
 
 #[cfg(test)]
 mod causes;
 #[cfg(test)]
 mod memory;
+pub mod plain;
 #[cfg(test)]
 mod runs;
+#[cfg(test)]
+mod same;
 #[cfg(test)]
 mod setting;
 #[cfg(test)]

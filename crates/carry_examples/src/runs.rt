@@ -1,5 +1,5 @@
 // Runs that end with status 0.
-use crate::setting::{WORDS, capture, desk, expect_file, front, program, run, sent, text};
+use crate::setting::{WORDS, capture, desk, expect_file, front, nibbles, program, run, sent, text};
 use p4x_io::MemorySink;
 use std::alloc::Global;
 use std::process::Abort;
@@ -68,21 +68,6 @@ fn captures_without_packets_and_with_short_ones(rt: HostRuntime) -> Result<(), F
         report: b"in 1\nout 0\ncut 0\nwork 3\n",
     };
     expect_run(&rt, rt.alloc(), &short)
-}
-
-/// A program whose header has 2 octets, of which two fields share the first, and which sends to a port.
-fn nibbles(alloc: Global, port: &[u8]) -> Result<Vec<u8>, Fail> {
-    let mut text = Vec::from_slice(
-        alloc,
-        b"header_type n_t { fields { v : 4; w : 12; } } header n_t n;
-parser start { extract(n); return ingress; }
-action out() { modify_field(standard_metadata.egress_spec, ",
-    )?;
-    text.extend_from_slice(port)?;
-    text.extend_from_slice(
-        b"); } table t { actions { out; } default_action : out(); } control ingress { apply(t); }",
-    )?;
-    Ok(text)
 }
 
 /// A capture of link type 228, in nanoseconds, with packets of 2, 1 and 3 octets.

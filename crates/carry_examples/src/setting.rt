@@ -80,6 +80,21 @@ V1Switch(P(), V(), I(), E(), C(), D()) main;
 "
 }
 
+/// A program whose header has 2 octets, of which two fields share the first, and which sends to a port.
+pub fn nibbles(alloc: Global, port: &[u8]) -> Result<Vec<u8>, Fail> {
+    let mut text = Vec::from_slice(
+        alloc,
+        b"header_type n_t { fields { v : 4; w : 12; } } header n_t n;
+parser start { extract(n); return ingress; }
+action out() { modify_field(standard_metadata.egress_spec, ",
+    )?;
+    text.extend_from_slice(port)?;
+    text.extend_from_slice(
+        b"); } table t { actions { out; } default_action : out(); } control ingress { apply(t); }",
+    )?;
+    Ok(text)
+}
+
 /// A capture of link type 1 with one packet of 14 octets, of second 1 and microsecond 2.
 pub fn capture() -> &'static [u8] {
     &[

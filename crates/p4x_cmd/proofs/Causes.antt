@@ -5,7 +5,10 @@ use Rattle.p4x_cmd.specs.declared.packets.Capture.{Capture as Packets}
 use Rattle.p4x_cmd.specs.declared.stop.Stop.{Stop}
 use Rattle.p4x_cmd.specs.declared.stop.Stop.TheVariants.{Fault, Usage, Program, Entries, Capture, Memory}
 use Rattle.p4x_cmd.specs.Calls.{Outcome, WorksFor, OwnRose, IsDue, Carried, ComesWhere, Accepts, RefusesProgram, RefusesEntries, RefusesCapture, Prints, Translated, Fronts}
-use Rattle.p4x_cmd.specs.Carry.{CarryDue, reports_of, reports_end, capture_end, delivered}
+use Rattle.p4x_cmd.specs.declared.one_table.OneTable14.{OneTable14}
+use Rattle.p4x_cmd.specs.Forms14.{Reads14}
+use Rattle.p4x_cmd.proofs.Reading14.{reads14_once}
+use Rattle.p4x_cmd.specs.Carry.{ProgramIs, CarryDue, reports_of, reports_end, capture_end, delivered}
 use Rattle.p4x_cmd.specs.Outcomes.{Due, Leaves, Tells, AllExact, AllKept}
 use Rattle.p4x_cmd.specs.Stops.{code_of, line_of, stop_code, stop_line}
 use Rattle.p4x_cmd.specs.Words.{Files, inputs_of, outputs_of}
@@ -60,6 +63,13 @@ left f files end old new (inr (inr part)) = elim part.0 [ inl x ↦ inl (ap code
 with_code : (f : Files) (files : List ℕ → Option (List ℕ)) (old new : DeskView) (a b : ℕ) → a ≡ b → IsDue f files old new b → IsDue f files old new a
 with_code f files old new a b same due = record { what = due.what; due = due.due; code = same ∙ due.code; outs = due.outs }
 
+-- a program that is taken is the only one that its text reads as
+one_program : (o : Option (List ℕ)) (p : OneTable14) → ProgramIs o (Ok p) → (read : List ℕ) (other : OneTable14) → o ≡ Some read → Reads14 read other → other ≡ p
+one_program None p taken read other is reads = absurd taken
+one_program (Some text) p taken read other is reads =
+    let same : read ≡ text = cc is in
+    reads14_once text other p (subst (λ (l : List ℕ). Reads14 l other) same reads) taken.reads
+
 -- a run that was done, from what was due
 done : (f : Files) (files : List ℕ → Option (List ℕ)) (old new : DeskView) (before after : SinkView) (end : Result (List ℕ) Stop) (d : Due) → CarryDue f files d → end ≡ d.end → 0 ≡ code_of end
     → after.printed ≡ said before.printed (line_of end) → AllExact d.outs old new → Carried f files old new before after
@@ -79,6 +89,7 @@ done f files old new before after end d (inr went) is zero printed outs = by_cap
           program = went.2;
           packets = packets;
           begins = went.3;
+          only = one_program (files f.program) went.0 went.3.0;
           written = went.4;
           capture = here;
           text_is = files_are.0;

@@ -8,6 +8,7 @@ use Rattle.p4x_cmd.specs.declared.one_table.OneTable14.{OneTable14}
 use Rattle.p4x_cmd.specs.declared.stop.Stop.{Stop}
 use Rattle.p4x_cmd.specs.declared.stop.Stop.TheVariants.{Usage, Program, Entries, Capture}
 use Rattle.p4x_cmd.specs.Carry.{CarryDue, ProgramIs, Begins, Written, entries_stop, capture_end, reports_of}
+use Rattle.p4x_cmd.specs.Forms14.{Reads14}
 use Rattle.p4x_cmd.specs.Outcomes.{Due, Works, AllExact, AllPart, AllKept, DeskRose}
 use Rattle.p4x_cmd.specs.Stops.{line_of, code_of, stop_line, stop_code}
 use Rattle.p4x_cmd.specs.Words.{Files, inputs_of, outputs_of}
@@ -35,7 +36,7 @@ pub record IsDue (f : Files) (files : List ℕ → Option (List ℕ)) (old new :
   pub code : status ≡ code_of what.end
   pub outs : AllExact what.outs old new
 
--- The program was carried: the text that stands in its file reads as one well-typed program of P4_16 which does with every packet, on all entries
+-- The program was carried. It is the one program that its file reads as. The text that stands in its file reads as one well-typed program of P4_16 which does with every packet, on all entries
 -- and under every bound, what the program of P4_14 does; and the sent file, the report and the line that was printed are those of this
 -- program's run over this capture.
 pub record Carried (f : Files) (files : List ℕ → Option (List ℕ)) (old new : DeskView) (before after : SinkView) : Type 0 where
@@ -44,6 +45,7 @@ pub record Carried (f : Files) (files : List ℕ → Option (List ℕ)) (old new
   pub program : Syntax16
   pub packets : Packets
   pub begins : Begins (files f.program) (files f.entries) source
+  pub only : (read : List ℕ) (other : OneTable14) → files f.program ≡ Some read → Reads14 read other → other ≡ source
   pub written : Written source text program
   pub capture : capture_end (files f.capture) ≡ Ok packets
   pub text_is : new.told f.text ≡ put (old.told f.text) text
