@@ -1,4 +1,5 @@
 pub mod Leaders
 pub mod Matches
+pub mod Ordered
 pub mod Indexes
 pub mod Prefixed

@@ -11,9 +11,10 @@ use Rattle.match_core.specs.declared.signatures.KeySpec.{KeySpec}
 use Rattle.match_core.specs.declared.entries.KeyMatch.{KeyMatch}
 use Rattle.match_core.specs.declared.entries.KeyMatch.TheVariants.{Exact, Ternary, Lpm, Range}
 use Rattle.match_core.specs.declared.index.Index.{Index}
-use Rattle.match_core.specs.declared.index.Index.TheVariants.{Keys, Prefixes, Scan}
+use Rattle.match_core.specs.declared.index.Index.TheVariants.{Keys, Prefixes, Order}
 use Rattle.match_core.specs.declared.entries.Entry.{Entry}
 use Rattle.match_core.specs.Best.{Filled, IsBest}
+use Rattle.match_core.specs.Order.{IsOrder}
 use Rattle.match_core.specs.Prefixes.{IsPrefixIndex}
 
 abbrev pub is_exact : KeyKind → Bool
@@ -47,8 +48,8 @@ IsLpmIndex [] entries maps = ⊥
 IsLpmIndex (spec ∷ []) entries maps = (spec.kind ≡ kind.Lpm) × (spec.width ≤ 128) × IsPrefixIndex spec entries (length entries) maps
 IsLpmIndex (spec ∷ _) entries maps = ⊥
 
--- what the index of a table says: where all entries are asked, nothing
+-- what the index of a table says
 abbrev pub IsIndex : Filled → Index → Type 0
 IsIndex table (Keys map) = IsKeyIndex table map
 IsIndex table (Prefixes maps) = IsLpmIndex table.specs table.entries maps.items
-IsIndex table Scan = Unit {0}
+IsIndex table (Order places) = IsOrder table places.items

@@ -1,4 +1,5 @@
 pub mod Matching
+pub mod Order
 pub mod Best
 pub mod Fits
 pub mod Stores

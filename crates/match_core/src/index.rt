@@ -7,8 +7,8 @@ ghost use Rattle.match_core.specs.Index.{IsIndex, IsLpmIndex};
 use crate::entries::Entry;
 use crate::exact::{are_exact, key_index};
 use crate::key::Key;
+use crate::order::{first, order_of};
 use crate::prefix::{longest, prefix_index};
-use crate::scan::scan;
 use crate::signatures::{KeyKind, KeySpec};
 use p4x_bits::OutOfMemory;
 use std::alloc::Global;
@@ -21,8 +21,8 @@ pub enum Index {
     Keys(BTreeMap<Key, u32>),
     /// The one key is lpm: for each prefix length a map from a prefix to its first entry.
     Prefixes(Vec<BTreeMap<u128, u32>>),
-    /// All entries are asked.
-    Scan,
+    /// The entries are asked one by one, in the order in which they count.
+    Order(Vec<u64>),
 }
 
 /// The index of these entries.
@@ -37,7 +37,7 @@ pub fn index_of(alloc: Global, specs: &[KeySpec], entries: &[Entry]) -> Result<I
     }
     match specs {
         [spec] if is_lpm(spec.kind) => Ok(Index::Prefixes(prefix_index(alloc, *spec, entries)?)),
-        _ => Ok(Index::Scan),
+        _ => Ok(Index::Order(order_of(alloc, specs, entries)?)),
     }
 }
 
@@ -51,7 +51,7 @@ pub fn find(index: &Index, specs: &[KeySpec], entries: &[Entry], key: &Key) -> O
     match index {
         Index::Keys(keys) => keys.get(key).copied(),
         Index::Prefixes(maps) => find_prefix(maps, specs, entries, key.as_slice()),
-        Index::Scan => scan(specs, entries, key.as_slice()),
+        Index::Order(order) => first(order, specs, entries, key.as_slice()),
     }
 }
 

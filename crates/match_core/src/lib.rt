@@ -5,6 +5,7 @@ mod entries;
 mod exact;
 mod index;
 mod key;
+mod order;
 mod prefix;
 mod scan;
 mod signatures;
