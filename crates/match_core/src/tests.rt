@@ -1,6 +1,8 @@
 // Look-ups against worked examples, and the indexes against the scan on random tables.
 ghost use Rattle.std.specs.Prelude.{◌≡◌, ℕ, ◌^◌, ◌<◌, ◌≤◌, [], ◌∷◌, length, All, IfOk};
 ghost use Rattle.match_core.specs.Fits.{FitsKey, FitsKeys};
+ghost use Rattle.match_core.specs.declared.entries.KeyMatch.TheVariants.{Exact, Lpm};
+ghost use Rattle.match_core.specs.declared.signatures.KeyKind.TheVariants as kind;
 
 use crate::entries::{Entry, KeyMatch};
 use crate::key::Key;
@@ -222,6 +224,139 @@ fn an_exact_key_is_found_or_missed(rt: HostRuntime) -> Result<(), Fail> {
     for (value, want) in [(7, Some(0)), (u128::MAX, Some(1)), (8, None)] {
         let (best, _) = found(alloc, spec, entries.as_slice(), value)?;
         assert_eq!(rt; best, want, "{value}");
+    }
+    Ok(())
+}
+
+#[test]
+fn a_range_has_both_its_ends(rt: HostRuntime) -> Result<(), Fail> {
+    let alloc = rt.alloc();
+    let spec = KeySpec {
+        kind: KeyKind::Range,
+        width: 16,
+    };
+    let entries = [
+        entry(alloc, KeyMatch::Range { low: 5, high: 9 }, 7)?,
+        entry(alloc, KeyMatch::Range { low: 9, high: 9 }, 7)?,
+        entry(alloc, KeyMatch::Range { low: 8, high: 20 }, 6)?,
+    ];
+    for (value, want) in [
+        (4, None),
+        (5, Some(0)),
+        (9, Some(2)),
+        (20, Some(2)),
+        (21, None),
+    ] {
+        let (best, same) = found(alloc, spec, entries.as_slice(), value)?;
+        assert_eq!(rt; best, want, "{value}");
+        assert!(rt; same, "{value}");
+    }
+    Ok(())
+}
+
+/// An entry of a table with an exact key and an lpm key.
+fn pair(alloc: Global, exact: u128, value: u128, length: u8) -> Result<Entry, OutOfMemory>
+    ensures { IfOk result (λ entry. entry.keys ≡ Exact exact ∷ Lpm value length ∷ []) }
+{
+    let mut keys = Rows::new(alloc);
+    keys.push(KeyMatch::Exact(exact))?;
+    keys.push(KeyMatch::Lpm { value, length })?;
+    Ok(Entry {
+        keys,
+        priority: 0,
+        action: 0,
+        arguments: Numbers::new(alloc),
+    })
+}
+
+#[test]
+fn the_longest_prefix_beside_an_exact_key_counts_first(rt: HostRuntime) -> Result<(), Fail> {
+    let alloc = rt.alloc();
+    let specs = [
+        KeySpec {
+            kind: KeyKind::Exact,
+            width: 8,
+        },
+        KeySpec {
+            kind: KeyKind::Lpm,
+            width: 16,
+        },
+    ];
+    let entries = [
+        pair(alloc, 1, 0, 0)?,
+        pair(alloc, 1, 0x1200, 8)?,
+        pair(alloc, 2, 0x1234, 16)?,
+    ];
+    let table = Table::build(alloc, entries.as_slice(), specs.as_slice())?;
+    for (exact, value, want) in [
+        (1, 0x1234, Some(1)),
+        (1, 0x5634, Some(0)),
+        (2, 0x1234, Some(2)),
+        (2, 0x1235, None),
+    ] {
+        let mut key = Key::new(alloc);
+        key.push(exact)?;
+        key.push(value)?;
+        assert_eq!(rt; table.lookup(&key), want, "{exact} {value:x}");
+    }
+    Ok(())
+}
+
+/// An entry of a table without keys.
+fn bare(alloc: Global) -> Result<Entry, OutOfMemory>
+    ensures { IfOk result (λ entry. entry.keys ≡ []) }
+{
+    Ok(Entry {
+        keys: Rows::new(alloc),
+        priority: 0,
+        action: 0,
+        arguments: Numbers::new(alloc),
+    })
+}
+
+#[test]
+fn the_first_entry_of_a_table_without_keys_matches(rt: HostRuntime) -> Result<(), Fail> {
+    let alloc = rt.alloc();
+    let entries = [bare(alloc)?, bare(alloc)?];
+    let mut key = Key::new(alloc);
+    let table = Table::build(alloc, entries.as_slice(), &[])?;
+    assert_eq!(rt; table.lookup(&key), Some(0));
+    key.push(0)?;
+    assert_eq!(rt; table.lookup(&key), None);
+    Ok(())
+}
+
+/// So many entries, each of which asks for its number.
+fn numbered(alloc: Global, spec: KeySpec, count: u32) -> Result<Vec<Entry>, OutOfMemory>
+    requires kind { spec.kind ≡ kind.Exact }
+    requires width { spec.width ≡ 32 }
+    ensures few { IfOk result (λ entries. length entries.items ≤ count) }
+    ensures fits { IfOk result (λ entries. All (FitsKeys (spec ∷ [])) entries.items) }
+{
+    let mut entries = Vec::new(alloc);
+    for number in 0..count {
+        entries.push(entry(alloc, KeyMatch::Exact(u128::from(number)), 0)?)?;
+    }
+    Ok(entries)
+}
+
+#[test]
+fn each_of_65536_exact_keys_is_found(rt: HostRuntime) -> Result<(), Fail> {
+    let alloc = rt.alloc();
+    let spec = KeySpec {
+        kind: KeyKind::Exact,
+        width: 32,
+    };
+    let entries = numbered(alloc, spec, 65536)?;
+    for (value, want) in [
+        (0, Some(0)),
+        (40000, Some(40000)),
+        (65535, Some(65535)),
+        (65536, None),
+    ] {
+        let (best, same) = found(alloc, spec, entries.as_slice(), value)?;
+        assert_eq!(rt; best, want, "{value}");
+        assert!(rt; same, "{value}");
     }
     Ok(())
 }
