@@ -1,5 +1,5 @@
 -- Laws of matching, for the loops that go over keys.
-use Rattle.std.proofs.Common.{◌≡◌, ◌≢◌, ℕ, suc, ◌+◌, ◌<◌, false, ◌&&◌, ◌⊎◌, inl, inr, List, [], ◌∷◌, length, drop, get_or, refl, ap, add-one, drop-cons}
+use Rattle.std.proofs.Common.{◌≡◌, ◌≢◌, ℕ, suc, false, ◌⊎◌, inl, inr, List, [], ◌∷◌, length, refl, ap}
 use Rattle.std.proofs.Math.Bool.{and-false}
 use Rattle.match_core.specs.declared.signatures.KeySpec.{KeySpec}
 use Rattle.match_core.specs.declared.entries.KeyMatch.{KeyMatch}
@@ -17,8 +17,3 @@ matches-differ [] [] (value ∷ values) differ = refl
 matches-differ [] (one ∷ ones) values differ = refl
 matches-differ (spec ∷ specs) [] values differ = refl
 matches-differ (spec ∷ specs) (one ∷ ones) [] differ = refl
-
--- one more key is asked
-pub matches-turn : (specs : List KeySpec) (ones : List KeyMatch) (values : List ℕ) (i : ℕ) (spec : KeySpec) (one : KeyMatch) (value : ℕ) → i < length specs → i < length ones → i < length values → spec ≡ get_or specs i spec → one ≡ get_or ones i one → value ≡ get_or values i value → matches (drop i specs) (drop i ones) (drop i values) ≡ (matches_one spec.width one value && matches (drop (i + 1) specs) (drop (i + 1) ones) (drop (i + 1) values))
-matches-turn specs ones values i spec one value in_specs in_ones in_values spec_is one_is value_is =
-    rw (drop-cons specs i spec, drop-cons ones i one, drop-cons values i value, ← spec_is, ← one_is, ← value_is, add-one) refl

@@ -1,5 +1,5 @@
 -- The order of a table's entries, and the first of them that matches.
-use Rattle.std.proofs.Common.{◌≡◌, ℕ, zero, suc, nat_eq, nat_lt, below_more, ◌+◌, ◌%◌, ◌^◌, ◌<◌, ◌≤◌, Bool, true, false, List, [], ◌∷◌, ◌++◌, length, get_or, All, Some, None, refl, sym, ◌∙◌, ap, subst, arith}
+use Rattle.std.proofs.Common.{◌≡◌, ℕ, zero, suc, nat_eq, nat_lt, ◌%◌, ◌^◌, ◌<◌, ◌≤◌, Bool, true, false, List, [], ◌∷◌, ◌++◌, length, get_or, All, Some, None, refl, sym, ◌∙◌, ap, subst, arith}
 use Rattle.std.proofs.lemmas.Bool.Decides.{nat_tests}
 use Rattle.std.proofs.lemmas.List.{get_or_default}
 use Rattle.std.specs.List.{Contains}
@@ -44,9 +44,6 @@ order_is table i before order all before_is moved rises = record {
 -- no entry before a place of the order matches
 abbrev pub NoneBefore : Filled → List ℕ → List ℕ → ℕ → Type 0
 NoneBefore table key order i = (j : ℕ) → j < i → hits table key (get_or order j 0 % 2 ^ 32) ≡ false
-
-pub none_more : (table : Filled) (key order : List ℕ) (i : ℕ) → NoneBefore table key order i → hits table key (get_or order i 0 % 2 ^ 32) ≡ false → NoneBefore table key order (i + 1)
-none_more table key order i none here j below = below_more (λ k. hits table key (get_or order k 0 % 2 ^ 32) ≡ false) i none here j (omega arith)
 
 number_of_place : (table : Filled) (n : ℕ) → n < 2 ^ 32 → place_of table n % 2 ^ 32 ≡ n
 number_of_place table n small = omega arith

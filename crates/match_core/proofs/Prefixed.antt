@@ -19,7 +19,6 @@ use Rattle.match_core.specs.Fits.{FitsKeys}
 use Rattle.match_core.specs.Index.{IsPut, IsLpmIndex}
 use Rattle.match_core.specs.Prefixes.{lpm_value, lpm_length, has_prefix, found_in, found_at, AreEmpty, IsPrefixIndex, IsFoundAt, IsLongest}
 use Rattle.match_core.proofs.Leaders.{pass_is}
-use Rattle.match_core.proofs.Matches.{matches-differ}
 use Rattle.match_core.proofs.Indexes.{put_is, both}
 
 pub found-read : (maps : List (BTreeMap ℕ ℕ)) (bits prefix : ℕ) (map : BTreeMap ℕ ℕ) → bits < length maps → map ≡ get_or maps bits map → found_in maps bits prefix ≡ get nat_cmp map prefix
@@ -103,13 +102,6 @@ put_prefix_is spec entries i maps e ones n value low prefix at before new is wit
 pub empty-get : (map : BTreeMap ℕ ℕ) (prefix : ℕ) → map.entries ≡ [] → get nat_cmp map prefix ≡ None
 empty-get map prefix empty = rw empty refl
 
--- empty maps are an index of no entries
-pub empty_index : (spec : KeySpec) (entries : List Entry) (maps : List (BTreeMap ℕ ℕ)) → length maps ≡ spec.width + 1 → AreEmpty maps → IsPrefixIndex spec entries 0 maps
-empty_index spec entries maps lengths empty = record {
-  lengths = lengths;
-  leads = λ bits prefix. subst (λ (f : Option ℕ). IsLeader (λ j. has_prefix spec.width bits prefix (entry_at entries j).keys) (λ _. 0) 0 f) (sym (empty bits prefix)) (λ j lt. absurd (omega arith));
-}
-
 -- what a look-up in the map of so many bits found
 pub found-here : (maps : List (BTreeMap ℕ ℕ)) (width key bits prefix : ℕ) (map : BTreeMap ℕ ℕ) (found : Option ℕ) → bits < length maps → map ≡ get_or maps bits map → prefix ≡ key / 2 ^ (width - bits) → found ≡ get nat_cmp map prefix → found_at maps width key bits ≡ found
 found-here maps width key bits prefix map found within map_is prefix_is found_is =
@@ -191,10 +183,6 @@ longest_best spec entries maps key None lpm narrow fits is none =
     λ i within. false_from_ne_true _ (λ hit. none_hits spec entries maps key i lpm fits is within
     (none (lpm_length (entry_at entries i).keys) (lpm_ones spec (entry_at entries i).keys lpm (fits i _ within)).1) hit)
 longest_best spec entries maps key (Some n) lpm narrow fits is at = found_best spec entries maps key n lpm narrow fits is at
-
--- a key of another number of values finds nothing in a table of one key
-pub other_length_best : (spec : KeySpec) (entries : List Entry) (key : List ℕ) → (length key ≡ 1 → ⊥) → IsBest (record { specs = spec ∷ []; entries = entries }) key None
-other_length_best spec entries key differ = λ i within. matches-differ (spec ∷ []) (entry_at entries i).keys key (inr differ)
 
 -- the same, where the table's keys and the key's values are lists of one
 pub prefix_best : (specs : List KeySpec) (entries : List Entry) (maps : List (BTreeMap ℕ ℕ)) (key : List ℕ) (found : Option ℕ) (d : KeySpec) → length key ≡ 1 → All (FitsKeys specs) entries → IsLpmIndex specs entries maps → IsLongest maps (get_or specs 0 d).width (get_or key 0 0) found → IsBest (record { specs = specs; entries = entries }) key found

@@ -1,6 +1,8 @@
 // Look-ups against worked examples, and the indexes against the scan on random tables.
 ghost use Rattle.std.specs.Prelude.{◌≡◌, ℕ, ◌^◌, ◌<◌, ◌≤◌, [], ◌∷◌, length, All, IfOk};
-ghost use Rattle.match_core.specs.Fits.{FitsKey, FitsKeys};
+ghost use Rattle.match_core.specs.Fits.{AreSpecs, FitsKey, FitsKeys};
+ghost use Rattle.match_core.specs.declared.signatures.KeySpec.{KeySpec};
+ghost use Rattle.std.specs.List.{AllZip};
 ghost use Rattle.match_core.specs.declared.entries.KeyMatch.TheVariants.{Exact, Lpm};
 ghost use Rattle.match_core.specs.declared.signatures.KeyKind.TheVariants as kind;
 
@@ -11,6 +13,7 @@ use crate::signatures::{KeyKind, KeySpec};
 use crate::table::Table;
 use p4x_bits::{Numbers, OutOfMemory, Rows};
 use std::alloc::Global;
+use std::process::Abort;
 use std::test::Fail;
 
 /// An entry with one key.
@@ -48,7 +51,7 @@ fn found(
     Ok((best, same))
 }
 
-/// A linear congruential generator.
+/// A linear congruential generator of 64 bits.
 #[derive(Drop)]
 struct Random {
     state: u64,
@@ -63,27 +66,28 @@ impl Random {
         (self.state / 4294967296) as u32
     }
 
-    /// A number of four bits.
-    fn nibble(&mut self) -> u128
-        ensures { result < 16 }
+    /// A number of so many bits.
+    fn number(&mut self, width: u8) -> u128
+        requires { width ≤ 8 }
+        ensures { result < 2 ^ width }
     {
-        (self.next() % 16) as u128
+        u128::from(self.next() % (1u32 << width))
     }
 }
 
-/// What a random entry asks of a key of four bits.
+/// What a random entry asks of a key.
 fn random_match(random: &mut Random, spec: KeySpec) -> KeyMatch
-    requires { spec.width ≡ 4 }
+    requires { spec.width ≤ 8 }
     ensures { FitsKey spec result }
 {
-    let value = random.nibble();
-    let other = random.nibble();
+    let value = random.number(spec.width);
+    let other = random.number(spec.width);
     match spec.kind {
         KeyKind::Exact => KeyMatch::Exact(value),
         KeyKind::Ternary => KeyMatch::Ternary { value, mask: other },
         KeyKind::Lpm => KeyMatch::Lpm {
             value,
-            length: (other % 5) as u8,
+            length: (random.next() % (u32::from(spec.width) + 1)) as u8,
         },
         KeyKind::Range => KeyMatch::Range {
             low: value.min(other),
@@ -92,53 +96,143 @@ fn random_match(random: &mut Random, spec: KeySpec) -> KeyMatch
     }
 }
 
-/// A few random entries with one key of four bits.
+/// What a random entry asks of each key.
+fn random_keys(
+    alloc: Global,
+    random: &mut Random,
+    specs: &[KeySpec],
+) -> Result<Rows<KeyMatch>, OutOfMemory>
+    requires { All (λ (spec : KeySpec). spec.width ≤ 8) specs.now }
+    ensures { IfOk result (λ keys. AllZip FitsKey specs.now keys) }
+{
+    let mut keys = Rows::new(alloc);
+    for spec in specs {
+        keys.push(random_match(random, *spec))?;
+    }
+    Ok(keys)
+}
+
+/// A few random entries.
 fn random_entries(
     alloc: Global,
     random: &mut Random,
-    spec: KeySpec,
+    specs: &[KeySpec],
 ) -> Result<Vec<Entry>, OutOfMemory>
-    requires { spec.width ≡ 4 }
+    requires { All (λ (spec : KeySpec). spec.width ≤ 8) specs.now }
     ensures few { IfOk result (λ entries. length entries.items ≤ 8) }
-    ensures fits { IfOk result (λ entries. All (FitsKeys (spec ∷ [])) entries.items) }
+    ensures fits { IfOk result (λ entries. All (FitsKeys specs.now) entries.items) }
 {
     let mut entries = Vec::new(alloc);
     let count = random.next() % 9;
     for _ in 0..count {
-        let one = random_match(random, spec);
-        let priority = random.next() % 3;
-        entries.push(entry(alloc, one, priority)?)?;
+        let keys = random_keys(alloc, random, specs)?;
+        entries.push(Entry {
+            keys,
+            priority: random.next() % 3,
+            action: 0,
+            arguments: Numbers::new(alloc),
+        })?;
     }
     Ok(entries)
 }
 
-/// Whether index and scan agree on a random table at a random key.
-fn agrees(alloc: Global, random: &mut Random, kind: KeyKind) -> Result<bool, OutOfMemory> {
-    let spec = KeySpec { kind, width: 4 };
-    let entries = random_entries(alloc, random, spec)?;
-    let (_, same) = found(alloc, spec, entries.as_slice(), random.nibble())?;
-    Ok(same)
+/// A random key of a table.
+fn random_key(alloc: Global, random: &mut Random, specs: &[KeySpec]) -> Result<Key, OutOfMemory>
+    requires { All (λ (spec : KeySpec). spec.width ≤ 8) specs.now }
+{
+    let mut key = Key::new(alloc);
+    for spec in specs {
+        key.push(random.number(spec.width))?;
+    }
+    Ok(key)
 }
 
-#[test]
-fn indexes_agree_with_the_scan(rt: HostRuntime) -> Result<(), Fail> {
+/// On how many of so many random tables index and scan agree, and on how many of these they find an
+/// entry.
+fn agreements(alloc: Global, specs: &[KeySpec], turns: u32) -> Result<(u32, u32), OutOfMemory>
+    requires specs { AreSpecs specs.now }
+    requires widths { All (λ (spec : KeySpec). spec.width ≤ 8) specs.now }
+{
     let mut random = Random { state: 14 };
-    for kind in [
-        KeyKind::Exact,
-        KeyKind::Ternary,
-        KeyKind::Lpm,
-        KeyKind::Range,
-    ] {
-        for turn in 0..2000 {
-            let same = agrees(rt.alloc(), &mut random, kind)?;
-            assert!(rt; same, "{kind:?}, turn {turn}");
+    let mut same = 0u32;
+    let mut hits = 0u32;
+    for _ in 0..turns {
+        let entries = random_entries(alloc, &mut random, specs)?;
+        let key = random_key(alloc, &mut random, specs)?;
+        let best = Table::build(alloc, entries.as_slice(), specs)?.lookup(&key);
+        if best == scan(specs, entries.as_slice(), key.as_slice()) {
+            same = same.saturating_add(1);
+            hits = hits.saturating_add(u32::from(best.is_some()));
         }
     }
+    Ok((same, hits))
+}
+
+/// Compares index and scan on a thousand random tables with these keys. Of these, more than fifty have
+/// to hit, so that the comparison isn't one of misses alone.
+fn compare<R: Abort + AllocGlobal>(rt: &R, specs: &[KeySpec]) -> Result<(), OutOfMemory>
+    requires specs { AreSpecs specs.now }
+    requires widths { All (λ (spec : KeySpec). spec.width ≤ 8) specs.now }
+{
+    let (same, hits) = agreements(rt.alloc(), specs, 1000)?;
+    assert_eq!(rt; same, 1000, "{specs:?}");
+    assert!(rt; hits > 50, "{specs:?}: {hits} hits");
+    Ok(())
+}
+
+const EXACT: KeySpec = KeySpec {
+    kind: KeyKind::Exact,
+    width: 2,
+};
+
+const TERNARY: KeySpec = KeySpec {
+    kind: KeyKind::Ternary,
+    width: 2,
+};
+
+const LPM: KeySpec = KeySpec {
+    kind: KeyKind::Lpm,
+    width: 3,
+};
+
+const RANGE: KeySpec = KeySpec {
+    kind: KeyKind::Range,
+    width: 3,
+};
+
+#[test]
+fn the_index_agrees_with_the_scan_on_random_tables_of_one_key(rt: HostRuntime) -> Result<(), Fail> {
+    compare(&rt, &[EXACT])?;
+    compare(&rt, &[TERNARY])?;
+    compare(&rt, &[LPM])?;
+    compare(&rt, &[RANGE])?;
     Ok(())
 }
 
 #[test]
-fn the_longest_prefix_counts_first(rt: HostRuntime) -> Result<(), Fail> {
+fn the_index_agrees_with_the_scan_on_random_tables_of_two_keys(
+    rt: HostRuntime,
+) -> Result<(), Fail> {
+    compare(&rt, &[EXACT, EXACT])?;
+    compare(&rt, &[EXACT, LPM])?;
+    compare(&rt, &[LPM, TERNARY])?;
+    compare(&rt, &[TERNARY, RANGE])?;
+    Ok(())
+}
+
+#[test]
+fn the_index_agrees_with_the_scan_on_random_tables_of_more_keys(
+    rt: HostRuntime,
+) -> Result<(), Fail> {
+    compare(&rt, &[EXACT, EXACT, EXACT])?;
+    compare(&rt, &[EXACT, LPM, EXACT])?;
+    compare(&rt, &[EXACT, TERNARY, RANGE])?;
+    compare(&rt, &[EXACT, TERNARY, LPM, RANGE])?;
+    Ok(())
+}
+
+#[test]
+fn the_longest_of_three_prefixes_counts_first(rt: HostRuntime) -> Result<(), Fail> {
     let alloc = rt.alloc();
     let spec = KeySpec {
         kind: KeyKind::Lpm,
@@ -178,58 +272,116 @@ fn the_longest_prefix_counts_first(rt: HostRuntime) -> Result<(), Fail> {
     Ok(())
 }
 
+/// 0x1200 on the high octet, and 0x34 on the low one.
+fn octets_of_ternary(alloc: Global, high: u32, low: u32) -> Result<[Entry; 2], OutOfMemory>
+    ensures { IfOk result (λ entries. All (FitsKeys (record { kind = kind.Ternary; width = 16 } ∷ [])) entries) }
+{
+    let first = KeyMatch::Ternary {
+        value: 0x1200,
+        mask: 0xff00,
+    };
+    let second = KeyMatch::Ternary {
+        value: 0x34,
+        mask: 0xff,
+    };
+    Ok([entry(alloc, first, high)?, entry(alloc, second, low)?])
+}
+
 #[test]
-fn the_smaller_priority_and_then_the_earlier_entry_counts_first(
+fn the_smaller_priority_counts_first_and_then_the_earlier_line(
     rt: HostRuntime,
 ) -> Result<(), Fail> {
-    let alloc = rt.alloc();
     let spec = KeySpec {
         kind: KeyKind::Ternary,
         width: 16,
     };
-    let high = KeyMatch::Ternary {
-        value: 0x1200,
-        mask: 0xff00,
-    };
-    let low = KeyMatch::Ternary {
-        value: 0x34,
-        mask: 0xff,
-    };
-    let entries = [
-        entry(alloc, high, 10)?,
-        entry(alloc, low, 10)?,
-        entry(alloc, low, 9)?,
-    ];
-    for (value, want) in [(0x1235, Some(0)), (0x1234, Some(2)), (0x5678, None)] {
-        let (best, _) = found(alloc, spec, entries.as_slice(), value)?;
-        assert_eq!(rt; best, want, "{value:x}");
+    for (high, low, want) in [(10, 10, 0), (10, 9, 1), (9, 10, 0)] {
+        let entries = octets_of_ternary(rt.alloc(), high, low)?;
+        for (value, want) in [
+            (0x1234, Some(want)),
+            (0x1235, Some(0)),
+            (0x5634, Some(1)),
+            (0x5678, None),
+        ] {
+            let (best, _) = found(rt.alloc(), spec, entries.as_slice(), value)?;
+            assert_eq!(rt; best, want, "{value:x} at {high} and {low}");
+        }
     }
-    let (tied, _) = found(alloc, spec, &entries[..2], 0x1234)?;
-    assert_eq!(rt; tied, Some(0));
     Ok(())
 }
 
 #[test]
-fn an_exact_key_is_found_or_missed(rt: HostRuntime) -> Result<(), Fail> {
+fn of_equal_exact_keys_the_earlier_line_counts(rt: HostRuntime) -> Result<(), Fail> {
     let alloc = rt.alloc();
     let spec = KeySpec {
         kind: KeyKind::Exact,
-        width: 128,
+        width: 8,
     };
     let entries = [
         entry(alloc, KeyMatch::Exact(7), 0)?,
-        entry(alloc, KeyMatch::Exact(u128::MAX), 0)?,
+        entry(alloc, KeyMatch::Exact(9), 0)?,
         entry(alloc, KeyMatch::Exact(7), 0)?,
     ];
-    for (value, want) in [(7, Some(0)), (u128::MAX, Some(1)), (8, None)] {
+    for (value, want) in [(7, Some(0)), (9, Some(1)), (8, None)] {
         let (best, _) = found(alloc, spec, entries.as_slice(), value)?;
         assert_eq!(rt; best, want, "{value}");
     }
     Ok(())
 }
 
+/// What a table of one key of 128 bits and one entry finds at a value, at the largest number, and at 0.
+fn at_128_bits(
+    alloc: Global,
+    kind: KeyKind,
+    one: KeyMatch,
+    value: u128,
+) -> Result<[Option<u32>; 3], OutOfMemory>
+    requires { FitsKey (record { kind = kind; width = 128 }) one }
+{
+    let spec = KeySpec { kind, width: 128 };
+    let entries = [entry(alloc, one, 0)?];
+    let (first, _) = found(alloc, spec, entries.as_slice(), value)?;
+    let (second, _) = found(alloc, spec, entries.as_slice(), u128::MAX)?;
+    let (third, _) = found(alloc, spec, entries.as_slice(), 0)?;
+    Ok([first, second, third])
+}
+
 #[test]
-fn a_range_has_both_its_ends(rt: HostRuntime) -> Result<(), Fail> {
+fn keys_of_128_bits_match_on_all_their_bits(rt: HostRuntime) -> Result<(), Fail> {
+    let alloc = rt.alloc();
+    const TOP: u128 = 1 << 127;
+    let exact = KeyMatch::Exact(u128::MAX);
+    let found = at_128_bits(alloc, KeyKind::Exact, exact, u128::MAX - 1)?;
+    assert_eq!(rt; found, [None, Some(0), None]);
+    let ternary = KeyMatch::Ternary {
+        value: TOP,
+        mask: TOP,
+    };
+    let found = at_128_bits(alloc, KeyKind::Ternary, ternary, TOP - 1)?;
+    assert_eq!(rt; found, [None, Some(0), None]);
+    let first_bit = KeyMatch::Lpm {
+        value: TOP,
+        length: 1,
+    };
+    let found = at_128_bits(alloc, KeyKind::Lpm, first_bit, TOP)?;
+    assert_eq!(rt; found, [Some(0), Some(0), None]);
+    let all_bits = KeyMatch::Lpm {
+        value: u128::MAX,
+        length: 128,
+    };
+    let found = at_128_bits(alloc, KeyKind::Lpm, all_bits, u128::MAX - 1)?;
+    assert_eq!(rt; found, [None, Some(0), None]);
+    let range = KeyMatch::Range {
+        low: TOP,
+        high: u128::MAX,
+    };
+    let found = at_128_bits(alloc, KeyKind::Range, range, TOP - 1)?;
+    assert_eq!(rt; found, [None, Some(0), None]);
+    Ok(())
+}
+
+#[test]
+fn a_range_holds_both_its_ends(rt: HostRuntime) -> Result<(), Fail> {
     let alloc = rt.alloc();
     let spec = KeySpec {
         kind: KeyKind::Range,
@@ -341,22 +493,23 @@ fn numbered(alloc: Global, spec: KeySpec, count: u32) -> Result<Vec<Entry>, OutO
 }
 
 #[test]
-fn each_of_65536_exact_keys_is_found(rt: HostRuntime) -> Result<(), Fail> {
+fn an_exact_table_of_65536_entries_finds_its_keys_alone(rt: HostRuntime) -> Result<(), Fail> {
     let alloc = rt.alloc();
     let spec = KeySpec {
         kind: KeyKind::Exact,
         width: 32,
     };
     let entries = numbered(alloc, spec, 65536)?;
+    let table = Table::build(alloc, entries.as_slice(), &[spec])?;
     for (value, want) in [
         (0, Some(0)),
         (40000, Some(40000)),
         (65535, Some(65535)),
         (65536, None),
     ] {
-        let (best, same) = found(alloc, spec, entries.as_slice(), value)?;
-        assert_eq!(rt; best, want, "{value}");
-        assert!(rt; same, "{value}");
+        let mut key = Key::new(alloc);
+        key.push(value)?;
+        assert_eq!(rt; table.lookup(&key), want, "{value}");
     }
     Ok(())
 }

@@ -1,5 +1,5 @@
 -- What each call keeps of a store: its cells fit their shapes.
-use Rattle.std.proofs.Common.{◌≡◌, ◌≢◌, ℕ, zero, suc, ◌+◌, ◌%◌, ◌^◌, ◌<◌, ◌≤◌, List, [], ◌∷◌, length, map, take, replicate, get_or, All, refl, sym, ◌∙◌, ap, subst, arith, ◌⊎◌, inl, inr, get_or-set_other, get_or-set_same}
+use Rattle.std.proofs.Common.{◌≡◌, ℕ, zero, suc, ◌^◌, ◌<◌, List, [], ◌∷◌, length, map, get_or, All, refl, sym, ◌∙◌, ap, subst, arith}
 use Rattle.std.proofs.Math.ListN.{set, length-set}
 use Rattle.std.proofs.Math.Nat.{mod-lt}
 use Rattle.std.proofs.lemmas.Nat.{pow_pos}
@@ -12,8 +12,8 @@ use Rattle.state_store.specs.declared.shapes.Shape.{Shape}
 use Rattle.state_store.specs.declared.shapes.Shape.TheVariants.{Counter, Direct, Register, Meter}
 use Rattle.state_store.specs.declared.cells.Cells.{Cells}
 use Rattle.state_store.specs.declared.cells.Cells.TheVariants.{Counts, Numbers, Colours}
-use Rattle.state_store.specs.Cells.{size_of, kind_of, width_of, IsCounter, IsRegister, blank, counted, count_in, read_in, write_in, joined, sum_of_counts, sum_of_cells, IsCount, FitsShape}
-use Rattle.state_store.specs.State.{Contents, shape_at, cells_at, with_cells, IsRegisterAt, new_store, read, sum_of_stores, IsStore}
+use Rattle.state_store.specs.Cells.{kind_of, width_of, IsCounter, IsRegister, blank, counted, count_in, read_in, write_in, joined, sum_of_counts, sum_of_cells, IsCount, FitsShape}
+use Rattle.state_store.specs.State.{Contents, shape_at, cells_at, with_cells, IsRegisterAt, sum_of_stores, IsStore}
 use Rattle.state_store.proofs.Joined.{length-joined, get_or-joined}
 
 -- what holds of each item and of the default holds at each index

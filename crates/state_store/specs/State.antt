@@ -1,6 +1,5 @@
 -- What a store means: one list of cells for each object, and the colours left for each meter.
-use Rattle.std.specs.Prelude.{◌≡◌, ℕ, ◌<◌, nat_lt, if◌then◌else◌, List, [], length, map, All, slice_index_or, slice_set}
-use Rattle.state_store.specs.declared.shapes.Kind.{Kind}
+use Rattle.std.specs.Prelude.{◌≡◌, ℕ, ◌<◌, nat_lt, if◌then◌else◌, List, [], length, map, slice_index_or, slice_set}
 use Rattle.state_store.specs.declared.shapes.Shape.{Shape}
 use Rattle.state_store.specs.declared.shapes.Shape.TheVariants.{Meter}
 use Rattle.state_store.specs.declared.cells.Cells.{Cells}

@@ -176,37 +176,115 @@ mod tests {
             let mut store = Store::new(rt.alloc(), shapes.as_slice())?;
             store.count(0, 3, 14);
             store.count(0, 3, 60);
-            store.count(0, 4, 9);
             assert_eq!(rt; store.pair(0, 3), want, "of {kind:?}");
             assert_eq!(rt; store.pair(0, 2), (0, 0), "of {kind:?}");
-            assert_eq!(rt; store.pair(0, 4), (0, 0), "of {kind:?}");
         }
         Ok(())
     }
 
     #[test]
-    fn registers_keep_their_width(rt: HostRuntime) -> Result<(), Fail> {
-        for (width, want) in [(1, 1), (9, 0x1ff), (128, u128::MAX)] {
+    fn a_counter_out_of_range_counts_nothing(rt: HostRuntime) -> Result<(), Fail> {
+        let shapes = [
+            Shape::Counter {
+                kind: Kind::Both,
+                cells: 2,
+            },
+            Shape::Direct {
+                kind: Kind::Both,
+                cells: 2,
+            },
+        ];
+        let mut store = Store::new(rt.alloc(), shapes.as_slice())?;
+        store.count(0, 2, 9);
+        store.count(0, u32::MAX, 9);
+        store.count(1, 2, 9);
+        for index in [0, 1, 2, u32::MAX] {
+            assert_eq!(rt; store.pair(0, index), (0, 0), "at {index}");
+            assert_eq!(rt; store.pair(1, index), (0, 0), "at {index}");
+        }
+        Ok(())
+    }
+
+    // A counter of both kinds, whose counts are doubled, and then one packet of one octet is counted: so
+    // many turns make 2^turns - 1 of both counts. Then it counts a packet of two octets.
+    fn counts_after(alloc: Global, turns: u32) -> Result<((u64, u64), (u64, u64)), OutOfMemory> {
+        let shapes = [Shape::Counter {
+            kind: Kind::Both,
+            cells: 1,
+        }];
+        let mut store = Store::new(alloc, shapes.as_slice())?;
+        for _ in 0..turns {
+            let mut same = Store::new(alloc, shapes.as_slice())?;
+            same.add(&store);
+            store.add(&same);
+            store.count(0, 0, 1);
+        }
+        let before = store.pair(0, 0);
+        store.count(0, 0, 2);
+        Ok((before, store.pair(0, 0)))
+    }
+
+    #[test]
+    fn a_counter_goes_from_its_greatest_value_to_0(rt: HostRuntime) -> Result<(), Fail> {
+        let (before, after) = counts_after(rt.alloc(), 64)?;
+        assert_eq!(rt; before, (u64::MAX, u64::MAX));
+        assert_eq!(rt; after, (0, 1));
+        Ok(())
+    }
+
+    #[test]
+    fn a_register_keeps_the_low_bits_of_its_width(rt: HostRuntime) -> Result<(), Fail> {
+        for (width, want) in [(1, 1), (9, 0x1ff), (127, u128::MAX / 2), (128, u128::MAX)] {
             let shapes = [Shape::Register { width, cells: 2 }];
             let mut store = Store::new(rt.alloc(), shapes.as_slice())?;
             store.write(0, 0, u128::MAX);
-            store.write(0, 2, 5);
             assert_eq!(rt; store.read(0, 0), want, "at {width}");
             assert_eq!(rt; store.read(0, 1), 0, "at {width}");
-            assert_eq!(rt; store.read(0, 2), 0, "at {width}");
+            store.write(0, 0, store.read(0, 0).wrapping_add(1));
+            assert_eq!(rt; store.read(0, 0), 0, "one more at {width}");
         }
         Ok(())
     }
 
     #[test]
-    fn meters_give_their_colours_in_order(rt: HostRuntime) -> Result<(), Fail> {
+    fn a_register_out_of_range_reads_0_and_writes_nothing(rt: HostRuntime) -> Result<(), Fail> {
+        let shapes = [Shape::Register {
+            width: 128,
+            cells: 2,
+        }];
+        let mut store = Store::new(rt.alloc(), shapes.as_slice())?;
+        store.write(0, 0, 3);
+        store.write(0, 1, 4);
+        store.write(0, 2, 5);
+        store.write(0, u32::MAX, 5);
+        for (index, want) in [(0, 3), (1, 4), (2, 0), (u32::MAX, 0)] {
+            assert_eq!(rt; store.read(0, index), want, "at {index}");
+        }
+        Ok(())
+    }
+
+    #[test]
+    fn a_meter_gives_its_colours_in_order_and_then_0(rt: HostRuntime) -> Result<(), Fail> {
         let mut store = Store::new(rt.alloc(), [Shape::Meter { cells: 2 }].as_slice())?;
         store.give(0, 2)?;
         store.give(0, 1)?;
+        store.give(0, 0)?;
+        store.give(0, 1)?;
         assert_eq!(rt; store.colour(0, 1), 2);
-        assert_eq!(rt; store.colour(0, 2), 0, "out of range");
         assert_eq!(rt; store.colour(0, 0), 1);
-        assert_eq!(rt; store.colour(0, 0), 0, "none is left");
+        assert_eq!(rt; store.colour(0, 0), 0);
+        assert_eq!(rt; store.colour(0, 1), 1);
+        assert_eq!(rt; store.colour(0, 1), 0, "none is left");
+        Ok(())
+    }
+
+    #[test]
+    fn a_meter_out_of_range_gives_0_and_takes_no_colour(rt: HostRuntime) -> Result<(), Fail> {
+        let mut store = Store::new(rt.alloc(), [Shape::Meter { cells: 2 }].as_slice())?;
+        store.give(0, 2)?;
+        assert_eq!(rt; store.colour(0, 2), 0);
+        assert_eq!(rt; store.colour(0, u32::MAX), 0);
+        assert_eq!(rt; store.colour(0, 1), 2);
         Ok(())
     }
 

@@ -1,6 +1,6 @@
-use Rattle.std.proofs.Common.{arith, ◌≡◌, sym, ◌∙◌}
+use Rattle.std.proofs.Common.{arith, ◌≡◌, ◌∙◌}
 use Rattle.state_store.specs.Cells.{joined, sum_of_cells}
-use Rattle.state_store.proofs.Joined.{joined-nil, joined-turn, joined-all}
+use Rattle.state_store.proofs.Joined.{joined-turn, joined-all}
 use Rattle.state_store.proofs.Stores.{sum_is}
 use Rattle.state_store.proofs.state.Store.add.Goals as goal
 
