@@ -1,0 +1,35 @@
+#!/bin/sh
+# Times look-ups, CRCs and sums, beside the plain scan of match_core and beside BTreeMap of plain Rust, and prints a table of
+# what is done in a second: the best of three runs. It wants rt and rustc. The gate doesn't run it. The program is proved first,
+# in a scratch copy of the crates that it calls.
+set -eu
+top=$(cd "$(dirname "$0")/.." && pwd)
+work=$(mktemp -d)
+trap 'rm -rf "$work"' EXIT
+mkdir -p "$work/crates/bench_tables/src" "$work/crates/bench_tables/proofs/fill"
+for crate in p4x_bits state_store match_core calc_core; do
+    mkdir "$work/crates/$crate"
+    for part in src specs proofs; do cp -r "$top/crates/$crate/$part" "$work/crates/$crate"; done
+    grep "^$crate:" "$top/crates.txt" >>"$work/crates.txt"
+done
+# The scan is no public call of match_core. The copy makes it one.
+sed -i 's/^pub use table::Table;/pub use scan::scan as plain_scan;\n&/' "$work/crates/match_core/src/lib.rt"
+echo 'bench_tables: p4x_bits match_core calc_core anyhow' >>"$work/crates.txt"
+cp "$top/bench/tables.rattle" "$work/crates/bench_tables/src/main.rt"
+cp "$top/bench/fill.rattle" "$work/crates/bench_tables/proofs/fill/Invariants.antt"
+cd "$work/crates/bench_tables"
+rt run >"$work/log" 2>&1 || { cat "$work/log"; exit 1; }
+rustc --edition 2024 -O -C target-cpu=x86-64-v2 -o "$work/baseline" "$top/bench/baseline.rs"
+for _ in 1 2 3; do out/bench_tables; "$work/baseline"; done | awk '
+    { way = $1 " " $2; rate = $3 * 1e9 / $4; if (rate > best[way]) best[way] = rate; sum[way] = $5 }
+    function row(name, title, unit) {
+        scan = best[name " scan"] ? sprintf("%.0f", best[name " scan"]) : "-"
+        printf "%-22s %-11s %12.0f %12s %12.0f\n", title, unit, best[name " p4x"], scan, best[name " rust"]
+        if (sum[name " p4x"] != sum[name " rust"] || sum[name " few"] != sum[name " scan"]) { print name ": the answers differ"; wrong = 1 }
+    }
+    END {
+        printf "%-22s %-11s %12s %12s %12s\n", "", "a second", "p4x", "its scan", "plain Rust"
+        row("exact", "exact, 65,536 entries", "look-ups"); row("lpm", "lpm, 10,000 prefixes", "look-ups")
+        row("crc32", "crc32, 1 MiB lists", "octets"); row("csum16", "csum16, 1 MiB lists", "octets")
+        exit wrong
+    }'
