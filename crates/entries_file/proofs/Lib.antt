@@ -1,0 +1,14 @@
+pub mod Digits
+pub mod Cuts
+pub mod Limbs
+pub mod KeyLaws
+pub mod ArgumentLaws
+pub mod NameLaws
+pub mod Pairs
+pub mod DraftLaws
+pub mod WordLaws
+pub mod LineLaws
+pub mod FitKeys
+pub mod FitCalls
+pub mod FitEntries
+pub mod FitLines

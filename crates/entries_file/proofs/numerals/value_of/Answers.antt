@@ -1,0 +1,11 @@
+use Rattle.std.proofs.Common.{take, sym, subst, arith}
+use Rattle.entries_file.specs.Numbers.{FitsIn128, value_of}
+use Rattle.entries_file.proofs.Digits.{value_more}
+use Rattle.entries_file.proofs.numerals.value_of.Goals as goal
+
+pub loop-digit-preserved : goal.loop-digit-preserved
+loop-digit-preserved c =
+    let i = c.loop-digit.digit-index in
+    let digits = c.args.digits.now in
+    subst (λ number. FitsIn128 number c.with_digit-value.result) (sym (value_more c.args.base digits i (omega arith)))
+    (c.with_digit-value.ensures (value_of c.args.base (take i digits)) c.loop-digit.invariant)

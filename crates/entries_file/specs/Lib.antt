@@ -1,0 +1,10 @@
+pub mod Lines
+pub mod Numbers
+pub mod KeyForms
+pub mod Forms
+pub mod Filling
+pub mod Wide
+pub mod Rules
+pub mod Reading
+pub mod Staged
+pub mod Drafts
