@@ -1,0 +1,7 @@
+pub mod Refusals
+pub mod Chains
+pub mod Meanings
+pub mod Closings
+pub mod Languages
+pub mod Turns
+pub mod ExampleReading

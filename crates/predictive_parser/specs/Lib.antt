@@ -1,0 +1,6 @@
+pub mod Machine
+pub mod Grammar
+pub mod Steps
+pub mod Answers
+pub mod ExampleSyntax
+pub mod ExampleGrammar

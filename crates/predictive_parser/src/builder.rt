@@ -1,0 +1,81 @@
+// What a parser reads from, and builds.
+ghost use Rattle.std.specs.Prelude.{◌≡◌, ◌<◌, List, length, true, Some, None, IfOk, OnOk, slice_get};
+ghost use Rattle.predictive_parser.specs.declared.symbol.Otherwise.{Otherwise};
+ghost use Rattle.predictive_parser.specs.Grammar.{Grammar, first_fit, lines_of};
+ghost use Rattle.predictive_parser.specs.Steps.{Chooses};
+
+use crate::{Otherwise, Stack};
+use p4x_bits::OutOfMemory;
+
+/// Tokens that are read in a grammar, and what is built of them so far. A type says what a token is, what
+/// is built, the grammar, and of each of its values which tokens it has and whether it holds what is built.
+pub trait Lookahead {
+    /// The classes of tokens.
+    type Class: Copy;
+    /// What is done between the tokens.
+    type Action: Copy;
+    /// The words of the grammar.
+    type Word: Copy;
+
+    // What a token is, as the grammar sees it.
+    ghost Token: { Type 0 };
+
+    // What is built, as the grammar sees it.
+    ghost Built: { Type 0 };
+
+    ghost grammar: { Grammar Self.Class Self.Action Self.Word Token Built };
+
+    // The tokens that are held.
+    ghost tokens: { Self → List Token };
+
+    // Whether this is what is built so far.
+    ghost Holds: { Self → Built → Type 0 };
+
+    /// How many tokens there are.
+    fn count(&self) -> usize
+        ensures { result ≡ length (tokens self.now) };
+
+    /// Whether the token at this place is of the class, where so much is built.
+    fn accepts(&self, class: Self::Class, place: usize) -> bool
+        requires { place < length (tokens self.now) }
+        ensures { (built : Built) (token : Token) → Holds self.now built
+            → slice_get (tokens self.now) place ≡ Some token
+            → result ≡ grammar.accepts class token built };
+}
+
+/// What builds the values of the words of a grammar. After an error nothing is said of it.
+pub trait Builder: Lookahead {
+    /// Takes the token at this place, which is of the class.
+    fn shift(&mut self, class: Self::Class, place: usize) -> Result<(), OutOfMemory>
+        requires { place < length (Self.tokens self.old) }
+        ensures builds { OnOk result ((built : Self.Built) (token : Self.Token) → Self.Holds self.old built
+            → slice_get (Self.tokens self.old) place ≡ Some token
+            → Self.grammar.accepts class token built ≡ true
+            → Self.Holds self.new (Self.grammar.shift class token built)) }
+        ensures tokens { OnOk result (Self.tokens self.new ≡ Self.tokens self.old) };
+
+    /// Does the action.
+    fn put(&mut self, action: Self::Action) -> Result<(), OutOfMemory>
+        ensures builds { OnOk result ((built : Self.Built) → Self.Holds self.old built
+            → Self.Holds self.new (Self.grammar.put action built)) }
+        ensures tokens { OnOk result (Self.tokens self.new ≡ Self.tokens self.old) };
+
+    /// The class of the first row of the word that fits the token at this place, if one does; the symbols
+    /// of the row that follow the token are put onto the stack.
+    fn choose(
+        &self,
+        word: Self::Word,
+        place: usize,
+        stack: &mut Stack<Self::Class, Self::Action, Self::Word>,
+    ) -> Result<Option<Self::Class>, OutOfMemory>
+        requires { place < length (Self.tokens self.now) }
+        ensures chooses { IfOk result (λ class. (built : Self.Built) (token : Self.Token) → Self.Holds self.now built
+            → slice_get (Self.tokens self.now) place ≡ Some token
+            → Chooses class (first_fit Self.grammar token built (lines_of Self.grammar (Self.grammar.rows word)))
+            stack.old stack.new) }
+        ensures none { IfOk result (λ class. class ≡ None → stack.new ≡ stack.old) };
+
+    /// What the word does where none of its rows fits.
+    fn otherwise(&self, word: Self::Word) -> Otherwise<Self::Action>
+        ensures { result ≡ Self.grammar.otherwise word };
+}

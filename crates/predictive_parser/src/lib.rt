@@ -1,0 +1,18 @@
+//! A predictive parser, which reads a list of tokens from the left by a stack of symbols that it has
+//! still to find, and never goes back: for each grammar whose rows begin with a token.
+#![tactic(auto)]
+
+mod alternatives;
+mod builder;
+mod example;
+mod parser;
+mod stack;
+mod symbol;
+#[cfg(test)]
+mod tests;
+
+pub use alternatives::{Alternative, choose_first};
+pub use builder::{Builder, Lookahead};
+pub use parser::{ParseError, parse};
+pub use stack::Stack;
+pub use symbol::{Otherwise, Symbol};
