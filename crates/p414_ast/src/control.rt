@@ -1,0 +1,66 @@
+// Controls (P4_14 1.0.5, section 11).
+ghost use Rattle.std.specs.Prelude.{◌≡◌, ◌<◌, length};
+ghost use Rattle.p414_ast.specs.Tree.{stmt_at};
+ghost use Rattle.p414_ast.specs.Views.{control_tree};
+
+use crate::nodes::Nodes;
+use p4x_bits::Text;
+use std::marker::Model;
+
+/// `control NAME { STATEMENT .. }`. Contracts see its name and its body as a tree.
+#[derive(Debug, Drop)]
+pub struct Control {
+    name: Text,
+    nodes: Nodes,
+    body: usize,
+}
+
+impl Model for Control {
+    ghost use Rattle.p414_ast.specs.Views.{ControlTree};
+    ghost use Rattle.p414_ast.specs.Code.{coded_control};
+
+    ghost Value = { ControlTree };
+
+    ghost coded = { coded_control };
+
+    ghost use Rattle.std.specs.Prelude.{◌<◌, length};
+    ghost use Rattle.p414_ast.specs.Views.{control_tree};
+
+    ghost view = { λ c. control_tree c.name c.nodes c.body };
+
+    ghost invariant = { λ c. c.body < length c.nodes.stmts };
+}
+
+/// The parts of a control, borrowed. The body is a place in the nodes.
+#[derive(Clone, Copy, Debug, Drop)]
+pub struct ControlParts<'a> {
+    /// The name.
+    pub name: &'a Text,
+    /// The expressions and statements of the body.
+    pub nodes: &'a Nodes,
+    /// The place of the list of statements of the body.
+    pub body: usize,
+}
+
+impl Control {
+    /// A control of its parts. The body is the place of a list of statements in the nodes. It takes no memory.
+    pub fn new(name: Text, nodes: Nodes, body: usize) -> Self
+        requires { body < length nodes.stmts }
+        ensures { result ≡ control_tree name nodes body }
+    {
+        Control { name, nodes, body }
+    }
+
+    /// The parts, with the body's place among the nodes.
+    pub fn parts(&self) -> ControlParts<'_>
+        ensures name { result.name.now ≡ self.now.name }
+        ensures body { stmt_at result.nodes.now.stmts result.body ≡ self.now.body }
+        ensures within { result.body < length result.nodes.now.stmts }
+    {
+        ControlParts {
+            name: &self.name,
+            nodes: &self.nodes,
+            body: self.body,
+        }
+    }
+}

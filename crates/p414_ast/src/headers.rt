@@ -1,0 +1,145 @@
+// Header types, header instances and metadata (P4_14 1.0.5, section 2).
+ghost use Rattle.std.specs.Prelude.{◌≡◌, map};
+ghost use Rattle.p414_ast.specs.Views.{header_type_tree, tail_tree, TailsWithin};
+
+use crate::lexeme::Literal;
+use crate::nodes::Nodes;
+use crate::parts::Number;
+use p4x_bits::{Rows, Text};
+use std::marker::Model;
+
+/// The width of a field.
+#[derive(Clone, Copy, Debug, PartialEq, Eq, Drop)]
+pub enum FieldWidth {
+    /// A number of bits.
+    Bits(Literal),
+    /// `*`.
+    Rest,
+}
+
+/// A field of a header type: `NAME : WIDTH;`, maybe with attributes in parentheses before the `;`.
+#[derive(Debug, Drop)]
+pub struct Field {
+    /// The name.
+    pub name: Text,
+    /// The width.
+    pub width: FieldWidth,
+    /// The attributes in order. Where there are none, no parentheses stand.
+    pub attributes: Rows<Text>,
+}
+
+/// An attribute of a header type behind its fields. Each stands at most once. The expression is a place in the nodes.
+#[derive(Clone, Copy, Debug, PartialEq, Eq, Drop)]
+pub enum TypeTail {
+    /// `length : EXPRESSION;`.
+    Length(usize),
+    /// `max_length : EXPRESSION;`.
+    MaxLength(usize),
+}
+
+/// `header_type NAME { fields { FIELD .. } ATTRIBUTE .. }`. Contracts see each expression as a tree.
+#[derive(Debug, Drop)]
+pub struct HeaderType {
+    name: Text,
+    fields: Rows<Field>,
+    tails: Rows<TypeTail>,
+    nodes: Nodes,
+}
+
+impl Model for HeaderType {
+    ghost use Rattle.p414_ast.specs.Views.{HeaderTypeTree};
+    ghost use Rattle.p414_ast.specs.Code.{coded_header_type};
+
+    ghost Value = { HeaderTypeTree };
+
+    ghost coded = { coded_header_type };
+
+    ghost use Rattle.p414_ast.specs.Views.{header_type_tree, TailsWithin};
+
+    ghost view = { λ h. header_type_tree h.name h.fields h.tails h.nodes };
+
+    ghost invariant = { λ h. TailsWithin h.nodes h.tails };
+}
+
+/// The parts of a header type, borrowed.
+#[derive(Clone, Copy, Debug, Drop)]
+pub struct HeaderTypeParts<'a> {
+    /// The name.
+    pub name: &'a Text,
+    /// The fields in order.
+    pub fields: &'a Rows<Field>,
+    /// The attributes behind the fields, with the places of their expressions.
+    pub tails: &'a Rows<TypeTail>,
+    /// The expressions.
+    pub nodes: &'a Nodes,
+}
+
+impl HeaderType {
+    /// A header type of its parts. Each attribute's expression is a place in the nodes. It takes no memory.
+    pub fn new(name: Text, fields: Rows<Field>, tails: Rows<TypeTail>, nodes: Nodes) -> Self
+        requires { TailsWithin nodes tails }
+        ensures { result ≡ header_type_tree name fields tails nodes }
+    {
+        HeaderType {
+            name,
+            fields,
+            tails,
+            nodes,
+        }
+    }
+
+    /// The parts, with each place that they name among the nodes.
+    pub fn parts(&self) -> HeaderTypeParts<'_>
+        ensures name { result.name.now ≡ self.now.name }
+        ensures fields { result.fields.now ≡ self.now.fields }
+        ensures tails { map (tail_tree result.nodes.now) result.tails.now ≡ self.now.tails }
+        ensures within { TailsWithin result.nodes.now result.tails.now }
+    {
+        HeaderTypeParts {
+            name: &self.name,
+            fields: &self.fields,
+            tails: &self.tails,
+            nodes: &self.nodes,
+        }
+    }
+}
+
+/// `header TYPE NAME;`, or `header TYPE NAME[SIZE];` for a header stack.
+#[derive(Debug, Drop)]
+pub struct Header {
+    /// The name of the header type.
+    pub header_type: Text,
+    /// The name of the instance.
+    pub name: Text,
+    /// The number of elements of a stack.
+    pub size: Option<Literal>,
+}
+
+/// The initial value of a metadata field: `NAME : NUMBER;`.
+#[derive(Debug, Drop)]
+pub struct Initial {
+    /// The name of the field.
+    pub field: Text,
+    /// The value.
+    pub value: Number,
+}
+
+/// The initial values of a metadata instance.
+#[derive(Debug, Drop)]
+pub struct Initials {
+    /// The values in order.
+    pub values: Rows<Initial>,
+    /// Whether a `;` stands behind the braces.
+    pub semicolon: bool,
+}
+
+/// `metadata TYPE NAME;`, or `metadata TYPE NAME { INITIAL .. }`, maybe with a `;` behind the braces.
+#[derive(Debug, Drop)]
+pub struct Metadata {
+    /// The name of the header type.
+    pub header_type: Text,
+    /// The name of the instance.
+    pub name: Text,
+    /// The initial values, where braces stand.
+    pub initials: Option<Initials>,
+}

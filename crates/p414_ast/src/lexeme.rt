@@ -1,0 +1,79 @@
+// Tokens without their places, as the syntax is written with them.
+use p4x_bits::Text;
+
+/// A number as it is written, with its width in bits where it has one (P4_14 1.0.5, section 1.5.1).
+#[derive(Clone, Copy, Debug, PartialEq, Eq, Drop)]
+pub struct Literal {
+    /// The width, 1 to 128 bits, where one stands in front.
+    pub width: Option<u8>,
+    /// The value. With a width it is below 2^width.
+    pub value: u128,
+}
+
+/// A mark.
+#[derive(Clone, Copy, Debug, PartialEq, Eq, Drop)]
+pub enum Mark {
+    /// `{`.
+    BraceOpen,
+    /// `}`.
+    BraceClose,
+    /// `(`.
+    ParenOpen,
+    /// `)`.
+    ParenClose,
+    /// `[`.
+    BracketOpen,
+    /// `]`.
+    BracketClose,
+    /// `;`.
+    Semicolon,
+    /// `:`.
+    Colon,
+    /// `,`.
+    Comma,
+    /// `.`.
+    Dot,
+    /// `=`.
+    Assign,
+    /// `<`.
+    Less,
+    /// `>`.
+    Greater,
+    /// `<=`.
+    LessEqual,
+    /// `>=`.
+    GreaterEqual,
+    /// `==`.
+    Equal,
+    /// `!=`.
+    NotEqual,
+    /// `<<`.
+    ShiftLeft,
+    /// `>>`.
+    ShiftRight,
+    /// `+`.
+    Plus,
+    /// `-`.
+    Minus,
+    /// `*`.
+    Star,
+    /// `&`.
+    Ampersand,
+    /// `|`.
+    Bar,
+    /// `^`.
+    Caret,
+    /// `~`.
+    Tilde,
+}
+
+/// A token: a name or word, a number or a mark.
+#[derive(Debug, Drop)]
+pub enum Lexeme {
+    /// A name. No word is reserved everywhere.
+    Name(Text),
+    /// A number.
+    Number(Literal),
+    /// A mark.
+    Mark(Mark),
+}
