@@ -1,0 +1,10 @@
+pub mod Expressions
+pub mod Controls
+pub mod Parts
+pub mod Headers
+pub mod Calculations
+pub mod Calls
+pub mod States
+pub mod Tables
+pub mod Objects
+pub mod Declarations

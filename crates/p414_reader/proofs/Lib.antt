@@ -1,0 +1,10 @@
+pub mod Meaning
+pub mod Lists
+pub mod Closing
+pub mod Readings
+pub mod Complete
+pub mod Fixed
+pub mod Needs
+pub mod Blocks
+pub mod Sound
+pub mod Language

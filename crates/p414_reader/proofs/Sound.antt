@@ -1,0 +1,11 @@
+pub mod Parts
+pub mod Headers
+pub mod Calculations
+pub mod States
+pub mod Calls
+pub mod Tables
+pub mod Objects
+pub mod Expressions
+pub mod Controls
+pub mod Declarations
+pub mod Grammar

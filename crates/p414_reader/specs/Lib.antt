@@ -1,0 +1,5 @@
+pub mod Keywords
+pub mod Built
+pub mod Classes
+pub mod Actions
+pub mod Rows
