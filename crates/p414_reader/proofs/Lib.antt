@@ -8,3 +8,10 @@ pub mod Needs
 pub mod Blocks
 pub mod Sound
 pub mod Language
+mod Words
+mod Choosing
+pub mod Kept
+pub mod LabelSets
+mod Answering
+pub mod Refused
+pub mod Clauses

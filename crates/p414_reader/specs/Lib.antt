@@ -3,3 +3,9 @@ pub mod Built
 pub mod Classes
 pub mod Actions
 pub mod Rows
+pub mod Updates
+pub mod Forest
+pub mod Labels
+pub mod Lexemes
+pub mod Choices
+pub mod Reading

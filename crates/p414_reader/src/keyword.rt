@@ -1,6 +1,9 @@
 // The words that the grammar quotes.
-ghost use Rattle.std.specs.Prelude.{◌≡◌};
+ghost use Rattle.std.specs.Prelude.{◌≡◌, IfOk};
 ghost use Rattle.p414_reader.specs.Keywords.{keyword_text};
+
+use p4x_bits::{OutOfMemory, Text};
+use std::alloc::Global;
 
 /// A word that the grammar quotes. None is reserved everywhere.
 #[derive(Clone, Copy, Drop)]
@@ -138,6 +141,13 @@ pub enum Keyword {
 }
 
 impl Keyword {
+    /// A copy of the text of the word.
+    pub fn to_text(self, alloc: Global) -> Result<Text, OutOfMemory>
+        ensures { IfOk result (λ text. text ≡ keyword_text self) }
+    {
+        Text::from_slice(alloc, self.text())
+    }
+
     /// The text of the word.
     pub fn text(self) -> &'static [u8]
         ensures { result.now ≡ keyword_text self }

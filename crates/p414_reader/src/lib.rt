@@ -1,5 +1,33 @@
 //! The reader of P4_14: a text's one syntax, or the rule that it breaks and the place.
 #![tactic(auto)]
 
+mod attributes;
+mod bodies;
+mod built;
+mod calculations;
+mod calls;
+mod choose;
+mod choose_expr;
+mod declarations;
+mod error;
+mod forest;
+mod headers;
 mod keyword;
+mod labels;
+mod objects;
+mod operators;
+mod otherwise;
+mod parts;
+mod read;
+mod reading;
+mod rows;
+mod seen;
+mod stack;
+mod states;
 mod symbols;
+mod tables;
+#[cfg(test)]
+mod tests;
+
+pub use error::Read14;
+pub use read::read14;

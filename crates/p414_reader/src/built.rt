@@ -1,0 +1,187 @@
+// What is built while a text is read.
+ghost use Rattle.std.specs.Prelude.{◌≡◌, None, OnOk, IfOk};
+ghost use Rattle.p414_reader.specs.Built as built;
+ghost use Rattle.p414_reader.specs.Built.{nothing};
+ghost use Rattle.p414_reader.specs.Classes.{accepts, shift, with_name, with_label, with_token};
+ghost use Rattle.p414_reader.specs.Actions.{put};
+ghost use Rattle.p414_reader.specs.Lexemes.{lexeme_of};
+
+use crate::attributes::{has_state_attr, has_table_attr};
+use crate::bodies::Bodies;
+use crate::calculations::Calculations;
+use crate::calls::Calls;
+use crate::headers::Headers;
+use crate::objects::put_object;
+use crate::operators::{is_infix, is_prefix};
+use crate::parts::Parts;
+use crate::seen::Seen;
+use crate::stack::ValueStack;
+use crate::states::States;
+use crate::symbols::{Action, Class};
+use crate::tables::Tables;
+use p4x_bits::{OutOfMemory, Rows};
+use p414_ast::{Decl, Lexeme, Mark, StateAttr};
+use std::alloc::Global;
+use std::marker::Model;
+
+/// Stacks of the parts that aren't part of a declaration yet, and the declarations.
+#[derive(Drop)]
+pub struct Built {
+    pub(crate) parts: Parts,
+    pub(crate) headers: Headers,
+    pub(crate) calculations: Calculations,
+    pub(crate) states: States,
+    pub(crate) calls: Calls,
+    pub(crate) tables: Tables,
+    pub(crate) objects: ValueStack<Rows<StateAttr>>,
+    pub(crate) bodies: Bodies,
+    pub(crate) groups: ValueStack<Option<Rows<Lexeme>>>,
+    pub(crate) decls: Rows<Decl>,
+}
+
+impl Model for Built {
+    ghost use Rattle.p414_reader.specs.Built as built;
+    ghost use Rattle.std.specs.Coded.{codes};
+    ghost use Rattle.p414_ast.specs.Code.{coded_expr, coded_stmt, coded_tail};
+
+    ghost Value = { built.Built };
+
+    ghost coded = { Prim.hlevel (codes, coded_expr, coded_stmt, coded_tail) };
+
+    ghost view = { λ b. record {
+      parts = b.parts;
+      headers = b.headers;
+      calculations = b.calculations;
+      states = b.states;
+      calls = b.calls;
+      tables = b.tables;
+      objects = b.objects;
+      bodies = b.bodies;
+      groups = b.groups;
+      decls = b.decls;
+    } };
+}
+
+impl Built {
+    /// Nothing.
+    pub fn new(alloc: Global) -> Self
+        ensures { result ≡ nothing }
+    {
+        Built {
+            parts: Parts::new(alloc),
+            headers: Headers::new(alloc),
+            calculations: Calculations::new(alloc),
+            states: States::new(alloc),
+            calls: Calls::new(alloc),
+            tables: Tables::new(alloc),
+            objects: ValueStack::new(alloc),
+            bodies: Bodies::new(alloc),
+            groups: ValueStack::new(alloc),
+            decls: Rows::new(alloc),
+        }
+    }
+
+    /// The declarations.
+    pub fn into_decls(self) -> Rows<Decl>
+        ensures { result ≡ self.decls }
+    {
+        self.decls
+    }
+
+    /// Whether the token is of the class.
+    pub fn accepts(&self, class: Class, token: Seen<'_>) -> bool
+        ensures { result ≡ accepts class (lexeme_of token.entry) self.now }
+    {
+        match class {
+            Class::Mark(mark) => token.is_mark(mark),
+            Class::Word(word) => token.is_word(word),
+            Class::Name => token.is_name(),
+            Class::Number => token.is_number(),
+            Class::ExpressionName => token.is_expression_name(),
+            Class::NewTail(word) => token.is_word(word) && !self.bodies.has_tail(word),
+            Class::NewTableAttr(word) => {
+                token.is_word(word) && !has_table_attr(self.tables.attributes(), word.text())
+            }
+            Class::NewStateAttr(word) => {
+                token.is_word(word) && !has_state_attr(self.objects.newest_list(), word.text())
+            }
+            Class::NewLabel => token.is_name() && self.bodies.may_follow(token.text()),
+            Class::Infix(least, most) => is_infix(least, most, token),
+            Class::Prefix(least) => is_prefix(least, token),
+            Class::GroupToken => !token.is_brace(),
+            Class::GroupOpen => token.is_mark(Mark::BraceOpen),
+            Class::GroupClose => token.is_mark(Mark::BraceClose),
+        }
+    }
+
+    /// Takes a token of the class, and keeps what is to be kept of it.
+    pub fn shift(&mut self, alloc: Global, class: Class, token: Seen<'_>) -> Result<(), OutOfMemory>
+        ensures { OnOk result (self.new ≡ shift class (lexeme_of token.entry) self.old) }
+    {
+        match class {
+            Class::Name | Class::ExpressionName => self.parts.push_name(alloc, token.text()),
+            Class::Number => self.parts.push_literal(token.literal()),
+            Class::NewLabel => self.push_label(alloc, token.text()),
+            Class::GroupToken | Class::GroupOpen | Class::GroupClose => {
+                self.push_token(alloc, token)
+            }
+            Class::Mark(_)
+            | Class::Word(_)
+            | Class::NewTail(_)
+            | Class::NewTableAttr(_)
+            | Class::NewStateAttr(_)
+            | Class::Infix(_, _)
+            | Class::Prefix(_) => Ok(()),
+        }
+    }
+
+    /// Keeps a label, as a name and among the labels of the newest list of branches.
+    fn push_label(&mut self, alloc: Global, text: &[u8]) -> Result<(), OutOfMemory>
+        ensures { OnOk result (self.new ≡ with_label text.now self.old) }
+    {
+        self.parts.push_name(alloc, text)?;
+        self.bodies.add_label(alloc, text)
+    }
+
+    /// Keeps a token in the newest group.
+    fn push_token(&mut self, alloc: Global, token: Seen<'_>) -> Result<(), OutOfMemory>
+        ensures { OnOk result (self.new ≡ record self.old { groups = with_token (lexeme_of token.entry) self.old.groups }) }
+    {
+        let mut tokens = match self.groups.pop_or(None) {
+            Some(tokens) => tokens,
+            None => Rows::new(alloc),
+        };
+        tokens.push(token.to_lexeme(alloc)?)?;
+        self.groups.push(Some(tokens))
+    }
+
+    /// Does the action.
+    pub fn put(&mut self, alloc: Global, action: Action) -> Result<(), OutOfMemory>
+        ensures { OnOk result (self.new ≡ put action self.old) }
+    {
+        match action {
+            Action::Part(action) => self.parts.put(alloc, action),
+            Action::Header(action) => self.headers.put(alloc, action, &mut self.parts),
+            Action::Calculation(action) => self.calculations.put(alloc, action, &mut self.parts),
+            Action::State(action) => self.states.put(alloc, action, &mut self.parts),
+            Action::Call(action) => self.calls.put(alloc, action, &mut self.parts),
+            Action::Table(action) => self.tables.put(alloc, action, &mut self.parts),
+            Action::Object(action) => {
+                put_object(&mut self.objects, alloc, action, &mut self.parts)
+            }
+            Action::Body(action) => self.bodies.put(alloc, action, &mut self.parts),
+            Action::NoGroup => self.groups.push(None),
+            Action::EmptyGroup => self.groups.push(Some(Rows::new(alloc))),
+            Action::AddDecl(kind) => self.add_decl(alloc, kind),
+            Action::EndDecls => self.end(alloc),
+        }
+    }
+
+    /// Begins the parts of expressions and controls anew.
+    fn end(&mut self, alloc: Global) -> Result<(), OutOfMemory>
+        ensures { OnOk result (self.new ≡ put Action.EndDecls self.old) }
+    {
+        self.bodies = Bodies::new(alloc);
+        Ok(())
+    }
+}

@@ -1,0 +1,172 @@
+// Which row of an expression's word is taken. What follows an operator depends on how tightly it binds.
+ghost use Rattle.std.specs.Prelude.{◌≡◌, ◌<◌, length, map, Some, None, IfOk, slice_get};
+ghost use Rattle.p414_ast.specs.declared.lexeme.Lexeme.{Lexeme};
+ghost use Rattle.p414_reader.specs.declared.symbols.BodyWord.TheVariants as BodyWord;
+ghost use Rattle.p414_reader.specs.Classes.{prefix_of};
+ghost use Rattle.p414_reader.specs.Rows as specs;
+ghost use Rattle.p414_reader.specs.Lexemes.{lexeme_of};
+ghost use Rattle.p414_reader.specs.Choices.{ChoosesAt, ChoosesLike};
+
+use crate::keyword::Keyword;
+use crate::operators::{binary_power, infix_of, prefix_of, unary_power};
+use crate::reading::Reading;
+use crate::rows::{DOT, PAREN_CLOSE, PAREN_OPEN, Sym, bodies};
+use crate::symbols::{Action, BodyAction, BodyWord, Class, PartAction, PartWord, Word};
+use p4x_bits::OutOfMemory;
+use p414_ast::Mark;
+use predictive_parser::{Alternative, Stack, Symbol, choose_first};
+
+/// An expression whose operators bind at least so tightly, and `more` behind it.
+pub fn choose_expr(
+    reading: &Reading<'_>,
+    least: u8,
+    more: &[Sym],
+    place: usize,
+    stack: &mut Stack<Class, Action, Word>,
+) -> Result<Option<Class>, OutOfMemory>
+    requires { place < length reading.now.tokens.now }
+    ensures chooses { IfOk result (λ class. ChoosesLike (map lexeme_of reading.now.tokens.now) place reading.now.built (specs.body_rows (BodyWord.Expr least)) more.now class stack.old stack.new) }
+    ensures none { IfOk result (λ class. class ≡ None → stack.new ≡ stack.old) }
+{
+    match prefix_of(reading.tokens[place]) {
+        None => choose_operand(reading, least, &[], more, place, stack),
+        Some(operator) => {
+            let power = unary_power(operator);
+            let prefix = [
+                Symbol::Word(Word::Body(BodyWord::Expr(power))),
+                Symbol::Put(Action::Body(BodyAction::Unary(operator))),
+                Symbol::Word(Word::Body(BodyWord::Operators(least, power))),
+            ];
+            choose_operand(reading, least, &prefix, more, place, stack)
+        }
+    }
+}
+
+/// The same, where these symbols follow an operator before an operand.
+fn choose_operand(
+    reading: &Reading<'_>,
+    least: u8,
+    prefix: &[Sym],
+    more: &[Sym],
+    place: usize,
+    stack: &mut Stack<Class, Action, Word>,
+) -> Result<Option<Class>, OutOfMemory>
+    requires { place < length reading.now.tokens.now }
+    ensures chooses { (token : Lexeme) → slice_get (map lexeme_of reading.now.tokens.now) place ≡ Some token → prefix.now ≡ specs.prefix_rest least (prefix_of token)
+        → IfOk result (λ class. ChoosesLike (map lexeme_of reading.now.tokens.now) place reading.now.built (specs.body_rows (BodyWord.Expr least)) more.now class stack.old stack.new) }
+    ensures none { IfOk result (λ class. class ≡ None → stack.new ≡ stack.old) }
+{
+    let operators = Symbol::Word(Word::Body(BodyWord::Operators(least, 12)));
+    let rows = [
+        Alternative {
+            first: Class::Number,
+            rest: &[Symbol::Put(Action::Body(BodyAction::Number)), operators],
+        },
+        Alternative {
+            first: Class::Word(Keyword::True),
+            rest: &[
+                Symbol::Put(Action::Body(BodyAction::Truth(true))),
+                operators,
+            ],
+        },
+        Alternative {
+            first: Class::Word(Keyword::False),
+            rest: &[
+                Symbol::Put(Action::Body(BodyAction::Truth(false))),
+                operators,
+            ],
+        },
+        Alternative {
+            first: Class::Word(Keyword::Valid),
+            rest: &[
+                PAREN_OPEN,
+                Symbol::Word(Word::Body(BodyWord::ExprInst)),
+                PAREN_CLOSE,
+                Symbol::Put(Action::Body(BodyAction::Valid)),
+                operators,
+            ],
+        },
+        Alternative {
+            first: Class::Mark(Mark::ParenOpen),
+            rest: &[
+                Symbol::Word(Word::Body(BodyWord::Expr(0))),
+                PAREN_CLOSE,
+                Symbol::Put(Action::Body(BodyAction::Parenthesized)),
+                operators,
+            ],
+        },
+        Alternative {
+            first: Class::Prefix(least),
+            rest: prefix,
+        },
+        Alternative {
+            first: Class::ExpressionName,
+            rest: &[
+                Symbol::Word(Word::Part(PartWord::IndexOption)),
+                Symbol::Put(Action::Part(PartAction::Inst)),
+                DOT,
+                Symbol::Token(Class::ExpressionName),
+                Symbol::Put(Action::Part(PartAction::Ref)),
+                Symbol::Put(Action::Body(BodyAction::Field)),
+                operators,
+            ],
+        },
+    ];
+    choose_first(reading, &rows, more, place, stack)
+}
+
+/// What stands behind an operand.
+pub fn choose_operator(
+    reading: &Reading<'_>,
+    least: u8,
+    most: u8,
+    place: usize,
+    stack: &mut Stack<Class, Action, Word>,
+) -> Result<Option<Class>, OutOfMemory>
+    requires { place < length reading.now.tokens.now }
+    ensures chooses { IfOk result (λ class. ChoosesAt (map lexeme_of reading.now.tokens.now) place reading.now.built (specs.body_rows (BodyWord.Operators least most)) class stack.old stack.new) }
+    ensures none { IfOk result (λ class. class ≡ None → stack.new ≡ stack.old) }
+{
+    let first = Class::Infix(least, most);
+    match infix_of(reading.tokens[place]) {
+        None => choose_first(
+            reading,
+            &[Alternative { first, rest: &[] }],
+            &[],
+            place,
+            stack,
+        ),
+        Some(operator) => {
+            let power = binary_power(operator);
+            let rest = [
+                Symbol::Word(Word::Body(BodyWord::Expr(power + 1))),
+                Symbol::Put(Action::Body(BodyAction::Binary(operator))),
+                Symbol::Word(Word::Body(BodyWord::Operators(least, power))),
+            ];
+            choose_first(
+                reading,
+                &[Alternative { first, rest: &rest }],
+                &[],
+                place,
+                stack,
+            )
+        }
+    }
+}
+
+/// What stands behind `if (`.
+pub fn choose_after_if(
+    reading: &Reading<'_>,
+    place: usize,
+    stack: &mut Stack<Class, Action, Word>,
+) -> Result<Option<Class>, OutOfMemory>
+    requires { place < length reading.now.tokens.now }
+    ensures chooses { IfOk result (λ class. ChoosesAt (map lexeme_of reading.now.tokens.now) place reading.now.built (specs.body_rows BodyWord.AfterIf) class stack.old stack.new) }
+    ensures none { IfOk result (λ class. class ≡ None → stack.new ≡ stack.old) }
+{
+    let first = choose_first(reading, bodies::AFTER_IF, &[], place, stack)?;
+    if first.is_some() {
+        return Ok(first);
+    }
+    choose_expr(reading, 0, bodies::BEHIND_AFTER_IF, place, stack)
+}

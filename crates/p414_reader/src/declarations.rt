@@ -1,0 +1,174 @@
+// Declarations, as they are put together.
+ghost use Rattle.std.specs.Prelude.{◌≡◌, OnOk, IfOk};
+ghost use Rattle.p414_reader.specs.declared.symbols.DeclKind.TheVariants as DeclKind;
+ghost use Rattle.p414_reader.specs.Actions.{put_decl, with_decl, stateful_of, without_object};
+
+use crate::bodies::Bodies;
+use crate::built::Built;
+use crate::symbols::DeclKind;
+use p4x_bits::OutOfMemory;
+use p414_ast::{
+    Action, CalculatedField, Decl, FieldList, FieldListCalculation, Header, LeftOut, LeftOutKind,
+    Metadata, Parser, Stateful, Table,
+};
+use std::alloc::Global;
+use std::mem;
+
+impl Built {
+    /// A declaration ends, and is put behind the others.
+    pub fn add_decl(&mut self, alloc: Global, kind: DeclKind) -> Result<(), OutOfMemory>
+        ensures { OnOk result (self.new ≡ put_decl kind self.old) }
+    {
+        let decl = self.declaration(alloc, kind)?;
+        self.bodies = Bodies::new(alloc);
+        self.decls.push(decl)
+    }
+
+    /// The declaration of the newest parts.
+    fn declaration(&mut self, alloc: Global, kind: DeclKind) -> Result<Decl, OutOfMemory>
+        ensures { IfOk result (λ decl. put_decl kind self.old ≡ with_decl decl self.new) }
+    {
+        match kind {
+            DeclKind::HeaderType => Ok(self.header_type(alloc)),
+            DeclKind::Header => Ok(self.header(alloc)),
+            DeclKind::Metadata => Ok(self.metadata(alloc)),
+            DeclKind::FieldList => Ok(self.field_list(alloc)),
+            DeclKind::FieldListCalculation => Ok(self.field_list_calculation(alloc)),
+            DeclKind::CalculatedField => Ok(self.calculated_field(alloc)),
+            DeclKind::Parser => Ok(self.parser(alloc)),
+            DeclKind::Action => Ok(self.action(alloc)),
+            DeclKind::Table => Ok(self.table(alloc)),
+            DeclKind::Counter => Ok(Decl::Counter(self.stateful(alloc))),
+            DeclKind::Meter => Ok(Decl::Meter(self.stateful(alloc))),
+            DeclKind::Register => Ok(Decl::Register(self.stateful(alloc))),
+            DeclKind::Control => self.control(alloc),
+            DeclKind::LeftOut(kind) => Ok(self.left_out(alloc, kind)),
+        }
+    }
+
+    fn header_type(&mut self, alloc: Global) -> Decl
+        ensures { put_decl DeclKind.HeaderType self.old ≡ with_decl result self.new }
+    {
+        let name = self.parts.take_name(alloc);
+        let fields = self.headers.take_fields(alloc);
+        let bodies = mem::replace(&mut self.bodies, Bodies::new(alloc));
+        Decl::HeaderType(bodies.into_header_type(alloc, name, fields))
+    }
+
+    fn header(&mut self, alloc: Global) -> Decl
+        ensures { put_decl DeclKind.Header self.old ≡ with_decl result self.new }
+    {
+        let name = self.parts.take_name(alloc);
+        let header_type = self.parts.take_name(alloc);
+        let size = self.parts.take_literal_option();
+        Decl::Header(Header {
+            header_type,
+            name,
+            size,
+        })
+    }
+
+    fn metadata(&mut self, alloc: Global) -> Decl
+        ensures { put_decl DeclKind.Metadata self.old ≡ with_decl result self.new }
+    {
+        let name = self.parts.take_name(alloc);
+        let header_type = self.parts.take_name(alloc);
+        let initials = self.headers.take_initials();
+        Decl::Metadata(Metadata {
+            header_type,
+            name,
+            initials,
+        })
+    }
+
+    fn field_list(&mut self, alloc: Global) -> Decl
+        ensures { put_decl DeclKind.FieldList self.old ≡ with_decl result self.new }
+    {
+        let name = self.parts.take_name(alloc);
+        let items = self.calculations.take_items(alloc);
+        Decl::FieldList(FieldList { name, items })
+    }
+
+    fn field_list_calculation(&mut self, alloc: Global) -> Decl
+        ensures { put_decl DeclKind.FieldListCalculation self.old ≡ with_decl result self.new }
+    {
+        let algorithm = self.parts.take_name(alloc);
+        let name = self.parts.take_name(alloc);
+        let input = self.parts.take_names(alloc);
+        let output_width = self.parts.take_literal();
+        Decl::FieldListCalculation(FieldListCalculation {
+            name,
+            input,
+            algorithm,
+            output_width,
+        })
+    }
+
+    fn calculated_field(&mut self, alloc: Global) -> Decl
+        ensures { put_decl DeclKind.CalculatedField self.old ≡ with_decl result self.new }
+    {
+        let field = self.parts.take_field(alloc);
+        let entries = self.calculations.take_entries(alloc);
+        Decl::CalculatedField(CalculatedField { field, entries })
+    }
+
+    fn parser(&mut self, alloc: Global) -> Decl
+        ensures { put_decl DeclKind.Parser self.old ≡ with_decl result self.new }
+    {
+        let name = self.parts.take_name(alloc);
+        let statements = self.states.take_statements(alloc);
+        let end = self.states.take_end(alloc);
+        Decl::Parser(Parser {
+            name,
+            statements,
+            end,
+        })
+    }
+
+    fn action(&mut self, alloc: Global) -> Decl
+        ensures { put_decl DeclKind.Action self.old ≡ with_decl result self.new }
+    {
+        let name = self.parts.take_name(alloc);
+        let parameters = self.parts.take_names(alloc);
+        let calls = self.calls.take_calls(alloc);
+        Decl::Action(Action {
+            name,
+            parameters,
+            calls,
+        })
+    }
+
+    fn table(&mut self, alloc: Global) -> Decl
+        ensures { put_decl DeclKind.Table self.old ≡ with_decl result self.new }
+    {
+        let name = self.parts.take_name(alloc);
+        let attributes = self.tables.take_attributes(alloc);
+        Decl::Table(Table { name, attributes })
+    }
+
+    /// A counter, a meter or a register.
+    fn stateful(&mut self, alloc: Global) -> Stateful
+        ensures is { result ≡ stateful_of self.old }
+        ensures rest { self.new ≡ without_object self.old }
+    {
+        let name = self.parts.take_name(alloc);
+        let attributes = self.objects.pop_list(alloc);
+        Stateful { name, attributes }
+    }
+
+    fn control(&mut self, alloc: Global) -> Result<Decl, OutOfMemory>
+        ensures { IfOk result (λ decl. put_decl DeclKind.Control self.old ≡ with_decl decl self.new) }
+    {
+        let name = self.parts.take_name(alloc);
+        let bodies = mem::replace(&mut self.bodies, Bodies::new(alloc));
+        Ok(Decl::Control(bodies.into_control(name)?))
+    }
+
+    fn left_out(&mut self, alloc: Global, kind: LeftOutKind) -> Decl
+        ensures { put_decl (DeclKind.LeftOut kind) self.old ≡ with_decl result self.new }
+    {
+        let name = self.parts.take_name(alloc);
+        let group = self.groups.pop_or(None);
+        Decl::LeftOut(LeftOut { kind, name, group })
+    }
+}

@@ -1,0 +1,48 @@
+// Counters, meters and registers, as they are put together.
+ghost use Rattle.std.specs.Prelude.{◌≡◌, OnOk};
+ghost use Rattle.p414_reader.specs.Built as built;
+ghost use Rattle.p414_reader.specs.Actions.{put_object};
+ghost use Rattle.p414_reader.specs.Updates.{with_objects};
+
+use crate::parts::Parts;
+use crate::stack::ValueStack;
+use crate::symbols::ObjectAction;
+use p4x_bits::{OutOfMemory, Rows};
+use p414_ast::StateAttr;
+use std::alloc::Global;
+
+/// Does the action on the lists of attributes.
+pub fn put_object(
+    objects: &mut ValueStack<Rows<StateAttr>>,
+    alloc: Global,
+    action: ObjectAction,
+    parts: &mut Parts,
+) -> Result<(), OutOfMemory>
+    ensures { OnOk result ((b : built.Built) → put_object action (with_objects parts.old objects.old b) ≡ with_objects parts.new objects.new b) }
+{
+    match action {
+        ObjectAction::NoAttrs => objects.push(Rows::new(alloc)),
+        ObjectAction::AddCounts(what) => objects.extend(alloc, StateAttr::Counts(what)),
+        ObjectAction::AddDirect => {
+            objects.extend(alloc, StateAttr::Direct(parts.take_name(alloc)))
+        }
+        ObjectAction::AddStatic => {
+            objects.extend(alloc, StateAttr::Static(parts.take_name(alloc)))
+        }
+        ObjectAction::AddLayout => {
+            objects.extend(alloc, StateAttr::Layout(parts.take_name(alloc)))
+        }
+        ObjectAction::AddResult => {
+            objects.extend(alloc, StateAttr::Result(parts.take_field(alloc)))
+        }
+        ObjectAction::AddInstanceCount => {
+            objects.extend(alloc, StateAttr::InstanceCount(parts.take_literal()))
+        }
+        ObjectAction::AddWidth => objects.extend(alloc, StateAttr::Width(parts.take_literal())),
+        ObjectAction::AddMinWidth => {
+            objects.extend(alloc, StateAttr::MinWidth(parts.take_literal()))
+        }
+        ObjectAction::AddSaturating => objects.extend(alloc, StateAttr::Saturating),
+        ObjectAction::AddSigned => objects.extend(alloc, StateAttr::Signed),
+    }
+}

@@ -1,0 +1,72 @@
+// Tokens that are read in the grammar of P4_14, and what is built of them.
+ghost use Rattle.std.specs.Prelude.{◌≡◌, ◌<◌, length, map, None, IfOk};
+ghost use Rattle.p414_ast.specs.declared.lexeme.Lexeme.{Lexeme};
+ghost use Rattle.p414_reader.specs.Built as built;
+ghost use Rattle.p414_reader.specs.Rows.{grammar14};
+ghost use Rattle.p414_reader.specs.Lexemes.{lexeme_of};
+
+use crate::built::Built;
+use crate::seen::Seen;
+use crate::symbols::{Action, Class, Word};
+use crate::{choose, otherwise};
+use p4x_bits::OutOfMemory;
+use predictive_parser::{Builder, Lookahead, Otherwise, Stack};
+use std::alloc::Global;
+
+/// Tokens, and what is built of them so far.
+#[derive(Drop)]
+pub struct Reading<'t> {
+    pub alloc: Global,
+    pub tokens: &'t [Seen<'t>],
+    pub built: Built,
+}
+
+impl Lookahead for Reading<'_> {
+    type Class = Class;
+
+    type Action = Action;
+
+    type Word = Word;
+
+    ghost Token = { Lexeme };
+
+    ghost Built = { built.Built };
+
+    ghost grammar = { grammar14 };
+
+    ghost tokens = { λ reading. map lexeme_of reading.tokens.now };
+
+    ghost Holds = { λ reading built. reading.built ≡ built };
+
+    fn count(&self) -> usize {
+        self.tokens.len()
+    }
+
+    fn accepts(&self, class: Class, place: usize) -> bool {
+        self.built.accepts(class, self.tokens[place])
+    }
+}
+
+impl Builder for Reading<'_> {
+    fn shift(&mut self, class: Class, place: usize) -> Result<(), OutOfMemory> {
+        let token = self.tokens[place];
+        self.built.shift(self.alloc, class, token)
+    }
+
+    fn put(&mut self, action: Action) -> Result<(), OutOfMemory> {
+        self.built.put(self.alloc, action)
+    }
+
+    fn choose(
+        &self,
+        word: Word,
+        place: usize,
+        stack: &mut Stack<Class, Action, Word>,
+    ) -> Result<Option<Class>, OutOfMemory> {
+        choose::choose(self, word, place, stack)
+    }
+
+    fn otherwise(&self, word: Word) -> Otherwise<Action> {
+        otherwise::otherwise(word)
+    }
+}

@@ -1,0 +1,92 @@
+// Stacks of the parts of a syntax.
+ghost use Rattle.std.specs.Prelude.{◌≡◌, List, [], ◌∷◌, reverse, OnOk, MatchOption};
+ghost use Rattle.p414_reader.specs.Built.{newest, older, extended};
+
+use p4x_bits::{OutOfMemory, Rows};
+use std::alloc::Global;
+use std::marker::Model;
+
+/// Parts of one sort. Contracts see the list of them, the newest first.
+#[derive(Drop)]
+pub struct ValueStack<T: Drop> {
+    items: Vec<T>,
+}
+
+impl<T: Drop> Model for ValueStack<T> {
+    ghost Value = { List T };
+
+    ghost view = { λ stack. reverse stack.items.items };
+}
+
+impl<T: Drop> ValueStack<T> {
+    /// No parts. It takes no memory until the first push.
+    pub fn new(alloc: Global) -> Self
+        ensures { result ≡ [] }
+    {
+        ValueStack {
+            items: Vec::new(alloc),
+        }
+    }
+
+    /// Puts a part in front of the others.
+    pub fn push(&mut self, item: T) -> Result<(), OutOfMemory>
+        ensures { OnOk result (self.new ≡ item ∷ self.old) }
+    {
+        self.items.push(item)?;
+        Ok(())
+    }
+
+    /// Takes the newest part off, if there is one.
+    pub fn pop(&mut self) -> Option<T>
+        ensures { MatchOption result ((self.old ≡ []) × (self.new ≡ [])) (λ item. self.old ≡ item ∷ self.new) }
+    {
+        self.items.pop()
+    }
+
+    /// The newest part, if there is one.
+    pub fn newest(&self) -> Option<&T>
+        ensures { MatchOption result (self.now ≡ []) (λ item. (other : T) → newest other self.now ≡ item.now) }
+    {
+        self.items.last()
+    }
+
+    /// Takes the newest part off; where there is none, gives the other one.
+    pub fn pop_or(&mut self, other: T) -> T
+        ensures newest { result ≡ newest other self.old }
+        ensures older { self.new ≡ older self.old }
+    {
+        match self.items.pop() {
+            Some(item) => item,
+            None => other,
+        }
+    }
+}
+
+impl<T: Drop> ValueStack<Rows<T>> {
+    /// Takes the newest list off; where there is none, gives an empty one.
+    pub fn pop_list(&mut self, alloc: Global) -> Rows<T>
+        ensures newest { result ≡ newest [] self.old }
+        ensures older { self.new ≡ older self.old }
+    {
+        self.pop_or(Rows::new(alloc))
+    }
+
+    /// Puts one more item behind the newest list; where there is none, begins one with it.
+    pub fn extend(&mut self, alloc: Global, item: T) -> Result<(), OutOfMemory>
+        ensures { OnOk result (self.new ≡ extended (item ∷ []) self.old) }
+    {
+        let mut list = self.pop_list(alloc);
+        list.push(item)?;
+        self.push(list)
+    }
+
+    /// The items of the newest list, and none where there is no list.
+    pub fn newest_list(&self) -> &[T]
+        ensures { result.now ≡ newest [] self.now }
+    {
+        match self.items.last() {
+            Some(list) => list.as_slice(),
+            None => &[],
+        }
+    }
+}
