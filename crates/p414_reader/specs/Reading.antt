@@ -1,4 +1,5 @@
--- What the reading of a text answers.
+-- What the reading of a text answers. The tokens are those of P4_14 1.0.5, section 1.5, and the grammar is that of its
+-- sections 1.6 and 2 to 11; the rules L1 to L4 and S1, and their places, are this project's own.
 use Rattle.std.specs.Prelude.{◌≡◌, ◌⊎◌, ℕ, List, Option, Some, None, Result, Ok, Err, slice_get}
 use Rattle.predictive_parser.specs.Grammar.{parse}
 use Rattle.predictive_parser.specs.Answers.{IsRefusedAt}

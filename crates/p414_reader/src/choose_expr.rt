@@ -16,6 +16,30 @@ use p4x_bits::OutOfMemory;
 use p414_ast::Mark;
 use predictive_parser::{Alternative, Stack, Symbol, choose_first};
 
+const EXPR: Sym = Symbol::Word(Word::Body(BodyWord::Expr(0)));
+
+const EXPR_INST: Sym = Symbol::Word(Word::Body(BodyWord::ExprInst));
+
+const INDEX_OPTION: Sym = Symbol::Word(Word::Part(PartWord::IndexOption));
+
+const FIELD_NAME: Sym = Symbol::Token(Class::ExpressionName);
+
+const PUT_NUMBER: Sym = Symbol::Put(Action::Body(BodyAction::Number));
+
+const PUT_TRUE: Sym = Symbol::Put(Action::Body(BodyAction::Truth(true)));
+
+const PUT_FALSE: Sym = Symbol::Put(Action::Body(BodyAction::Truth(false)));
+
+const PUT_VALID: Sym = Symbol::Put(Action::Body(BodyAction::Valid));
+
+const PUT_PARENTHESIZED: Sym = Symbol::Put(Action::Body(BodyAction::Parenthesized));
+
+const PUT_INST: Sym = Symbol::Put(Action::Part(PartAction::Inst));
+
+const PUT_REF: Sym = Symbol::Put(Action::Part(PartAction::Ref));
+
+const PUT_FIELD: Sym = Symbol::Put(Action::Body(BodyAction::Field));
+
 /// An expression whose operators bind at least so tightly, and `more` behind it.
 pub fn choose_expr(
     reading: &Reading<'_>,
@@ -60,40 +84,23 @@ fn choose_operand(
     let rows = [
         Alternative {
             first: Class::Number,
-            rest: &[Symbol::Put(Action::Body(BodyAction::Number)), operators],
+            rest: &[PUT_NUMBER, operators],
         },
         Alternative {
             first: Class::Word(Keyword::True),
-            rest: &[
-                Symbol::Put(Action::Body(BodyAction::Truth(true))),
-                operators,
-            ],
+            rest: &[PUT_TRUE, operators],
         },
         Alternative {
             first: Class::Word(Keyword::False),
-            rest: &[
-                Symbol::Put(Action::Body(BodyAction::Truth(false))),
-                operators,
-            ],
+            rest: &[PUT_FALSE, operators],
         },
         Alternative {
             first: Class::Word(Keyword::Valid),
-            rest: &[
-                PAREN_OPEN,
-                Symbol::Word(Word::Body(BodyWord::ExprInst)),
-                PAREN_CLOSE,
-                Symbol::Put(Action::Body(BodyAction::Valid)),
-                operators,
-            ],
+            rest: &[PAREN_OPEN, EXPR_INST, PAREN_CLOSE, PUT_VALID, operators],
         },
         Alternative {
             first: Class::Mark(Mark::ParenOpen),
-            rest: &[
-                Symbol::Word(Word::Body(BodyWord::Expr(0))),
-                PAREN_CLOSE,
-                Symbol::Put(Action::Body(BodyAction::Parenthesized)),
-                operators,
-            ],
+            rest: &[EXPR, PAREN_CLOSE, PUT_PARENTHESIZED, operators],
         },
         Alternative {
             first: Class::Prefix(least),
@@ -102,12 +109,12 @@ fn choose_operand(
         Alternative {
             first: Class::ExpressionName,
             rest: &[
-                Symbol::Word(Word::Part(PartWord::IndexOption)),
-                Symbol::Put(Action::Part(PartAction::Inst)),
+                INDEX_OPTION,
+                PUT_INST,
                 DOT,
-                Symbol::Token(Class::ExpressionName),
-                Symbol::Put(Action::Part(PartAction::Ref)),
-                Symbol::Put(Action::Body(BodyAction::Field)),
+                FIELD_NAME,
+                PUT_REF,
+                PUT_FIELD,
                 operators,
             ],
         },

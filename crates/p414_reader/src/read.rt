@@ -22,7 +22,8 @@ use p414_tok::{Token14, tokens};
 use predictive_parser::{ParseError, parse};
 use std::alloc::Global;
 
-/// The syntax of a P4_14 text.
+/// The syntax of a P4_14 text (P4_14 1.0.5, section 1.5 for the tokens, and sections 1.6 and 2 to 11 for the grammar; the
+/// rules and their places are this project's own).
 ///
 /// A text that can't be divided into tokens is refused with the L rule that it breaks and the place of what breaks it.
 /// A text whose tokens aren't those of a program is refused with S1, and the place of the first token that can't stand
