@@ -1,5 +1,5 @@
 -- From what the machine answers to the clauses of the reader.
-use Rattle.std.proofs.Common.{◌≡◌, ◌⊎◌, ℕ, suc, ◌≤◌, ◌<◌, List, ◌++◌, length, take, drop, Option, Some, None, Result, Ok, Err, refl, sym, ap, ◌∙◌, subst, inl, inr, arith}
+use Rattle.std.proofs.Common.{◌≡◌, ℕ, List, Result, Ok, Err, refl, sym, ap, ◌∙◌, subst, inl, inr}
 use Rattle.std.specs.Prelude.{IfOk}
 use Rattle.predictive_parser.specs.Grammar.{parse}
 use Rattle.predictive_parser.specs.Answers.{IsRefusedAt}
@@ -18,7 +18,7 @@ use Rattle.p414_reader.specs.Built.{Built, nothing}
 use Rattle.p414_reader.specs.Rows.{grammar14}
 use Rattle.p414_reader.specs.Lexemes.{lexemes}
 use Rattle.p414_reader.specs.Reading.{fault_at, IsReadOf, IsReadBy, IsRead, Reads14, IsSyntaxFault, IsRefused14, IfRefused, Answers14}
-use Rattle.p414_reader.proofs.Language.{whole, language14, one_syntax, refused14}
+use Rattle.p414_reader.proofs.Language.{language14, one_syntax, refused14}
 
 -- the machine's answer for tokens
 abbrev read_by : List ℕ → List (Token TokenKind14) → Result Built ℕ

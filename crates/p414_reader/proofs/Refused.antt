@@ -1,5 +1,5 @@
 -- Where tokens are refused: at one place, and they spell nothing then.
-use Rattle.std.proofs.Common.{◌≡◌, ◌⊎◌, ℕ, zero, suc, ◌≤◌, ◌<◌, List, [], ◌∷◌, ◌++◌, length, take, refl, ap, sym, ◌∙◌, subst, inl, inr, arith, append_assoc}
+use Rattle.std.proofs.Common.{◌≡◌, ◌⊎◌, ℕ, zero, suc, ◌≤◌, ◌<◌, List, [], ◌∷◌, ◌++◌, length, take, refl, ap, ◌∙◌, subst, inl, inr, arith, append_assoc}
 use Rattle.predictive_parser.specs.Answers.{Begins, IsRefusedAt}
 
 -- tokens begin with their first ones

@@ -1,5 +1,4 @@
 use Rattle.std.proofs.Common.{arith}
-use Rattle.token_division.proofs.Places.{place_more_line, place_more_column}
 use Rattle.p414_reader.proofs.read.end_of.Goals as goal
 
 pub overflow_add-line : goal.overflow_add-line

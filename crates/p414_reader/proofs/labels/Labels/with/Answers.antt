@@ -1,4 +1,4 @@
-use Rattle.std.proofs.Common.{rules, [], ◌∷◌, ◌++◌, sym, ap, ◌∙◌}
+use Rattle.std.proofs.Common.{rules, [], ◌∷◌, ◌++◌, ap, ◌∙◌}
 use Rattle.p414_reader.proofs.LabelSets.{one_more}
 use Rattle.p414_reader.proofs.labels.Labels.with.Goals as goal
 
