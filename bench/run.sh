@@ -1,7 +1,7 @@
 #!/bin/sh
 # Times look-ups, CRCs and sums, beside the plain scan of match_core and beside BTreeMap of plain Rust, and prints a table of
 # what is done in a second: the best of three runs. It wants rt and rustc. The gate doesn't run it. The program is proved first,
-# in a scratch copy of the crates that it calls.
+# in a scratch copy of the crates that it calls. Then reading.sh times the reading of P4_14.
 set -eu
 top=$(cd "$(dirname "$0")/.." && pwd)
 work=$(mktemp -d)
@@ -33,3 +33,4 @@ for _ in 1 2 3; do out/bench_tables; "$work/baseline"; done | awk '
         row("crc32", "crc32, 1 MiB lists", "octets"); row("csum16", "csum16, 1 MiB lists", "octets")
         exit wrong
     }'
+"$top/bench/reading.sh"
