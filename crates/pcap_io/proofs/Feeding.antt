@@ -25,7 +25,7 @@ fed_opened xs ys (Err fault) = refl
 fed_opened xs ys (Ok head) = records_append head xs ys 0 (omega arith) ∙ by_fault (records_in head xs 0).fault head (records_in head xs 0) ys (records_head head xs 0)
 
 -- what is read of octets and of more behind them is what a reader holds that was fed first the ones and then the others
-fed_more : (xs ys : List ℕ) → reading_of (xs ++ ys) ≡ fed (reading_of xs) ys
+pub fed_more : (xs ys : List ℕ) → reading_of (xs ++ ys) ≡ fed (reading_of xs) ys
 fed_more xs ys = by_size (nat_lt (length xs) 24) refl
   where
     few : length xs < 24 → reading_of (xs ++ ys) ≡ fed (reading_of xs) ys

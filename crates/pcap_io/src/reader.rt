@@ -68,6 +68,7 @@ impl CaptureReader {
         ensures refuses { (octets : List ℕ) (taken : ℕ) → HasRead octets taken self.old → Answers (reading_of (octets ++ piece.now)).fault result }
         ensures again { (fault : Fault) → self.old.fault ≡ Some fault → result ≡ Err (Refused fault) }
         ensures same { ByMemory result (self.new ≡ self.old) (self.new ≡ fed self.old piece.now) }
+        ensures held { Answers (fed self.old piece.now).fault result }
         ensures little { (octets : List ℕ) (taken : ℕ) → HasRead octets taken self.new → length self.new.left ≤ 65550 }
     {
         self.read_piece(piece)
