@@ -9,7 +9,7 @@ use Rattle.std.proofs.Math.Nat.{mod-eq_of_lt}
 use Rattle.p4x_bits.specs.BitLists.{num, bits, octet_bits, IsOctets}
 use Rattle.p4x_bits.proofs.BitLists.{length-octet_bits}
 use Rattle.p4x_cmd.specs.declared.one_table.OneTable14.{OneTable14}
-use Rattle.p4x_cmd.specs.declared.packets.Arrival.{Arrival}
+use Rattle.fabric.specs.declared.packets.Arrival.{Arrival}
 use Rattle.p4x_cmd.specs.Entries.{Entries, no_entries}
 use Rattle.p4x_cmd.specs.Headers.{numbers_in, bits_in, octets_in}
 use Rattle.p4x_cmd.specs.Meaning14.{State14, pass14, signature14, widths14, start14, extract14, after_parser14}

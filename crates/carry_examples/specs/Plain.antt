@@ -1,8 +1,8 @@
 -- What a plain program that follows the meaning of P4_14 step by step answers (this project's own).
 use Rattle.std.specs.Prelude.{◌≡◌, ◌≤◌, ◌%◌, ℕ, List, map, sum, All, Option, Some, None}
 use Rattle.p4x_cmd.specs.declared.one_table.OneTable14.{OneTable14}
-use Rattle.p4x_cmd.specs.declared.packets.Arrival.{Arrival}
-use Rattle.p4x_cmd.specs.declared.packets.Sent.{Sent}
+use Rattle.fabric.specs.declared.packets.Arrival.{Arrival}
+use Rattle.fabric.specs.declared.packets.Sent.{Sent}
 use Rattle.p4x_cmd.specs.Entries.{no_entries}
 use Rattle.p4x_cmd.specs.Meaning14.{Run14, pass14, signature14, widths14}
 use Rattle.p4x_cmd.specs.Passes.{PassEnd, dropped, leaves}

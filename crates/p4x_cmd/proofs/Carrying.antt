@@ -4,8 +4,8 @@ use Rattle.std.specs.List.{sum_by, All}
 use Rattle.std.proofs.lemmas.Bool.Decides.{nat_tests}
 use Rattle.std.proofs.Math.Nat.{mod-eq_of_lt}
 use Rattle.p4x_bits.specs.BitLists.{octet_bits, IsOctets}
-use Rattle.p4x_cmd.specs.declared.packets.Arrival.{Arrival}
-use Rattle.p4x_cmd.specs.declared.packets.Sent.{Sent}
+use Rattle.fabric.specs.declared.packets.Arrival.{Arrival}
+use Rattle.fabric.specs.declared.packets.Sent.{Sent}
 use Rattle.p4x_cmd.specs.declared.one_table.OneTable14.{OneTable14}
 use Rattle.p4x_cmd.specs.Headers.{numbers_in, bits_in, octets_in}
 use Rattle.p4x_cmd.specs.Entries.{Entries, Choice, Fill, Fits, FillFits, FillsFit, FitsTable, choice_of, fill_at}
@@ -15,7 +15,8 @@ use Rattle.p4x_cmd.specs.Forms14.{is_one_table}
 use Rattle.p4x_cmd.specs.Forms16.{program16, lowered}
 use Rattle.p4x_cmd.specs.Meaning14.{Run14, signature14, pass14, widths14, State14, start14, extract14, after_parser14, after_ingress14, apply14}
 use Rattle.p4x_cmd.specs.Meaning16.{Run16, signature16, pass16}
-use Rattle.p4x_cmd.specs.Carries.{Carries, SameRuns, IsArrival}
+use Rattle.fabric.specs.Numbers.{IsArrival}
+use Rattle.p4x_cmd.specs.Carries.{Carries, SameRuns}
 use Rattle.p4x_cmd.proofs.HeaderLaws.{whole_again}
 use Rattle.p4x_cmd.proofs.Pass16.{pass16_is, field_widths, TakesAction}
 use Rattle.p4x_cmd.proofs.RunLaws.{sum_of_widths}

@@ -1,30 +1,21 @@
 -- Lists of words by their length.
-use Rattle.std.proofs.Common.{◌≡◌, ◌≢◌, ℕ, Bool, true, ◌&&◌, if◌then◌else◌, codes, List, [], ◌∷◌, length, map, get_or, Option, None, refl, sym, ◌∙◌, ap, arith}
-use Rattle.std.specs.Option.{option_map}
-use Rattle.std.specs.Str.{bytes_eq}
-use Rattle.p4x_cmd.specs.declared.names.Names.{Names}
-use Rattle.p4x_cmd.specs.Words.{files_of, checked, form}
+use Rattle.std.proofs.Common.{◌≡◌, ℕ, ◌<◌, ◌≤◌, ◌-◌, List, ◌∷◌, length, map, take, drop, get_or, Some, None, refl, sym, ◌∙◌, ap, arith}
+use Rattle.std.proofs.lemmas.List.{take_rest}
+use Rattle.std.specs.Option.{option_and_then}
+use Rattle.p4x_cmd.specs.Words.{Options, with_option, options_in, form}
 
--- ten words, one by one
-pub ten_words : {A : Type 0} (h : A → List ℕ) (words : List A) (a b c d e f g i j k : A) → length words ≡ 10
-    → a ≡ get_or words 0 a → b ≡ get_or words 1 b → c ≡ get_or words 2 c → d ≡ get_or words 3 d → e ≡ get_or words 4 e
-    → f ≡ get_or words 5 f → g ≡ get_or words 6 g → i ≡ get_or words 7 i → j ≡ get_or words 8 j → k ≡ get_or words 9 k
-    → map h words ≡ h a ∷ h b ∷ h c ∷ h d ∷ h e ∷ h f ∷ h g ∷ h i ∷ h j ∷ h k ∷ []
-ten_words h (x0 ∷ x1 ∷ x2 ∷ x3 ∷ x4 ∷ x5 ∷ x6 ∷ x7 ∷ x8 ∷ x9 ∷ []) a b c d e f g i j k size pa pb pc pd pe pf pg pi pj pk =
-    λ n. h (sym pa n) ∷ h (sym pb n) ∷ h (sym pc n) ∷ h (sym pd n) ∷ h (sym pe n) ∷ h (sym pf n) ∷ h (sym pg n) ∷ h (sym pi n) ∷ h (sym pj n) ∷ h (sym pk n) ∷ []
-ten_words h _ a b c d e f g i j k size pa pb pc pd pe pf pg pi pj pk = absurd (omega arith)
+-- two words, and those behind them
+pub two_words : {A : Type 0} (h : A → List ℕ) (words : List A) (a b : A) → 2 ≤ length words → a ≡ get_or words 0 a → b ≡ get_or words 1 b
+    → map h words ≡ h a ∷ h b ∷ map h (take (length words - 2) (drop 2 words))
+two_words h (x ∷ y ∷ rest) a b size pa pb = λ n. h (sym pa n) ∷ h (sym pb n) ∷ map h (sym (take_rest (x ∷ y ∷ rest) 2) n)
+two_words h _ a b size pa pb = absurd (omega arith)
 
--- another number of words is no form
-pub other_number : {A : Type 0} (h : A → List ℕ) (words : List A) → length words ≢ 10 → form (map h words) ≡ None
-other_number h (x0 ∷ x1 ∷ x2 ∷ x3 ∷ x4 ∷ x5 ∷ x6 ∷ x7 ∷ x8 ∷ x9 ∷ []) other = absurd (other refl)
-other_number h _ other = refl
+-- fewer words are no form
+pub too_few : {A : Type 0} (h : A → List ℕ) (words : List A) → length words < 4 → form (map h words) ≡ None
+too_few h (x ∷ y ∷ z ∷ w ∷ rest) few = absurd (omega arith)
+too_few h _ few = refl
 
--- the names that ten words give
-pub read_ten : (result : Option Names) (list : List (List ℕ)) (a b c d e f g i j k : List ℕ) → list ≡ a ∷ b ∷ c ∷ d ∷ e ∷ f ∷ g ∷ i ∷ j ∷ k ∷ []
-    → (bytes_eq a (codes "carry") && bytes_eq e (codes "--text") && bytes_eq g (codes "--sent") && bytes_eq j (codes "--report")) ≡ true
-    → option_map files_of result ≡ checked (record { program = b; entries = c; capture = d; text = f; sent = i; report = k })
-    → option_map files_of result ≡ form list
-read_ten result list a b c d e f g i j k is options names =
-    names
-    ∙ sym (ap (λ (x : Bool). if x then checked (record { program = b; entries = c; capture = d; text = f; sent = i; report = k }) else None) options)
-    ∙ sym (ap form is)
+-- the options behind one that was taken
+pub behind_one : (words behind : List (List ℕ)) (option value : List ℕ) (found next : Options) → words ≡ option ∷ value ∷ behind
+    → Some next ≡ with_option option value found → options_in behind next ≡ options_in words found
+behind_one words behind option value found next is taken = ap (option_and_then (options_in behind)) taken ∙ sym (ap (λ (l : List (List ℕ)). options_in l found) is)

@@ -1,13 +1,13 @@
 -- What `carry` leaves at each of its exits.
-use Rattle.std.proofs.Common.{◌≡◌, ◌⊎◌, inl, inr, ℕ, List, [], length, take, Option, Some, Result, Ok, Err, refl, sym, ◌∙◌, ap, arith}
+use Rattle.std.proofs.Common.{◌≡◌, inl, inr, ℕ, List, [], length, take, Option, Some, Result, Err, refl, sym, ◌∙◌, ap, arith}
 use Rattle.std.proofs.lemmas.List.{take_all}
 use Rattle.p416_ast.specs.declared.syntax.Syntax16.{Syntax16}
 use Rattle.p4x_io.specs.Desk.{DeskView, put, grown}
 use Rattle.p4x_io.proofs.Desks.{grown-put}
 use Rattle.p4x_cmd.specs.declared.one_table.OneTable14.{OneTable14}
 use Rattle.p4x_cmd.specs.declared.stop.Stop.{Stop}
-use Rattle.p4x_cmd.specs.declared.stop.Stop.TheVariants.{Fault, Memory}
-use Rattle.p4x_cmd.specs.Carry.{CarryDue, StopsBefore, Begins, Written, Reports, reports_end, capture_end, untouched, delivered}
+use Rattle.p4x_cmd.specs.declared.stop.Stop.TheVariants.{Fault}
+use Rattle.p4x_cmd.specs.Carry.{CarryDue, StopsBefore, Begins, Written, Reports, Delivers, capture_reports, untouched, delivered}
 use Rattle.p4x_cmd.specs.Outcomes.{IsPart, GrownByFront, Leaves, Loosely}
 use Rattle.p4x_cmd.specs.Words.{Files, outputs_of}
 
@@ -31,55 +31,39 @@ put_part old mid new content made some = inr (some.0, put_whole old mid new (tak
 
 module _ (f : Files) (files : List ℕ → Option (List ℕ)) (old new : DeskView) where
   -- nothing was touched
-  pub left_early : (stop : Stop) → Loosely stop (StopsBefore (files f.program) (files f.entries) stop) → new.told f.text ≡ old.told f.text → new.told f.sent ≡ old.told f.sent → new.told f.report ≡ old.told f.report
+  pub left_early : (stop : Stop) → Loosely stop (StopsBefore f files stop) → new.told f.text ≡ old.told f.text → new.told f.sent ≡ old.told f.sent → new.told f.report ≡ old.told f.report
       → Leaves (outputs_of f) (CarryDue f files) (Err stop) old new
   left_early stop (inl fault) text sent report = inr (inl (inl (ap (λ x. Err x) fault), (text, (sent, (report, tt)))))
   left_early stop (inr (inl memory)) text sent report = inr (inl (inr (ap (λ x. Err x) memory), (text, (sent, (report, tt)))))
   left_early stop (inr (inr is)) text sent report = inl (untouched f stop, inl (stop, is, refl), refl, (text, (sent, (report, tt))))
 
-  module _ (p : OneTable14) (text : List ℕ) (s : Syntax16) (begins : Begins (files f.program) (files f.entries) p) (written : Written p text s) where
+  -- a fault while the files were made or the text was appended
+  part_begun : (text : List ℕ) (r : Reports) → CarryDue f files (delivered f text r)
+      → IsPart (old.told f.text) (new.told f.text) (Some text) → IsPart (old.told f.sent) (new.told f.sent) (Some []) → IsPart (old.told f.report) (new.told f.report) (Some [])
+      → Leaves (outputs_of f) (CarryDue f files) (Err Fault) old new
+  part_begun text r due wrote sent report = inr (inr (inl refl, (delivered f text r, due, (wrote, (part_empty _ _ r.sent sent, (part_empty _ _ r.report report, tt))))))
+
+  -- the text was written, and then the capture was run
+  run_whole : (text : List ℕ) (r : Reports) → CarryDue f files (delivered f text r) → (end : Result (List ℕ) Stop) (mid : DeskView)
+      → new.told f.text ≡ put (old.told f.text) text → mid.told f.sent ≡ put (old.told f.sent) [] → mid.told f.report ≡ put (old.told f.report) []
+      → Delivers r end (mid.told f.sent) (new.told f.sent) (mid.told f.report) (new.told f.report)
+      → Leaves (outputs_of f) (CarryDue f files) end old new
+  run_whole text r due end mid wrote sent report (inl d) =
+      inl (delivered f text r, due, d.0, (wrote, (put_whole _ _ _ r.sent sent d.1, (put_whole _ _ _ r.report report d.2, tt))))
+  run_whole text r due end mid wrote sent report (inr d) =
+      inr (inr (d.0, (delivered f text r, due, (part_whole _ _ text wrote, (put_part _ _ _ r.sent sent d.1, (put_part _ _ _ r.report report d.2, tt))))))
+
+  module _ (p : OneTable14) (ports text : List ℕ) (s : Syntax16) (begins : Begins f files p ports) (written : Written p text s) where
     -- the due of a text that was written
-    due_of : (end : Result Reports Stop) → reports_end s (capture_end (files f.capture)) ≡ end → CarryDue f files (delivered f text end)
-    due_of end is = inr (p, text, s, begins, written, ap (delivered f text) (sym is))
+    due_of : (r : Reports) → r ≡ capture_reports s ports (files f.capture) → CarryDue f files (delivered f text r)
+    due_of r is = inr (p, ports, text, s, begins, written, ap (delivered f text) is)
 
-    -- a loose end, with each file in part of what is due
-    loose_part : (end : Result Reports Stop) → reports_end s (capture_end (files f.capture)) ≡ end → (stop : Stop) → (stop ≡ Fault) ⊎ (stop ≡ Memory)
-        → IsPart (old.told f.text) (new.told f.text) (Some text) → IsPart (old.told f.sent) (new.told f.sent) (Some []) → IsPart (old.told f.report) (new.told f.report) (Some [])
-        → Leaves (outputs_of f) (CarryDue f files) (Err stop) old new
-    loose_part (Ok r) is stop loose wrote sent report =
-        inr (inr (ends stop loose, (delivered f text (Ok r), due_of (Ok r) is, (wrote, (part_empty _ _ r.sent sent, (part_empty _ _ r.report report, tt))))))
-      where
-        ends : (e : Stop) → (e ≡ Fault) ⊎ (e ≡ Memory) → (◌≡◌ {A = Result (List ℕ) Stop} (Err e) (Err Fault)) ⊎ (◌≡◌ {A = Result (List ℕ) Stop} (Err e) (Err Memory))
-        ends e (inl x) = inl (ap (λ y. Err y) x)
-        ends e (inr x) = inr (ap (λ y. Err y) x)
-    loose_part (Err e) is stop loose wrote sent report =
-        inr (inr (ends stop loose, (delivered f text (Err e), due_of (Err e) is, (wrote, (sent, (report, tt))))))
-      where
-        ends : (e : Stop) → (e ≡ Fault) ⊎ (e ≡ Memory) → (◌≡◌ {A = Result (List ℕ) Stop} (Err e) (Err Fault)) ⊎ (◌≡◌ {A = Result (List ℕ) Stop} (Err e) (Err Memory))
-        ends e (inl x) = inl (ap (λ y. Err y) x)
-        ends e (inr x) = inr (ap (λ y. Err y) x)
-
-    -- a fault while the files were made or the text was appended
     pub left_begin : IsPart (old.told f.text) (new.told f.text) (Some text) → IsPart (old.told f.sent) (new.told f.sent) (Some []) → IsPart (old.told f.report) (new.told f.report) (Some [])
         → Leaves (outputs_of f) (CarryDue f files) (Err Fault) old new
-    left_begin wrote sent report = loose_part (reports_end s (capture_end (files f.capture))) refl Fault (inl refl) wrote sent report
+    left_begin = part_begun text (capture_reports s ports (files f.capture)) (due_of _ refl)
 
-    -- the capture isn't taken, or wasn't read
-    pub left_capture : (stop : Stop) → Loosely stop (reports_end s (capture_end (files f.capture)) ≡ Err stop)
-        → new.told f.text ≡ put (old.told f.text) text → new.told f.sent ≡ put (old.told f.sent) [] → new.told f.report ≡ put (old.told f.report) []
-        → Leaves (outputs_of f) (CarryDue f files) (Err stop) old new
-    left_capture stop (inl fault) wrote sent report = loose_part (reports_end s (capture_end (files f.capture))) refl stop (inl fault) (part_whole _ _ text wrote) (part_whole _ _ [] sent) (part_whole _ _ [] report)
-    left_capture stop (inr (inl memory)) wrote sent report = loose_part (reports_end s (capture_end (files f.capture))) refl stop (inr memory) (part_whole _ _ text wrote) (part_whole _ _ [] sent) (part_whole _ _ [] report)
-    left_capture stop (inr (inr is)) wrote sent report = inl (delivered f text (Err stop), due_of (Err stop) is, refl, (wrote, (sent, (report, tt))))
-
-    -- a fault while the sent file or the report was appended
-    pub left_finish : (r : Reports) → reports_end s (capture_end (files f.capture)) ≡ Ok r
-        → new.told f.text ≡ put (old.told f.text) text → IsPart (old.told f.sent) (new.told f.sent) (Some r.sent) → IsPart (old.told f.report) (new.told f.report) (Some r.report)
-        → Leaves (outputs_of f) (CarryDue f files) (Err Fault) old new
-    left_finish r is wrote sent report = inr (inr (inl refl, (delivered f text (Ok r), due_of (Ok r) is, (part_whole _ _ text wrote, (sent, (report, tt))))))
-
-    -- all was done
-    pub left_done : (r : Reports) → reports_end s (capture_end (files f.capture)) ≡ Ok r
-        → new.told f.text ≡ put (old.told f.text) text → new.told f.sent ≡ put (old.told f.sent) r.sent → new.told f.report ≡ put (old.told f.report) r.report
-        → Leaves (outputs_of f) (CarryDue f files) (Ok r.line) old new
-    left_done r is wrote sent report = inl (delivered f text (Ok r), due_of (Ok r) is, refl, (wrote, (sent, (report, tt))))
+    pub left_run : (end : Result (List ℕ) Stop) (mid : DeskView)
+        → new.told f.text ≡ put (old.told f.text) text → mid.told f.sent ≡ put (old.told f.sent) [] → mid.told f.report ≡ put (old.told f.report) []
+        → Delivers (capture_reports s ports (files f.capture)) end (mid.told f.sent) (new.told f.sent) (mid.told f.report) (new.told f.report)
+        → Leaves (outputs_of f) (CarryDue f files) end old new
+    left_run = run_whole text (capture_reports s ports (files f.capture)) (due_of _ refl)

@@ -4,7 +4,7 @@ use Rattle.std.proofs.Common.{◌≤◌, arith}
 use Rattle.std.proofs.lemmas.Bool.Decides.{nat_tests}
 use Rattle.p4x_bits.specs.BitLists.{octet_bits, IsOctets}
 use Rattle.p4x_cmd.proofs.HeaderLaws.{whole_again}
-use Rattle.p4x_cmd.specs.declared.packets.Arrival.{Arrival}
+use Rattle.fabric.specs.declared.packets.Arrival.{Arrival}
 use Rattle.p4x_cmd.specs.declared.one_table.OneTable16.{OneTable16}
 use Rattle.p4x_cmd.specs.Headers.{numbers_in, bits_in, octets_in, zeros}
 use Rattle.p4x_cmd.specs.Entries.{Entries, Choice, choice_of, fill_at, no_entries}

@@ -1,9 +1,9 @@
 -- What holds of the text of a program that was made from another one.
-use Rattle.std.proofs.Common.{◌≡◌, true, ℕ, List, Option, Some, None, sym, ◌∙◌, ap, subst}
+use Rattle.std.proofs.Common.{◌≡◌, true, ℕ, List, Option, Some, None, Ok, sym, ◌∙◌, ap, subst}
 use Rattle.p4x_cmd.specs.declared.one_table.OneTable14.{OneTable14}
 use Rattle.p4x_cmd.specs.declared.one_table.OneTable16.{OneTable16}
 use Rattle.p4x_cmd.specs.Carries.{Carries}
-use Rattle.p4x_cmd.specs.Carry.{Begins, Written}
+use Rattle.p4x_cmd.specs.Carry.{ProgramIs, Written}
 use Rattle.p4x_cmd.specs.Forms14.{is_one_table}
 use Rattle.p4x_cmd.specs.Forms16.{Reads16, program16, lowered}
 use Rattle.p4x_cmd.specs.Typed16.{is_well_typed}
@@ -11,13 +11,13 @@ use Rattle.p4x_cmd.proofs.Carrying.{carries_is}
 use Rattle.p4x_cmd.proofs.Reading16.{reads16_once}
 use Rattle.p4x_cmd.proofs.Typing16.{well_typed_is}
 
-begun_form : (program entries : Option (List ℕ)) (p : OneTable14) → Begins program entries p → is_one_table p ≡ true
-begun_form None entries p begins = absurd begins.0
-begun_form (Some text) entries p begins = begins.0.reads.form
+taken_form : (program : Option (List ℕ)) (p : OneTable14) → ProgramIs program (Ok p) → is_one_table p ≡ true
+taken_form None p is = absurd is
+taken_form (Some text) p is = is.reads.form
 
-pub written_is : (program entries : Option (List ℕ)) (p : OneTable14) (q : OneTable16) (text : List ℕ) → Begins program entries p → q ≡ lowered p → Reads16 text (program16 q) → Written p text (program16 q)
-written_is program entries p q text begins same reads =
-    let form = begun_form program entries p begins in
+pub written_is : (program : Option (List ℕ)) (p : OneTable14) (q : OneTable16) (text : List ℕ) → ProgramIs program (Ok p) → q ≡ lowered p → Reads16 text (program16 q) → Written p text (program16 q)
+written_is program p q text is same reads =
+    let form = taken_form program p is in
     record {
       reads = reads;
       only = λ other r. reads16_once text other (program16 q) r reads;

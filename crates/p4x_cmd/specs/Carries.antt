@@ -1,20 +1,13 @@
 -- That a program of P4_16 carries a program of P4_14: both do the same with every packet (this project's own).
-use Rattle.std.specs.Prelude.{◌≡◌, ◌≤◌, ◌<◌, ◌^◌, ℕ, List, All}
-use Rattle.p4x_bits.specs.BitLists.{IsOctets}
+use Rattle.std.specs.Prelude.{◌≡◌, ◌≤◌, ℕ, List, All}
 use Rattle.p416_ast.specs.declared.syntax.Syntax16.{Syntax16}
-use Rattle.p4x_cmd.specs.declared.packets.Arrival.{Arrival}
+use Rattle.fabric.specs.Numbers.{IsArrival}
+use Rattle.fabric.specs.declared.packets.Arrival.{Arrival}
 use Rattle.p4x_cmd.specs.declared.one_table.OneTable14.{OneTable14}
 use Rattle.p4x_cmd.specs.Entries.{Entries, Fits}
 use Rattle.p4x_cmd.specs.Meaning14.{Run14, signature14}
 use Rattle.p4x_cmd.specs.Meaning16.{Run16, signature16}
 use Rattle.p4x_cmd.specs.Passes.{Ran}
-
--- the numbers of an arrival are such as its type holds
-pub record IsArrival (a : Arrival) : Type 0 where
-  pub octets : IsOctets a.octets
-  pub port : a.port ≤ 510
-  pub seconds : a.seconds < 2 ^ 32
-  pub fraction : a.fraction < 2 ^ 32
 
 -- equal packets on equal ports in the same order, equal counters and registers, equally many items cut
 pub record SameRuns (a b : Ran) : Type 0 where

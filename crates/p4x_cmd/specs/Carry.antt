@@ -1,26 +1,37 @@
 -- The command `carry`: what is due for what its input files hold (this project's own).
 use Rattle.std.specs.Prelude.{◌≡◌, ◌⊎◌, ◌<◌, ◌≤◌, ◌%◌, ◌^◌, ℕ, nat_lt, if◌then◌else◌, true, List, [], ◌∷◌, length, Option, Some, None, Result, Ok, Err}
 use Rattle.p416_ast.specs.declared.syntax.Syntax16.{Syntax16}
-use Rattle.p4x_cmd.specs.declared.packets.Capture.{Capture as Packets}
+use Rattle.p4x_io.specs.Desk.{grown}
+use Rattle.p4x_fault.specs.declared.Fault.{Fault as Refusal}
+use Rattle.fabric.specs.declared.packets.Arrival.{Arrival}
+use Rattle.fabric.specs.declared.packets.Sent.{Sent}
+use Rattle.pcap_io.specs.declared.head.Head.{Head}
+use Rattle.pcap_io.specs.Captures.{Reading, reading_of, refusal_in, arrivals_of}
+use Rattle.pcap_io.specs.Ports.{ports_of}
+use Rattle.pcap_io.specs.Sent.{sent_bytes_of}
 use Rattle.p4x_cmd.specs.declared.one_table.OneTable14.{OneTable14}
+use Rattle.p4x_cmd.specs.declared.stop.Limited.TheVariants as limited
 use Rattle.p4x_cmd.specs.declared.stop.Stop.{Stop}
-use Rattle.p4x_cmd.specs.declared.stop.Stop.TheVariants.{Fault, Program, Entries, Capture}
-use Rattle.p4x_cmd.specs.Captures.{capture_of}
+use Rattle.p4x_cmd.specs.declared.stop.Stop.TheVariants.{Fault, Program, Entries, Refused, Limit}
 use Rattle.p4x_cmd.specs.Carries.{Carries}
 use Rattle.p4x_cmd.specs.Typed16.{is_well_typed}
 use Rattle.p4x_cmd.specs.Forms14.{Reads14}
 use Rattle.p4x_cmd.specs.Forms16.{Reads16}
-use Rattle.p4x_cmd.specs.Outcomes.{Due}
-use Rattle.p4x_cmd.specs.Reports.{sent_bytes_of, report_of, carried_line_of}
+use Rattle.p4x_cmd.specs.Outcomes.{Due, IsLoose, GrownByFront}
+use Rattle.p4x_cmd.specs.Passes.{Ran}
+use Rattle.p4x_cmd.specs.Reports.{sent_lines, report_of, carried_line_of}
 use Rattle.p4x_cmd.specs.Runs.{this_run}
 use Rattle.p4x_cmd.specs.Words.{Files}
 
--- the greatest lengths in octets of a program and of a capture
+-- the greatest lengths in octets of a program, of a capture and of a ports file
 abbrev pub program_limit : ℕ
 program_limit = 1048576
 
 abbrev pub capture_limit : ℕ
 capture_limit = 1073741824
+
+abbrev pub ports_limit : ℕ
+ports_limit = 4194304
 
 -- the text is taken as a program
 pub record IsTaken (text : List ℕ) (p : OneTable14) : Type 0 where
@@ -44,23 +55,34 @@ entries_stop None = Some Fault
 entries_stop (Some []) = None
 entries_stop (Some (b ∷ octets)) = Some Entries
 
-abbrev pub taken_capture : Option Packets → Result Packets Stop
-taken_capture None = Err Capture
-taken_capture (Some packets) = Ok packets
+abbrev pub taken_ports : Result (List ℕ) Refusal → Result (List ℕ) Stop
+taken_ports (Ok ports) = Ok ports
+taken_ports (Err fault) = Err (Refused fault)
 
--- what the file of the capture comes to: its packets, or why there are none
-abbrev pub capture_end : Option (List ℕ) → Result Packets Stop
-capture_end None = Err Fault
-capture_end (Some octets) = if nat_lt capture_limit (length octets) then Err Capture else taken_capture (capture_of octets)
+-- what the ports file comes to: its ports, or why there are none
+abbrev pub ports_in : Option (List ℕ) → Result (List ℕ) Stop
+ports_in None = Err Fault
+ports_in (Some text) = if nat_lt ports_limit (length text) then Err (Limit limited.Ports) else taken_ports (ports_of text)
 
--- the command stops before it writes anything
-abbrev pub StopsBefore : Option (List ℕ) → Option (List ℕ) → Stop → Type 0
-StopsBefore program entries stop =
-    ProgramIs program (Err stop) ⊎ ((p : OneTable14) × ProgramIs program (Ok p) × (entries_stop entries ≡ Some stop))
+-- where no ports file is named, no packet has a port of its own
+abbrev pub ports_end : (List ℕ → Option (List ℕ)) → Option (List ℕ) → Result (List ℕ) Stop
+ports_end files None = Ok []
+ports_end files (Some name) = ports_in (files name)
 
 -- the command has a program, and entries that are taken
-abbrev pub Begins : Option (List ℕ) → Option (List ℕ) → OneTable14 → Type 0
-Begins program entries p = ProgramIs program (Ok p) × (entries_stop entries ≡ None)
+abbrev pub HasProgram : Files → (List ℕ → Option (List ℕ)) → OneTable14 → Type 0
+HasProgram f files p = ProgramIs (files f.program) (Ok p) × (entries_stop (files f.entries) ≡ None)
+
+-- the command stops before it writes anything: at the program, at the entries or at the ports
+abbrev pub StopsBefore : Files → (List ℕ → Option (List ℕ)) → Stop → Type 0
+StopsBefore f files stop =
+    ProgramIs (files f.program) (Err stop)
+    ⊎ ((p : OneTable14) × ProgramIs (files f.program) (Ok p) × (entries_stop (files f.entries) ≡ Some stop))
+    ⊎ ((p : OneTable14) × HasProgram f files p × (ports_end files f.ports ≡ Err stop))
+
+-- the command has a program, entries that are taken, and these ports
+abbrev pub Begins : Files → (List ℕ → Option (List ℕ)) → OneTable14 → List ℕ → Type 0
+Begins f files p ports = HasProgram f files p × (ports_end files f.ports ≡ Ok ports)
 
 -- The text reads as this program of P4_16, and as no other; the program is well-typed, and it carries the program of P4_14.
 pub record Written (p : OneTable14) (text : List ℕ) (s : Syntax16) : Type 0 where
@@ -69,38 +91,64 @@ pub record Written (p : OneTable14) (text : List ℕ) (s : Syntax16) : Type 0 wh
   pub typed : is_well_typed s ≡ true
   pub carries : Carries p s
 
--- the sent file, the report and the line of a run
+-- what a capture comes to: the sent file, the report, and the line of the command or why it stops
 pub record Reports : Type 0 where
   pub sent : List ℕ
   pub report : List ℕ
-  pub line : List ℕ
+  pub end : Result (List ℕ) Stop
 
--- those of the run of a program over the packets of a capture
-abbrev pub reports_of : Syntax16 → Packets → Reports
-reports_of s c =
-    let run = this_run s c.arrivals in
-    record {
-      sent = sent_bytes_of c.link c.nano c.arrivals run.sent;
-      report = report_of (length c.arrivals) run.sent (run.cut % 2 ^ 64) (run.work % 2 ^ 64);
-      line = carried_line_of (length c.arrivals) run.sent (run.cut % 2 ^ 64);
-    }
+-- the sent file of a capture with this file header; an empty one where no file header is taken
+abbrev pub sent_file : Option Head → List Arrival → List Sent → List ℕ
+sent_file None arrivals sent = []
+sent_file (Some head) arrivals sent = sent_bytes_of head.link head.nano arrivals sent
 
-abbrev pub reports_end : Syntax16 → Result Packets Stop → Result Reports Stop
-reports_end s (Ok packets) = Ok (reports_of s packets)
-reports_end s (Err stop) = Err stop
+-- A run over the packets of a capture that is whole, or over those in front of what is refused: then the report has no end part.
+abbrev pub run_reports : Option Refusal → Option Head → List Arrival → Ran → Reports
+run_reports None head arrivals run = record {
+  sent = sent_file head arrivals run.sent;
+  report = report_of (length arrivals) run.sent (run.cut % 2 ^ 64) (run.work % 2 ^ 64);
+  end = Ok (carried_line_of (length arrivals) (length run.sent) (run.cut % 2 ^ 64));
+}
+run_reports (Some fault) head arrivals run = record {
+  sent = sent_file head arrivals run.sent;
+  report = sent_lines run.sent;
+  end = Err (Refused fault);
+}
+
+-- what octets come to that are read as this, with packets on these ports
+abbrev pub reading_reports : Syntax16 → List ℕ → Reading → Reports
+reading_reports s ports reading =
+    let arrivals = arrivals_of ports reading.records in
+    run_reports (refusal_in reading) reading.head arrivals (this_run s arrivals)
+
+-- nothing was sent
+abbrev pub stopped : Stop → Reports
+stopped stop = record { sent = []; report = []; end = Err stop }
+
+-- what the file of the capture comes to
+abbrev pub capture_reports : Syntax16 → List ℕ → Option (List ℕ) → Reports
+capture_reports s ports None = stopped Fault
+capture_reports s ports (Some octets) =
+    if nat_lt capture_limit (length octets) then stopped (Limit limited.Capture) else reading_reports s ports (reading_of octets)
+
+-- The sent file and the report have grown by what the capture comes to, and the work ended as it says; or it ended with a fault or want of
+-- memory, and they have grown by fronts of that.
+abbrev pub Delivers : Reports → Result (List ℕ) Stop → Option (Option (List ℕ)) → Option (Option (List ℕ)) → Option (Option (List ℕ)) → Option (Option (List ℕ)) → Type 0
+Delivers r end sent sent' report report' =
+    ((end ≡ r.end) × (sent' ≡ grown sent r.sent) × (report' ≡ grown report r.report))
+    ⊎ (IsLoose end × GrownByFront sent r.sent sent' × GrownByFront report r.report report')
 
 -- nothing is written
 abbrev pub untouched : Files → Stop → Due
 untouched f stop = record { outs = (f.text, None) ∷ (f.sent, None) ∷ (f.report, None) ∷ []; end = Err stop }
 
--- the text is written, and with it what the capture comes to; the sent file and the report are empty where it is refused
-abbrev pub delivered : Files → List ℕ → Result Reports Stop → Due
-delivered f text (Ok r) = record { outs = (f.text, Some text) ∷ (f.sent, Some r.sent) ∷ (f.report, Some r.report) ∷ []; end = Ok r.line }
-delivered f text (Err stop) = record { outs = (f.text, Some text) ∷ (f.sent, Some []) ∷ (f.report, Some []) ∷ []; end = Err stop }
+-- the text is written, and with it what the capture comes to
+abbrev pub delivered : Files → List ℕ → Reports → Due
+delivered f text r = record { outs = (f.text, Some text) ∷ (f.sent, Some r.sent) ∷ (f.report, Some r.report) ∷ []; end = r.end }
 
 -- What is due: the first cause in the order of the work, or a text that reads as one program, with the files of this program's run.
 abbrev pub CarryDue : Files → (List ℕ → Option (List ℕ)) → Due → Type 0
 CarryDue f files d =
-    ((stop : Stop) × StopsBefore (files f.program) (files f.entries) stop × (d ≡ untouched f stop))
-    ⊎ ((p : OneTable14) × (text : List ℕ) × (s : Syntax16) × Begins (files f.program) (files f.entries) p × Written p text s
-    × (d ≡ delivered f text (reports_end s (capture_end (files f.capture)))))
+    ((stop : Stop) × StopsBefore f files stop × (d ≡ untouched f stop))
+    ⊎ ((p : OneTable14) × (ports : List ℕ) × (text : List ℕ) × (s : Syntax16) × Begins f files p ports × Written p text s
+    × (d ≡ delivered f text (capture_reports s ports (files f.capture))))

@@ -1,5 +1,4 @@
 pub mod Calls
-pub mod Captures
 pub mod Carries
 pub mod Carry
 pub mod Division
@@ -17,6 +16,7 @@ pub mod Plain
 pub mod Reports
 pub mod Runs
 pub mod Stops
+pub mod Streams
 pub mod Typed16
 pub mod Words
 pub mod Written

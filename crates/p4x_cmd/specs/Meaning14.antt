@@ -3,7 +3,7 @@
 use Rattle.std.specs.Prelude.{ℕ, zero, suc, ◌*◌, ◌/◌, ◌%◌, ◌^◌, Bool, true, false, ◌==◌, if◌then◌else◌, nat_lt, List, [], ◌∷◌, ◌++◌, length, map, sum, drop, Option, Some, None}
 use Rattle.p4x_bits.specs.BitLists.{octet_bits}
 use Rattle.p4x_cmd.specs.declared.one_table.OneTable14.{OneTable14}
-use Rattle.p4x_cmd.specs.declared.packets.Arrival.{Arrival}
+use Rattle.fabric.specs.declared.packets.Arrival.{Arrival}
 use Rattle.p4x_cmd.specs.Headers.{numbers_in, bits_in, octets_in, zeros}
 use Rattle.p4x_cmd.specs.Passes.{PassEnd, dropped, leaves, Pass, Ran, run_of}
 use Rattle.p4x_cmd.specs.Entries.{Signature, Choice, Entries, choice_of, fill_at}

@@ -18,7 +18,7 @@ use Rattle.p416_ast.specs.declared.decl.Type16.TheVariants.{Bit, Named}
 use Rattle.p416_ast.specs.declared.node.Operator.TheVariants.{Equal}
 use Rattle.p416_ast.specs.declared.control.ActionName.{ActionName}
 use Rattle.p416_ast.specs.declared.control.ActionName.TheVariants.{Declared, NoAction}
-use Rattle.p4x_cmd.specs.declared.packets.Arrival.{Arrival}
+use Rattle.fabric.specs.declared.packets.Arrival.{Arrival}
 use Rattle.p4x_cmd.specs.Headers.{numbers_in, bits_in, octets_in, zeros}
 use Rattle.p4x_cmd.specs.Passes.{dropped, leaves, Pass, Ran, run_of}
 use Rattle.p4x_cmd.specs.Entries.{Signature, TableSig, ActionSig, Choice, Entries, choice_of, fill_at}

@@ -1,7 +1,7 @@
 -- The queue of passes for programs that make no further items (this project's own fabric), and what a run over a list of arrivals gives.
 use Rattle.std.specs.Prelude.{ℕ, zero, suc, ◌+◌, List, [], ◌∷◌, ◌++◌}
-use Rattle.p4x_cmd.specs.declared.packets.Arrival.{Arrival}
-use Rattle.p4x_cmd.specs.declared.packets.Sent.{Sent}
+use Rattle.fabric.specs.declared.packets.Arrival.{Arrival}
+use Rattle.fabric.specs.declared.packets.Sent.{Sent}
 
 -- what a pass ends in: the packet is dropped, or it leaves on a port
 pub data PassEnd : Type 0 where

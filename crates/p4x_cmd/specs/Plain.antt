@@ -1,7 +1,7 @@
 -- What a program of the one-table form comes to with one packet: the plain program beside its meaning.
 use Rattle.std.specs.Prelude.{◌≡◌, ℕ, ◌*◌, ◌%◌, ◌==◌, ◌≤◌, nat_lt, if◌then◌else◌, length, sum_by}
 use Rattle.p4x_cmd.specs.declared.one_table.OneTable16.{OneTable16}
-use Rattle.p4x_cmd.specs.declared.packets.Arrival.{Arrival}
+use Rattle.fabric.specs.declared.packets.Arrival.{Arrival}
 use Rattle.p4x_cmd.specs.Passes.{Pass, dropped, leaves}
 
 -- A packet that is shorter than the header is dropped after 3 statements and transitions, one to port 511 after 5, and another one leaves as it came after 6.

@@ -1,8 +1,7 @@
 -- The run of a program over the packets of a capture, as the command makes it (this project's own).
-use Rattle.std.specs.Prelude.{◌≡◌, ℕ, ◌%◌, ◌^◌, List}
+use Rattle.std.specs.Prelude.{ℕ, List}
 use Rattle.p416_ast.specs.declared.syntax.Syntax16.{Syntax16}
-use Rattle.p4x_cmd.specs.declared.packets.Arrival.{Arrival}
-use Rattle.p4x_cmd.specs.declared.packets.RunResult.{RunResult}
+use Rattle.fabric.specs.declared.packets.Arrival.{Arrival}
 use Rattle.p4x_cmd.specs.Passes.{Ran}
 use Rattle.p4x_cmd.specs.Entries.{no_entries}
 use Rattle.p4x_cmd.specs.Meaning16.{Run16, signature16}
@@ -14,9 +13,3 @@ default_bound = 256
 -- the run without entries over these arrivals
 abbrev pub this_run : Syntax16 → List Arrival → Ran
 this_run s arrivals = Run16 s (no_entries (signature16 s)) default_bound arrivals
-
--- the numbers of the result are those of the run, counts modulo 2^64
-pub record IsRun (ran : Ran) (result : RunResult) : Type 0 where
-  pub sent : result.sent ≡ ran.sent
-  pub cut : result.cut ≡ ran.cut % 2 ^ 64
-  pub work : result.work ≡ ran.work % 2 ^ 64

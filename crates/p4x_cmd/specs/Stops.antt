@@ -1,22 +1,31 @@
 -- Why a command ends without status 0: its status and its line (this project's own).
 use Rattle.std.specs.Prelude.{ℕ, List, codes, Result, Ok, Err}
+use Rattle.p4x_fault.specs.Fault.{refusal_line}
+use Rattle.p4x_cmd.specs.declared.stop.Limited.{Limited}
+use Rattle.p4x_cmd.specs.declared.stop.Limited.TheVariants.{Ports, Capture}
 use Rattle.p4x_cmd.specs.declared.stop.Stop.{Stop}
-use Rattle.p4x_cmd.specs.declared.stop.Stop.TheVariants.{Fault, Usage, Program, Entries, Capture, Memory}
+use Rattle.p4x_cmd.specs.declared.stop.Stop.TheVariants.{Fault, Usage, Program, Entries, Refused, Limit, Memory}
 
 abbrev pub stop_code : Stop → ℕ
 stop_code Fault = 1
 stop_code Usage = 2
 stop_code Program = 3
 stop_code Entries = 4
-stop_code Capture = 5
+stop_code (Refused fault) = 5
+stop_code (Limit file) = 6
 stop_code Memory = 7
+
+abbrev pub limit_line : Limited → List ℕ
+limit_line Ports = codes "limit ports\n"
+limit_line Capture = codes "limit capture\n"
 
 abbrev pub stop_line : Stop → List ℕ
 stop_line Fault = codes "fault\n"
 stop_line Usage = codes "usage\n"
 stop_line Program = codes "refused C25\n"
 stop_line Entries = codes "refused E1 at 1:1\n"
-stop_line Capture = codes "refused K2\n"
+stop_line (Refused fault) = refusal_line fault
+stop_line (Limit file) = limit_line file
 stop_line Memory = codes "no memory\n"
 
 -- the line and the status of what the work ended with: its own line and 0, or those of what stopped it

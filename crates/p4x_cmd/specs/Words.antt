@@ -1,13 +1,15 @@
 -- The words of a command line (this project's own).
-use Rattle.std.specs.Prelude.{ℕ, Bool, true, false, not, ◌&&◌, ◌==◌, if◌then◌else◌, List, [], ◌∷◌, codes, Option, Some, None}
+use Rattle.std.specs.Prelude.{ℕ, Bool, true, false, not, ◌&&◌, ◌==◌, if◌then◌else◌, List, [], ◌∷◌, codes, Option, Some, None, option_map, option_and_then, option_to_list}
 use Rattle.std.specs.Str.{bytes_eq}
 use Rattle.p4x_cmd.specs.declared.names.Names.{Names}
+use Rattle.p4x_cmd.specs.declared.words.Found.{Found}
 
--- the files that `carry` names
+-- the files that `carry` names; the ports need not be named
 pub record Files : Type 0 where
   pub program : List ℕ
   pub entries : List ℕ
   pub capture : List ℕ
+  pub ports : Option (List ℕ)
   pub text : List ℕ
   pub sent : List ℕ
   pub report : List ℕ
@@ -17,46 +19,97 @@ files_of n = record {
   program = n.program.now;
   entries = n.entries.now;
   capture = n.capture.now;
+  ports = option_map (λ name. name.now) n.ports;
   text = n.text.now;
   sent = n.sent.now;
   report = n.report.now;
 }
 
--- the files that `carry` reads, in the order of its work, and those that it writes
+-- the files that `carry` reads, and those that it writes
 abbrev pub inputs_of : Files → List (List ℕ)
-inputs_of f = f.program ∷ f.entries ∷ f.capture ∷ []
+inputs_of f = f.program ∷ f.entries ∷ f.capture ∷ option_to_list f.ports
 
 abbrev pub outputs_of : Files → List (List ℕ)
 outputs_of f = f.text ∷ f.sent ∷ f.report ∷ []
 
--- the name of an input file isn't empty and doesn't begin with two dashes
+-- the name of an input file that is no option's isn't empty and doesn't begin with two dashes
 abbrev pub is_name : List ℕ → Bool
 is_name [] = false
 is_name (a ∷ []) = true
 is_name (a ∷ b ∷ rest) = not (a == 45 && b == 45)
 
--- the name of an output file, the value of an option, isn't empty
+-- the value of an option, which names a file, isn't empty
 abbrev pub is_value : List ℕ → Bool
 is_value [] = false
 is_value (a ∷ rest) = true
 
+abbrev pub are_ports : Option (List ℕ) → Bool
+are_ports None = true
+are_ports (Some name) = is_value name
+
+abbrev pub are_other_ports : Option (List ℕ) → List ℕ → Bool
+are_other_ports None out = true
+are_other_ports (Some name) out = not (bytes_eq out name)
+
 -- an output file is none of the input files
 abbrev pub is_apart : Files → List ℕ → Bool
-is_apart f out = not (bytes_eq out f.program) && not (bytes_eq out f.entries) && not (bytes_eq out f.capture)
+is_apart f out = not (bytes_eq out f.program) && not (bytes_eq out f.entries) && not (bytes_eq out f.capture) && are_other_ports f.ports out
 
 -- each file has a name, and the outputs are other files than the inputs and than each other
 abbrev pub are_names : Files → Bool
 are_names f =
-    is_name f.program && is_name f.entries && is_name f.capture && is_value f.text && is_value f.sent && is_value f.report && is_apart f f.text
-    && is_apart f f.sent && is_apart f f.report && not (bytes_eq f.text f.sent) && not (bytes_eq f.text f.report) && not (bytes_eq f.sent f.report)
+    is_name f.program && is_name f.entries && is_name f.capture && are_ports f.ports && is_value f.text && is_value f.sent && is_value f.report
+    && is_apart f f.text && is_apart f f.sent && is_apart f f.report
+    && not (bytes_eq f.text f.sent) && not (bytes_eq f.text f.report) && not (bytes_eq f.sent f.report)
 
-abbrev pub checked : Files → Option Files
-checked f = if are_names f then Some f else None
+-- the values of the options that were found
+pub record Options : Type 0 where
+  pub text : Option (List ℕ)
+  pub sent : Option (List ℕ)
+  pub report : Option (List ℕ)
+  pub ports : Option (List ℕ)
 
--- carry PROGRAM ENTRIES CAPTURE --text F --sent F --report F
+abbrev pub options_of : Found → Options
+options_of f = record {
+  text = option_map (λ value. value.now) f.text;
+  sent = option_map (λ value. value.now) f.sent;
+  report = option_map (λ value. value.now) f.report;
+  ports = option_map (λ value. value.now) f.ports;
+}
+
+abbrev pub no_options : Options
+no_options = record { text = None; sent = None; report = None; ports = None }
+
+-- an option stands at most once
+abbrev pub once : {A : Type 0} → Option (List ℕ) → A → Option A
+once None found = Some found
+once (Some value) found = None
+
+-- one more option with its value
+abbrev pub with_option : List ℕ → List ℕ → Options → Option Options
+with_option option value o =
+    if bytes_eq option (codes "--text") then once o.text (record o { text = Some value })
+    else (if bytes_eq option (codes "--sent") then once o.sent (record o { sent = Some value })
+    else (if bytes_eq option (codes "--report") then once o.report (record o { report = Some value })
+    else (if bytes_eq option (codes "--ports") then once o.ports (record o { ports = Some value }) else None)))
+
+-- The options in a list of words, in any order: each is followed by its value, which may be any word.
+abbrev pub options_in : List (List ℕ) → Options → Option Options
+options_in [] found = Some found
+options_in (option ∷ []) found = None
+options_in (option ∷ value ∷ words) found = option_and_then (options_in words) (with_option option value found)
+
+-- the files, where the three outputs are named
+abbrev pub files_with : List ℕ → List ℕ → List ℕ → Option (List ℕ) → Option (List ℕ) → Option (List ℕ) → Option (List ℕ) → Option Files
+files_with program entries capture ports (Some text) (Some sent) (Some report) =
+    let f : Files = record { program = program; entries = entries; capture = capture; ports = ports; text = text; sent = sent; report = report } in
+    if are_names f then Some f else None
+files_with program entries capture ports text sent report = None
+
+-- carry PROGRAM ENTRIES CAPTURE --text F --sent F --report F [--ports F], the options in any order
 abbrev pub form : List (List ℕ) → Option Files
-form (command ∷ program ∷ entries ∷ capture ∷ a ∷ text ∷ b ∷ sent ∷ c ∷ report ∷ []) =
-    if bytes_eq command (codes "carry") && bytes_eq a (codes "--text") && bytes_eq b (codes "--sent") && bytes_eq c (codes "--report") then
-    checked (record { program = program; entries = entries; capture = capture; text = text; sent = sent; report = report })
+form (command ∷ program ∷ entries ∷ capture ∷ words) =
+    if bytes_eq command (codes "carry")
+    then option_and_then (λ o. files_with program entries capture o.ports o.text o.sent o.report) (options_in words no_options)
     else None
-form _ = None
+form words = None

@@ -1,33 +1,31 @@
 // The command `carry`.
-ghost use Rattle.std.specs.Prelude.{◌≡◌, ◌⊎◌, ◌∷◌, [], ℕ, List, true, length, Some, None, Option, Ok, Err, IfOk, OnOk, OnErr, IfErr, MatchResult};
+ghost use Rattle.std.specs.Prelude.{◌≡◌, ◌≤◌, ◌⊎◌, ◌∷◌, [], ℕ, List, true, Some, None, Option, Ok, Err, IfOk, OnOk, OnErr, IfErr, MatchResult, All, option_to_list};
 ghost use Rattle.p4x_io.specs.Desk.{Rose, Moves, put, grown};
 ghost use Rattle.p4x_cmd.specs.declared.one_table.OneTable14.{OneTable14};
-ghost use Rattle.p4x_cmd.specs.Carry.{ProgramIs, entries_stop, capture_end, StopsBefore, Begins, CarryDue, reports_of, reports_end};
+ghost use Rattle.p4x_cmd.specs.Carry.{ProgramIs, entries_stop, ports_in, ports_end, StopsBefore, Begins, CarryDue};
 ghost use Rattle.p4x_cmd.specs.Forms14.{is_one_table};
 ghost use Rattle.p4x_cmd.specs.Forms16.{lowered, program16, Reads16};
-ghost use Rattle.p4x_cmd.specs.Outcomes.{Blames, DeskRose, Tells, Leaves, Works, IsPart, GrownByFront, Loosely, line_view};
+ghost use Rattle.p4x_cmd.specs.Outcomes.{Blames, DeskRose, ReadsRose, Tells, Leaves, Works, IsPart, GrownByFront, Loosely, line_view};
 ghost use Rattle.p4x_cmd.specs.Plain.{IsSized};
 ghost use Rattle.p4x_cmd.specs.Words.{files_of, inputs_of, outputs_of};
 
-use crate::captures::read_capture;
+use crate::capture::run_capture;
 use crate::lowering::lower;
 use crate::names::Names;
 use crate::one_table::{OneTable14, OneTable16};
-use crate::packets::Capture;
 use crate::reader::read14;
-use crate::reports::{carried_line, report, sent_bytes};
-use crate::runner::run16;
-use crate::stop::Stop;
+use crate::stop::{Limited, Stop};
 use crate::writer::write16;
-use p4x_bits::{Octets, OutOfMemory};
+use p4x_bits::{Numbers, Octets, OutOfMemory};
 use p4x_io::{Desk, Failed, ReadFault, append_all, has_octet, read_file};
+use pcap_io::PortFault;
 use std::alloc::Global;
 
 /// The most octets of a program.
 const PROGRAM_LIMIT: usize = 1048576;
 
-/// The most octets of a capture.
-const CAPTURE_LIMIT: usize = 1073741824;
+/// The most octets of a ports file.
+const PORTS_LIMIT: usize = 4194304;
 
 // The written program with its text.
 #[derive(Drop)]
@@ -36,12 +34,12 @@ struct Translation {
     text: Octets,
 }
 
-// What a run leaves beside the text, and the line that it prints.
+// What the work has before anything is written.
 #[derive(Drop)]
-struct Outputs {
-    sent: Vec<u8>,
-    report: Vec<u8>,
-    line: Vec<u8>,
+struct Beginning {
+    program: OneTable16,
+    text: Octets,
+    ports: Numbers,
 }
 
 // The program of a file.
@@ -94,21 +92,27 @@ fn translate(alloc: Global, program: &OneTable14) -> Result<Translation, OutOfMe
     })
 }
 
-// Reads and judges the program and the entries, and makes the text in memory.
-fn plan<D: Desk>(alloc: Global, desk: &mut D, names: &Names<'_>) -> Result<Translation, Stop>
+// Reads and judges the program, the entries and the ports, and makes the text in memory.
+fn prepare<D: Desk>(alloc: Global, desk: &mut D, names: &Names<'_>) -> Result<Beginning, Stop>
     ensures moves { Moves [] (D.view desk.old) (D.view desk.new) }
-    ensures stops { (program entries : Option (List ℕ)) → (D.view desk.old).told names.now.program.now ≡ Some program → (D.view desk.old).told names.now.entries.now ≡ Some entries
-        → IfErr result (λ e. Loosely e (StopsBefore program entries e)) }
-    ensures begins { (program entries : Option (List ℕ)) → (D.view desk.old).told names.now.program.now ≡ Some program → (D.view desk.old).told names.now.entries.now ≡ Some entries
-        → IfOk result (λ w. (p : OneTable14) × Begins program entries p × (w.program ≡ lowered p)) }
+    ensures stops { (files : List ℕ → Option (List ℕ)) → Tells (inputs_of (files_of names.now)) (D.view desk.old) files
+        → IfErr result (λ e. Loosely e (StopsBefore (files_of names.now) files e)) }
+    ensures begins { (files : List ℕ → Option (List ℕ)) → Tells (inputs_of (files_of names.now)) (D.view desk.old) files
+        → IfOk result (λ w. (p : OneTable14) × Begins (files_of names.now) files p w.ports × (w.program ≡ lowered p)) }
     ensures text { IfOk result (λ w. Reads16 w.text (program16 w.program)) }
     ensures sized { IfOk result (λ w. IsSized w.program) }
-    ensures cause { Blames result (Rose ((D.view desk.old).reads names.now.program.now) ((D.view desk.new).reads names.now.program.now)
-        ⊎ Rose ((D.view desk.old).reads names.now.entries.now) ((D.view desk.new).reads names.now.entries.now)) }
+    ensures fits { IfOk result (λ w. All (λ port. port ≤ 510) w.ports) }
+    ensures cause { Blames result (ReadsRose (inputs_of (files_of names.now)) (D.view desk.old) (D.view desk.new)) }
 {
     let program = read_program(alloc, desk, names.program)?;
     check_entries(desk, names.entries)?;
-    Ok(translate(alloc, &program)?)
+    let ports = read_ports(alloc, desk, names)?;
+    let Translation { program, text } = translate(alloc, &program)?;
+    Ok(Beginning {
+        program,
+        text,
+        ports,
+    })
 }
 
 // Makes the three files, and appends the text.
@@ -132,79 +136,39 @@ fn begin<D: Desk>(desk: &mut D, names: &Names<'_>, text: &[u8]) -> Result<(), St
     Ok(())
 }
 
-// The packets of a capture.
-fn read_packets<D: Desk>(alloc: Global, desk: &mut D, name: &str) -> Result<Capture, Stop>
+// The ports that packets come in on, where a file of them is named.
+fn read_ports<D: Desk>(alloc: Global, desk: &mut D, names: &Names<'_>) -> Result<Numbers, Stop>
     ensures moves { Moves [] (D.view desk.old) (D.view desk.new) }
-    ensures gives { (file : Option (List ℕ)) → (D.view desk.old).told name.now ≡ Some file
-        → MatchResult result (λ c. capture_end file ≡ Ok c) (λ e. Loosely e (capture_end file ≡ Err e)) }
-    ensures cause { Blames result (Rose ((D.view desk.old).reads name.now) ((D.view desk.new).reads name.now)) }
+    ensures gives { (files : List ℕ → Option (List ℕ)) → Tells (option_to_list (files_of names.now).ports) (D.view desk.old) files
+        → MatchResult result (λ ports. ports_end files (files_of names.now).ports ≡ Ok ports) (λ e. Loosely e (ports_end files (files_of names.now).ports ≡ Err e)) }
+    ensures fits { IfOk result (λ ports. All (λ port. port ≤ 510) ports) }
+    ensures cause { Blames result (ReadsRose (option_to_list (files_of names.now).ports) (D.view desk.old) (D.view desk.new)) }
 {
-    let octets = match read_file(alloc, desk, name, CAPTURE_LIMIT) {
-        Ok(octets) => octets,
-        Err(ReadFault::Limit) => return Err(Stop::Capture),
-        Err(ReadFault::Failed) => return Err(Stop::Fault),
-        Err(ReadFault::Memory) => return Err(Stop::Memory),
-    };
-    match read_capture(alloc, &octets) {
-        Ok(Some(capture)) => Ok(capture),
-        Ok(None) => Err(Stop::Capture),
-        Err(OutOfMemory) => Err(Stop::Memory),
+    match names.ports {
+        Some(name) => read_ports_file(alloc, desk, name),
+        None => Ok(Numbers::new(alloc)),
     }
 }
 
-// Runs the program over the packets, and makes what it leaves in memory.
-fn run_packets(
-    alloc: Global,
-    program: &OneTable16,
-    capture: &Capture,
-) -> Result<Outputs, OutOfMemory>
-    requires { IsSized program.now }
-    ensures { IfOk result (λ o. record { sent = o.sent.items; report = o.report.items; line = o.line.items } ≡ reports_of (program16 program.now) capture.now) }
-{
-    let arrivals = capture.arrivals.len();
-    let run = run16(alloc, program, capture.arrivals.as_slice())?;
-    Ok(Outputs {
-        sent: sent_bytes(alloc, capture, run.sent.as_slice())?,
-        report: report(alloc, arrivals, &run)?,
-        line: carried_line(alloc, arrivals, &run)?,
-    })
-}
-
-// Reads the capture and runs the program over it.
-fn run_capture<D: Desk>(
-    alloc: Global,
-    desk: &mut D,
-    name: &str,
-    program: &OneTable16,
-) -> Result<Outputs, Stop>
-    requires { IsSized program.now }
+// The ports of a file.
+fn read_ports_file<D: Desk>(alloc: Global, desk: &mut D, name: &str) -> Result<Numbers, Stop>
     ensures moves { Moves [] (D.view desk.old) (D.view desk.new) }
     ensures gives { (file : Option (List ℕ)) → (D.view desk.old).told name.now ≡ Some file
-        → MatchResult result
-        (λ o. reports_end (program16 program.now) (capture_end file) ≡ Ok (record { sent = o.sent.items; report = o.report.items; line = o.line.items }))
-        (λ e. Loosely e (reports_end (program16 program.now) (capture_end file) ≡ Err e)) }
+        → MatchResult result (λ ports. ports_in file ≡ Ok ports) (λ e. Loosely e (ports_in file ≡ Err e)) }
+    ensures fits { IfOk result (λ ports. All (λ port. port ≤ 510) ports) }
     ensures cause { Blames result (Rose ((D.view desk.old).reads name.now) ((D.view desk.new).reads name.now)) }
 {
-    let capture = read_packets(alloc, desk, name)?;
-    Ok(run_packets(alloc, program, &capture)?)
-}
-
-// Appends the sent file and the report.
-fn finish<D: Desk>(desk: &mut D, names: &Names<'_>, outputs: &Outputs) -> Result<(), Stop>
-    requires sent_there { (D.view desk.old).told names.now.sent.now ≡ Some None → ⊥ }
-    requires report_there { (D.view desk.old).told names.now.report.now ≡ Some None → ⊥ }
-    ensures moves { Moves (names.now.sent.now ∷ names.now.report.now ∷ []) (D.view desk.old) (D.view desk.new) }
-    ensures sent { OnOk result ((D.view desk.new).told names.now.sent.now ≡ grown ((D.view desk.old).told names.now.sent.now) outputs.now.sent.items) }
-    ensures report { OnOk result ((D.view desk.new).told names.now.report.now ≡ grown ((D.view desk.old).told names.now.report.now) outputs.now.report.items) }
-    ensures part_sent { OnErr result (GrownByFront ((D.view desk.old).told names.now.sent.now) outputs.now.sent.items ((D.view desk.new).told names.now.sent.now)) }
-    ensures part_report { OnErr result (GrownByFront ((D.view desk.old).told names.now.report.now) outputs.now.report.items ((D.view desk.new).told names.now.report.now)) }
-    ensures only { IfErr result (λ e. e ≡ Stop.Fault) }
-    ensures cause { OnErr result (Rose ((D.view desk.old).writes names.now.sent.now) ((D.view desk.new).writes names.now.sent.now)
-        ⊎ Rose ((D.view desk.old).writes names.now.report.now) ((D.view desk.new).writes names.now.report.now)) }
-{
-    append_all(desk, names.sent, &outputs.sent)?;
-    append_all(desk, names.report, &outputs.report)?;
-    Ok(())
+    let text = match read_file(alloc, desk, name, PORTS_LIMIT) {
+        Ok(text) => text,
+        Err(ReadFault::Limit) => return Err(Stop::Limit(Limited::Ports)),
+        Err(ReadFault::Failed) => return Err(Stop::Fault),
+        Err(ReadFault::Memory) => return Err(Stop::Memory),
+    };
+    match pcap_io::read_ports(alloc, &text) {
+        Ok(ports) => Ok(ports.list),
+        Err(PortFault::Refused(fault)) => Err(Stop::Refused(fault)),
+        Err(PortFault::Memory) => Err(Stop::Memory),
+    }
 }
 
 // All the work of the command, with its parts one after another.
@@ -214,11 +178,10 @@ fn work<D: Desk>(alloc: Global, desk: &mut D, names: &Names<'_>) -> Result<Vec<u
     ensures leaves { (files : List ℕ → Option (List ℕ)) → Tells (inputs_of (files_of names.now)) (D.view desk.old) files
         → Leaves (outputs_of (files_of names.now)) (CarryDue (files_of names.now) files) (line_view result) (D.view desk.old) (D.view desk.new) }
 {
-    let translation = plan(alloc, desk, names)?;
-    begin(desk, names, translation.text.as_slice())?;
-    let outputs = run_capture(alloc, desk, names.capture, &translation.program)?;
-    finish(desk, names, &outputs)?;
-    Ok(outputs.line)
+    let beginning = prepare(alloc, desk, names)?;
+    begin(desk, names, beginning.text.as_slice())?;
+    let ports = beginning.ports.as_slice();
+    run_capture(alloc, desk, names, &beginning.program, ports)
 }
 
 /// The command `carry`: the line that it prints, or why it stops.

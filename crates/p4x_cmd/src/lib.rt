@@ -1,16 +1,14 @@
 //! The commands of `p4x` over a desk of files and a sink to print to.
 #![tactic(auto)]
 
-mod captures;
+mod capture;
 mod carry;
 mod lowering;
 mod names;
 mod one_table;
-mod packets;
 mod reader;
-mod reports;
-mod runner;
 mod stop;
+mod stream;
 mod tokens;
 mod top;
 mod words;
@@ -18,7 +16,6 @@ mod writer;
 
 pub use names::Names;
 pub use one_table::{Field, OneTable14, OneTable16};
-pub use packets::{Arrival, Capture, RunResult, Sent};
-pub use stop::Stop;
+pub use stop::{Limited, Stop};
 pub use tokens::Token;
 pub use top::p4x;

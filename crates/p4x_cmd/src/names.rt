@@ -10,6 +10,8 @@ pub struct Names<'a> {
     pub entries: &'a str,
     /// The capture of the packets that arrive.
     pub capture: &'a str,
+    /// The ports that they arrive on, where these are named.
+    pub ports: Option<&'a str>,
     /// The P4_16 program that is written.
     pub text: &'a str,
     /// The capture of the packets that are sent.

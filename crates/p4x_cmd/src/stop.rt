@@ -2,12 +2,21 @@
 ghost use Rattle.std.specs.Prelude.{◌≡◌};
 ghost use Rattle.p4x_fault.specs.Fault.{refusal_line};
 ghost use Rattle.p4x_io.specs.Files.{Says};
-ghost use Rattle.p4x_cmd.specs.Stops.{stop_code, stop_line};
+ghost use Rattle.p4x_cmd.specs.Stops.{limit_line, stop_code, stop_line};
 ghost use Rattle.p4x_cmd.specs.declared.stop.Stop.TheVariants.{Fault, Memory};
 
 use p4x_bits::OutOfMemory;
 use p4x_fault::{Fault, Place, Rule, print};
 use p4x_io::{Failed, Sink, say};
+
+/// A file with a limit of its own that is over it.
+#[derive(Clone, Copy, Debug, PartialEq, Eq, Drop)]
+pub enum Limited {
+    /// The ports file.
+    Ports,
+    /// The capture.
+    Capture,
+}
 
 /// Why a command ends without status 0.
 #[derive(Clone, Copy, Debug, PartialEq, Eq, Drop)]
@@ -20,8 +29,10 @@ pub enum Stop {
     Program,
     /// The entries aren't such as are taken: status 4.
     Entries,
-    /// The capture isn't one that is taken: status 5.
-    Capture,
+    /// The ports break a P rule, or the capture a K rule: status 5.
+    Refused(Fault),
+    /// A file has more octets than its limit: status 6.
+    Limit(Limited),
     /// There was no memory left: status 7.
     Memory,
 }
@@ -51,8 +62,19 @@ pub(crate) fn say_stop<K: Sink>(out: &mut K, stop: Stop) -> u8
         Stop::Usage => say(out, b"usage\n", 2),
         Stop::Program => say_refusal(out, Rule::C(25), None, 3),
         Stop::Entries => say_refusal(out, Rule::E(1), Some(START), 4),
-        Stop::Capture => say_refusal(out, Rule::K(2), None, 5),
+        Stop::Refused(fault) => say_refusal(out, fault.rule, fault.place, 5),
+        Stop::Limit(file) => say_limit(out, file),
         Stop::Memory => say(out, b"no memory\n", 7),
+    }
+}
+
+/// Prints the line of a file that is over its limit.
+fn say_limit<K: Sink>(out: &mut K, file: Limited) -> u8
+    ensures { Says (limit_line file) 6 result (K.view out.old) (K.view out.new) }
+{
+    match file {
+        Limited::Ports => say(out, b"limit ports\n", 6),
+        Limited::Capture => say(out, b"limit capture\n", 6),
     }
 }
 

@@ -1,7 +1,7 @@
 use Rattle.std.proofs.Common.{◌≡◌, ℕ, List, [], ◌∷◌, ◌++◌, Some, None, codes, ◌∙◌, ap, subst, arith}
 use Rattle.std.specs.Fmt.{decimal}
 use Rattle.std.proofs.lemmas.Fmt.{decimal_digit, decimal_step}
-use Rattle.p4x_fault.specs.declared.Rule.TheVariants.{C, E, K}
+use Rattle.p4x_fault.specs.declared.Rule.TheVariants.{C, E}
 use Rattle.p4x_fault.specs.Fault.{refusal_line}
 use Rattle.p4x_io.specs.Desk.{SinkView}
 use Rattle.p4x_io.specs.Files.{Says}
@@ -16,16 +16,13 @@ two = decimal_digit 2 (omega arith)
 twenty_five : decimal 25 ≡ 50 ∷ 53 ∷ []
 twenty_five = decimal_step 25 (omega arith) (omega arith) ∙ ap (λ (l : List ℕ). l ++ (53 ∷ [])) two
 
--- the lines of the refusals
+-- the lines of the refusals whose rule is fixed
 
 program_line : refusal_line (record { rule = C 25; place = None }) ≡ codes "refused C25\n"
 program_line = ap (λ (l : List ℕ). codes "refused " ++ (codes "C" ++ l) ++ [] ++ codes "\n") twenty_five
 
 entries_line : refusal_line (record { rule = E 1; place = Some (record { line = 1; column = 1 }) }) ≡ codes "refused E1 at 1:1\n"
 entries_line = ap (λ (l : List ℕ). codes "refused " ++ (codes "E" ++ l) ++ (codes " at " ++ l ++ codes ":" ++ l) ++ codes "\n") one
-
-capture_line : refusal_line (record { rule = K 2; place = None }) ≡ codes "refused K2\n"
-capture_line = ap (λ (l : List ℕ). codes "refused " ++ (codes "K" ++ l) ++ [] ++ codes "\n") two
 
 -- what is said of a line is said of an equal one
 of_equal : (a b : List ℕ) (due status : ℕ) (old new : SinkView) → a ≡ b → Says a due status old new → Says b due status old new
@@ -36,6 +33,3 @@ returns-in-Program g c = rw c.in-Program.is (of_equal _ _ _ _ _ _ program_line c
 
 pub returns-in-Entries : goal.returns-in-Entries
 returns-in-Entries g c = rw c.in-Entries.is (of_equal _ _ _ _ _ _ entries_line c.say_refusal-in-Entries.ensures)
-
-pub returns-in-Capture : goal.returns-in-Capture
-returns-in-Capture g c = rw c.in-Capture.is (of_equal _ _ _ _ _ _ capture_line c.say_refusal-in-Capture.ensures)

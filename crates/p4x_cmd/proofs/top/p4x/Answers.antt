@@ -1,4 +1,4 @@
-use Rattle.p4x_cmd.proofs.Causes.{carried_is, fault_is, usage_is, words_are, due_is, accepts_is, program_is, entries_is, capture_is, kept_where, translated_where, fronts_is, prints_is}
+use Rattle.p4x_cmd.proofs.Causes.{carried_is, fault_is, usage_is, words_are, due_is, accepts_is, program_is, entries_is, refuses_is, limits_is, kept_is, translated_is, fronts_is, prints_is}
 use Rattle.p4x_cmd.proofs.top.p4x.Goals as goal
 
 pub returns-clause-carried : goal.returns-clause-carried
@@ -25,14 +25,17 @@ returns-clause-program g c = program_is _ _ _ _ _ _ c.run.ensures
 pub returns-clause-entries : goal.returns-clause-entries
 returns-clause-entries g c = entries_is _ _ _ _ _ _ c.run.ensures
 
-pub returns-clause-capture : goal.returns-clause-capture
-returns-clause-capture g c = capture_is _ _ _ _ _ _ c.run.ensures
+pub returns-clause-refuses : goal.returns-clause-refuses
+returns-clause-refuses g c = refuses_is _ _ _ _ _ _ c.run.ensures
+
+pub returns-clause-limits : goal.returns-clause-limits
+returns-clause-limits g c = limits_is _ _ _ _ _ _ c.run.ensures
 
 pub returns-clause-kept : goal.returns-clause-kept
-returns-clause-kept g c = kept_where _ _ _ _ _ _ c.run.ensures
+returns-clause-kept g c = kept_is _ _ _ _ _ _ c.run.ensures
 
 pub returns-clause-translated : goal.returns-clause-translated
-returns-clause-translated g c = translated_where _ _ _ _ _ _ c.run.ensures
+returns-clause-translated g c = translated_is _ _ _ _ _ _ c.run.ensures
 
 pub returns-clause-fronts : goal.returns-clause-fronts
 returns-clause-fronts g c = fronts_is _ _ _ _ _ _ c.run.ensures

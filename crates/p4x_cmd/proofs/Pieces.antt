@@ -1,0 +1,294 @@
+-- What the pieces of a capture leave on the desk.
+use Rattle.std.proofs.Common.{◌≡◌, ◌⊎◌, inl, inr, ℕ, suc, ◌+◌, ◌<◌, ◌≤◌, min, nat_le, Bool, true, false, List, [], ◌∷◌, ◌++◌, length, take, drop, Option, Some, None, Result, Ok, Err, IsErrAnd, refl, sym, ◌∙◌, ap, subst, arith, leb-true}
+use Rattle.std.proofs.lemmas.Bool.Decides.{nat_tests}
+use Rattle.std.proofs.lemmas.List.{append-nil, take_all, take-append-le, take-append-drop}
+use Rattle.std.specs.List.{All}
+use Rattle.std.proofs.Math.Seq.{take-append-add}
+use Rattle.p4x_fault.specs.declared.Fault.{Fault as Refusal}
+use Rattle.p4x_io.specs.Desk.{grown}
+use Rattle.p4x_io.proofs.Desks.{grown_none, grown-grown}
+use Rattle.p4x_io.proofs.Reading.{Front}
+use Rattle.pcap_io.specs.declared.records.Record.{Record}
+use Rattle.pcap_io.specs.Captures.{Reading, reading_of, IsRecord}
+use Rattle.pcap_io.specs.Reader.{fed, fed_by}
+use Rattle.pcap_io.proofs.Feeding.{fed_more}
+use Rattle.pcap_io.proofs.Opening.{unread}
+use Rattle.fabric.specs.declared.packets.Arrival.{Arrival}
+use Rattle.p4x_cmd.specs.declared.stop.Stop.{Stop}
+use Rattle.p4x_cmd.specs.declared.stop.Stop.TheVariants.{Fault, Refused, Memory}
+use Rattle.p4x_cmd.specs.Carry.{capture_limit}
+use Rattle.p4x_cmd.specs.Outcomes.{GrownByFront}
+use Rattle.p4x_cmd.specs.declared.stream.Plain.{Plain}
+use Rattle.p4x_cmd.specs.Passes.{Pass}
+use Rattle.p4x_cmd.specs.Plain.{plain_pass}
+use Rattle.p4x_cmd.specs.Streams.{View, Agrees, start, begun, arrival_of, with_pass, after_one, after_all, run_view, emptied, drained, nothing_read, Streamed, Cut, Refuses, PieceEnds, PiecesEnd}
+use Rattle.p4x_cmd.proofs.Streams.{preceded, next_view, more}
+
+-- a file that had grown by a front of a text, and then by a front of what stands behind that
+pub grown_part : (told before after : Option (Option (List ℕ))) (front rest whole : List ℕ) → whole ≡ front ++ rest → before ≡ grown told front → GrownByFront before rest after → GrownByFront told whole after
+grown_part told before after front rest whole is had some = (
+  length front + some.0,
+  some.1 ∙ ap (λ (t : Option (Option (List ℕ))). grown t (take some.0 rest)) had ∙ grown-grown told front (take some.0 rest)
+      ∙ ap (grown told) (sym (take-append-add front rest some.0) ∙ sym (ap (take (length front + some.0)) is)),
+)
+
+pub grown_whole : (told before after : Option (Option (List ℕ))) (front rest whole : List ℕ) → whole ≡ front ++ rest → before ≡ grown told front → after ≡ grown before rest → after ≡ grown told whole
+grown_whole told before after front rest whole is had now =
+    now ∙ ap (λ (t : Option (Option (List ℕ))). grown t rest) had ∙ grown-grown told front rest ∙ ap (grown told) (sym is)
+
+pub grown_still : (told : Option (Option (List ℕ))) (rest : List ℕ) → GrownByFront told rest told
+grown_still told rest = (0, sym (grown_none told))
+
+all_agree : (pass : Arrival → Pass) (plain : Plain) → Agrees pass plain → (records : List Record) → All IsRecord records → (v : View)
+    → after_all (plain_pass plain.bits plain.port) records v ≡ after_all pass records v
+unfolding after_all
+all_agree pass plain agrees [] known v = refl
+all_agree pass plain agrees (one ∷ records) known v =
+    let a = arrival_of v.ports one in
+    let is = agrees a (known 0 one (omega arith)).octets in
+    ap (λ (p : Pass). after_all (plain_pass plain.bits plain.port) records (with_pass a p v)) (sym is)
+    ∙ all_agree pass plain agrees records (λ k d inside. known (suc k) d (omega arith)) (after_one pass one v)
+
+module _ (pass : Arrival → Pass) (ports octets piece : List ℕ) (unbroken : (reading_of octets).fault ≡ None) where
+  abbrev whole : View
+  whole = run_view pass ports (reading_of octets)
+
+  abbrev later : View
+  later = run_view pass ports (reading_of (octets ++ piece))
+
+  -- what the further piece gives
+  abbrev added : View
+  added =
+      after_all pass (fed (drained (reading_of octets)) piece).records (begun (fed (drained (reading_of octets)) piece).head (emptied whole))
+
+  pub later_is : later ≡ preceded whole.sent whole.report added
+  later_is = next_view pass ports octets piece unbroken whole refl
+
+  fed_is : fed (drained (reading_of octets)) piece ≡ more pass ports octets piece
+  fed_is = ap (λ (f : Option Refusal). fed_by f (drained (reading_of octets)) piece) unbroken
+
+  reading_is : reading_of (octets ++ piece) ≡ fed_by None (reading_of octets) piece
+  reading_is = fed_more octets piece ∙ ap (λ (f : Option Refusal). fed_by f (reading_of octets) piece) unbroken
+
+  pub fault_after : (reading_of (octets ++ piece)).fault ≡ (fed (drained (reading_of octets)) piece).fault
+  fault_after = ap (λ (r : Reading). r.fault) reading_is ∙ sym (ap (λ (r : Reading). r.fault) fed_is)
+
+  pub drained_after : drained (fed (drained (reading_of octets)) piece) ≡ drained (reading_of (octets ++ piece))
+  drained_after = ap drained fed_is ∙ sym (ap drained reading_is)
+
+  module _ (sent report sent0 report0 sent1 report1 : Option (Option (List ℕ))) (reader0 reader1 : Reading) (stream0 stream1 stream2 : View) (plain : Plain) (agrees : Agrees pass plain)
+      (so : Streamed pass ports octets sent report sent0 report0 reader0 stream0) where
+    abbrev read : Reading
+    read = fed reader0 piece
+
+    -- what the code gives
+    abbrev ran_is : Type 0
+    ran_is = All IsRecord read.records × (stream1 ≡ after_all (plain_pass plain.bits plain.port) read.records (begun read.head stream0))
+
+    read_is : read ≡ fed (drained (reading_of octets)) piece
+    read_is = ap (λ (r : Reading). fed r piece) so.reader_is
+
+    stream_added : ran_is → stream1 ≡ added
+    stream_added ran =
+        ran.1 ∙ all_agree pass plain agrees read.records ran.0 (begun read.head stream0)
+        ∙ ap (λ (r : Reading). after_all pass r.records (begun r.head stream0)) read_is
+        ∙ ap (λ (v : View). after_all pass (fed (drained (reading_of octets)) piece).records (begun (fed (drained (reading_of octets)) piece).head v)) so.stream_is
+
+    later_sent : ran_is → later.sent ≡ whole.sent ++ stream1.sent
+    later_sent ran = ap (λ (v : View). v.sent) later_is ∙ ap (λ (v : View). whole.sent ++ v.sent) (sym (stream_added ran))
+
+    later_report : ran_is → later.report ≡ whole.report ++ stream1.report
+    later_report ran = ap (λ (v : View). v.report) later_is ∙ ap (λ (v : View). whole.report ++ v.report) (sym (stream_added ran))
+
+    -- nothing of the piece was appended
+    pub piece_unread : (stop : Stop) → (stop ≡ Fault) ⊎ (stop ≡ Memory) → sent1 ≡ sent0 → report1 ≡ report0 → Cut later sent report sent1 report1 stop
+    piece_unread stop is same_sent same_report = (
+      is,
+      grown_part sent sent0 sent1 whole.sent added.sent later.sent (ap (λ (v : View). v.sent) later_is) so.sent_is
+          (subst (λ (t : Option (Option (List ℕ))). GrownByFront sent0 added.sent t) (sym same_sent) (grown_still sent0 added.sent)),
+      grown_part report report0 report1 whole.report added.report later.report (ap (λ (v : View). v.report) later_is) so.report_is
+          (subst (λ (t : Option (Option (List ℕ))). GrownByFront report0 added.report t) (sym same_report) (grown_still report0 added.report)),
+    )
+
+    -- the desk failed while what the piece gives was appended
+    pub piece_cut : (stop : Stop) → stop ≡ Fault → ran_is → GrownByFront sent0 stream1.sent sent1 → GrownByFront report0 stream1.report report1 → Cut later sent report sent1 report1 stop
+    piece_cut stop is ran some_sent some_report = (
+      inl is,
+      grown_part sent sent0 sent1 whole.sent stream1.sent later.sent (later_sent ran) so.sent_is some_sent,
+      grown_part report report0 report1 whole.report stream1.report later.report (later_report ran) so.report_is some_report,
+    )
+
+    -- the piece breaks a rule
+    pub piece_refused : (fault : Refusal) → ran_is → Some fault ≡ read.fault → sent1 ≡ grown sent0 stream1.sent → report1 ≡ grown report0 stream1.report
+        → Refuses pass ports (octets ++ piece) sent report sent1 report1 (Refused fault)
+    piece_refused fault ran is now_sent now_report = (
+      fault,
+      refl,
+      fault_after ∙ ap (λ (r : Reading). r.fault) (sym read_is) ∙ sym is,
+      grown_whole sent sent0 sent1 whole.sent stream1.sent later.sent (later_sent ran) so.sent_is now_sent,
+      grown_whole report report0 report1 whole.report stream1.report later.report (later_report ran) so.report_is now_report,
+    )
+
+    -- the piece was read and run
+    pub piece_run : ran_is → reader1 ≡ drained read → None ≡ read.fault → sent1 ≡ grown sent0 stream1.sent → report1 ≡ grown report0 stream1.report → stream2 ≡ emptied stream1
+        → ((reading_of (octets ++ piece)).fault ≡ None) × Streamed pass ports (octets ++ piece) sent report sent1 report1 reader1 stream2
+    piece_run ran drains is now_sent now_report now = (
+      fault_after ∙ ap (λ (r : Reading). r.fault) (sym read_is) ∙ sym is,
+      record {
+        reader_is = drains ∙ ap drained read_is ∙ drained_after;
+        stream_is = now ∙ ap emptied (stream_added ran) ∙ ap emptied (sym later_is);
+        sent_is = grown_whole sent sent0 sent1 whole.sent stream1.sent later.sent (later_sent ran) so.sent_is now_sent;
+        report_is = grown_whole report report0 report1 whole.report stream1.report later.report (later_report ran) so.report_is now_report;
+      },
+    )
+
+-- What octets come to once more octets stand behind them.
+
+pub refused_on : (octets rest : List ℕ) (fault : Refusal) → (reading_of octets).fault ≡ Some fault → reading_of (octets ++ rest) ≡ reading_of octets
+refused_on octets rest fault is = fed_more octets rest ∙ ap (λ (f : Option Refusal). fed_by f (reading_of octets) rest) is
+
+record Fronts (front total : View) : Type 0 where
+  sent_more : List ℕ
+  report_more : List ℕ
+  sent_is : total.sent ≡ front.sent ++ sent_more
+  report_is : total.report ≡ front.report ++ report_more
+
+view_front : (pass : Arrival → Pass) (ports octets rest : List ℕ) → Fronts (run_view pass ports (reading_of octets)) (run_view pass ports (reading_of (octets ++ rest)))
+view_front pass ports octets rest = by_fault (reading_of octets).fault refl
+  where
+    by_fault : (fault : Option Refusal) → (reading_of octets).fault ≡ fault → Fronts (run_view pass ports (reading_of octets)) (run_view pass ports (reading_of (octets ++ rest)))
+    by_fault None is =
+        let all = later_is pass ports octets rest is in
+        record {
+          sent_more = (added pass ports octets rest is).sent;
+          report_more = (added pass ports octets rest is).report;
+          sent_is = ap (λ (v : View). v.sent) all;
+          report_is = ap (λ (v : View). v.report) all;
+        }
+    by_fault (Some fault) is =
+        let same = ap (run_view pass ports) (refused_on octets rest fault is) in
+        record {
+          sent_more = [];
+          report_more = [];
+          sent_is = ap (λ (v : View). v.sent) same ∙ sym (append-nil (run_view pass ports (reading_of octets)).sent);
+          report_is = ap (λ (v : View). v.report) same ∙ sym (append-nil (run_view pass ports (reading_of octets)).report);
+        }
+
+take_front : (n : ℕ) (front rest : List ℕ) → take (min n (length front)) (front ++ rest) ≡ take n front
+take_front n front rest =
+    take-append-le (min n (length front)) front rest (omega arith) ∙ by_size (nat_le n (length front)) refl
+  where
+    by_size : (fits : Bool) → nat_le n (length front) ≡ fits → take (min n (length front)) front ≡ take n front
+    by_size true e = let same : min n (length front) ≡ n = omega (arith, leb-true n (length front) e) in ap (λ (k : ℕ). take k front) same
+    by_size false e =
+        let past : length front < n = grind (arith, nat_tests) in
+        let same : min n (length front) ≡ length front = omega arith in
+        ap (λ (k : ℕ). take k front) same ∙ take_all (length front) front (omega arith) ∙ sym (take_all n front (omega arith))
+
+-- a file that has grown by a front of a front
+pub grown_front : (told after : Option (Option (List ℕ))) (front rest total : List ℕ) → total ≡ front ++ rest → GrownByFront told front after → GrownByFront told total after
+grown_front told after front rest total is some =
+    (min some.0 (length front), some.1 ∙ ap (grown told) (sym (take_front some.0 front rest) ∙ sym (ap (take (min some.0 (length front))) is)))
+
+module _ (pass : Arrival → Pass) (ports octets rest text : List ℕ) (is : text ≡ octets ++ rest) (sent report sent' report' : Option (Option (List ℕ))) where
+  cut_parts : (front total : View) → Fronts front total → (stop : Stop) → Cut front sent report sent' report' stop → Cut total sent report sent' report' stop
+  cut_parts front total parts stop cut = (
+    cut.0,
+    grown_front sent sent' front.sent parts.sent_more total.sent parts.sent_is cut.1,
+    grown_front report report' front.report parts.report_more total.report parts.report_is cut.2,
+  )
+
+  cut_on : (stop : Stop) → Cut (run_view pass ports (reading_of octets)) sent report sent' report' stop → Cut (run_view pass ports (reading_of text)) sent report sent' report' stop
+  cut_on stop cut =
+      subst (λ (l : List ℕ). Cut (run_view pass ports (reading_of l)) sent report sent' report' stop) (sym is)
+      (cut_parts (run_view pass ports (reading_of octets)) (run_view pass ports (reading_of (octets ++ rest))) (view_front pass ports octets rest) stop cut)
+
+  refuses_on : (stop : Stop) → Refuses pass ports octets sent report sent' report' stop → Refuses pass ports text sent report sent' report' stop
+  refuses_on stop so =
+      let same : reading_of text ≡ reading_of octets = ap reading_of is ∙ refused_on octets rest so.0 so.2 in (
+        so.0,
+        so.1,
+        ap (λ (r : Reading). r.fault) same ∙ so.2,
+        so.3 ∙ ap (λ (r : Reading). grown sent (run_view pass ports r).sent) (sym same),
+        so.4 ∙ ap (λ (r : Reading). grown report (run_view pass ports r).report) (sym same),
+      )
+
+  -- a piece that ended the run ends it for the total file
+  pub piece_ends : (reader : Reading) (stream : View) (stop : Stop) → PieceEnds pass ports octets sent report sent' report' reader stream (Err stop)
+      → PieceEnds pass ports text sent report sent' report' reader stream (Err stop)
+  piece_ends reader stream stop (inl refuses) = inl (refuses_on stop refuses)
+  piece_ends reader stream stop (inr cut) = inr (cut_on stop cut)
+
+-- the run before the first piece
+
+pub nothing : reading_of [] ≡ nothing_read
+nothing = unread [] (omega arith)
+
+pub unbroken_start : (reading_of []).fault ≡ None
+unbroken_start = ap (λ (r : Reading). r.fault) nothing
+
+empty_view : (pass : Arrival → Pass) (ports : List ℕ) → run_view pass ports (reading_of []) ≡ start ports
+unfolding after_all
+empty_view pass ports = ap (run_view pass ports) nothing
+
+pub streamed_start : (pass : Arrival → Pass) (ports : List ℕ) (sent report : Option (Option (List ℕ))) (reader : Reading) (stream : View) → reader ≡ nothing_read → stream ≡ start ports
+    → Streamed pass ports [] sent report sent report reader stream
+streamed_start pass ports sent report reader stream unread started =
+    let view = empty_view pass ports in
+    record {
+      reader_is = unread ∙ sym (ap drained nothing);
+      stream_is = started ∙ sym (ap emptied view);
+      sent_is = sym (grown_none sent) ∙ ap (λ (v : View). grown sent v.sent) (sym view);
+      report_is = sym (grown_none report) ∙ ap (λ (v : View). grown report v.report) (sym view);
+    }
+
+-- the same with other names of the files, which are as they were
+pub streamed_still : (pass : Arrival → Pass) (ports octets : List ℕ) (sent report sent' report' sent'' report'' : Option (Option (List ℕ))) (reader : Reading) (stream : View)
+    → sent'' ≡ sent' → report'' ≡ report' → Streamed pass ports octets sent report sent' report' reader stream → Streamed pass ports octets sent report sent'' report'' reader stream
+streamed_still pass ports octets sent report sent' report' sent'' report'' reader stream same_sent same_report so =
+    record { reader_is = so.reader_is; stream_is = so.stream_is; sent_is = same_sent ∙ so.sent_is; report_is = same_report ∙ so.report_is }
+
+front_split : (octets text : List ℕ) → take (length octets) text ≡ octets → text ≡ octets ++ drop (length octets) text
+front_split octets text front = sym (take-append-drop (length octets) text) ∙ ap (λ (l : List ℕ). l ++ drop (length octets) text) front
+
+module _ (pass : Arrival → Pass) (ports octets : List ℕ) (sent report sent' report' : Option (Option (List ℕ))) (reader : Reading) (stream : View) (plain : Plain) (agrees : Agrees pass plain)
+    (unbroken : (reading_of octets).fault ≡ None) (so : Streamed pass ports octets sent report sent' report' reader stream) where
+  -- the desk failed before a further piece
+  pub pieces_cut : (file : Option (List ℕ)) → Front file octets → (sent'' report'' : Option (Option (List ℕ))) (end : Result (Unit {0}) Stop) (stop : Stop) → sent'' ≡ sent' → report'' ≡ report' → stop ≡ Fault → end ≡ Err stop
+      → PiecesEnd pass ports file sent report sent'' report'' reader stream end
+  pieces_cut None front sent'' report'' end stop same_sent same_report is ends =
+      let none : run_view pass ports (reading_of octets) ≡ run_view pass ports (reading_of []) = ap (λ (l : List ℕ). run_view pass ports (reading_of l)) front in
+      let empty = empty_view pass ports in
+      subst (λ (e : Result (Unit {0}) Stop). IsErrAnd e (λ s. ((s ≡ Fault) ⊎ (s ≡ Memory)) × (sent'' ≡ sent) × (report'' ≡ report))) (sym ends) (
+        inl is,
+        same_sent ∙ so.sent_is ∙ ap (λ (v : View). grown sent v.sent) (none ∙ empty) ∙ grown_none sent,
+        same_report ∙ so.report_is ∙ ap (λ (v : View). grown report v.report) (none ∙ empty) ∙ grown_none report,
+      )
+  pieces_cut (Some text) front sent'' report'' end stop same_sent same_report is ends = λ fits.
+      let rest = drop (length octets) text in
+      let cut = piece_unread pass ports octets rest unbroken sent report sent' report' sent'' report'' reader reader stream stream stream plain agrees so stop (inl is) same_sent same_report in
+      subst (λ (e : Result (Unit {0}) Stop). PieceEnds pass ports text sent report sent'' report'' reader stream e) (sym ends)
+      (inr (subst (λ (l : List ℕ). Cut (run_view pass ports (reading_of l)) sent report sent'' report'' stop) (sym (front_split octets text front)) cut))
+
+  -- the file ends behind these octets
+  pub pieces_end : (file : Option (List ℕ)) (sent'' report'' : Option (Option (List ℕ))) → sent'' ≡ sent' → report'' ≡ report' → file ≡ Some octets
+      → PiecesEnd pass ports file sent report sent'' report'' reader stream (Ok tt)
+  pieces_end file sent'' report'' same_sent same_report is =
+      subst (λ (f : Option (List ℕ)). PiecesEnd pass ports f sent report sent'' report'' reader stream (Ok tt)) (sym is)
+      (λ fits. (unbroken, streamed_still pass ports octets sent report sent' report' sent'' report'' reader stream same_sent same_report so))
+
+  -- so many octets were read as a file may have
+  pub pieces_all : (file : Option (List ℕ)) → Front file octets → capture_limit ≤ length octets → PiecesEnd pass ports file sent report sent' report' reader stream (Ok tt)
+  pieces_all None front many = absurd (omega (arith, ap length front))
+  pieces_all (Some text) front many = λ fits.
+      let same : text ≡ octets = sym (take_all (length octets) text (omega arith)) ∙ front in
+      subst (λ (l : List ℕ). PieceEnds pass ports l sent report sent' report' reader stream (Ok tt)) (sym same) (unbroken, so)
+
+-- what ended the run at a piece that came to these octets
+pub pieces_stop : (pass : Arrival → Pass) (ports octets : List ℕ) (sent report sent' report' : Option (Option (List ℕ))) (reader : Reading) (stream : View) (file : Option (List ℕ)) (end : Result (Unit {0}) Stop) (stop : Stop)
+    → (file ≡ None → ⊥) → Front file octets → end ≡ Err stop → PieceEnds pass ports octets sent report sent' report' reader stream end → PiecesEnd pass ports file sent report sent' report' reader stream end
+pieces_stop pass ports octets sent report sent' report' reader stream None end stop there front is so = absurd (there refl)
+pieces_stop pass ports octets sent report sent' report' reader stream (Some text) end stop there front is so = λ fits.
+    subst (λ (e : Result (Unit {0}) Stop). PieceEnds pass ports text sent report sent' report' reader stream e) (sym is)
+    (piece_ends pass ports octets (drop (length octets) text) text (front_split octets text front) sent report sent' report' reader stream stop
+    (subst (λ (e : Result (Unit {0}) Stop). PieceEnds pass ports octets sent report sent' report' reader stream e) is so))

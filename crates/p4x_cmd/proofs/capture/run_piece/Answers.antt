@@ -1,0 +1,30 @@
+use Rattle.std.proofs.Common.{inl, inr, refl, sym, ◌∙◌}
+use Rattle.std.proofs.lemmas.Result.{err_from_is_err_and}
+use Rattle.p4x_cmd.specs.Streams.{view_of}
+use Rattle.p4x_cmd.proofs.Pieces.{piece_unread, piece_cut, piece_refused, piece_run}
+use Rattle.p4x_cmd.proofs.capture.run_piece.Goals as goal
+
+pub returns-in_err-refused-clause-ran : goal.returns-in_err-refused-clause-ran
+returns-in_err-refused-clause-ran g c = λ pass ports octets sent report agrees unbroken so.
+    let p = err_from_is_err_and c.from_residual.result c.from_residual.ensures.1 in
+    let before = view_of c.args.stream.now in
+    rw p.1 (inr (piece_unread pass ports octets _ unbroken sent report _ _ _ _ _ c.args.reader.now _ before before _ agrees so p.0 (inr p.2) refl refl))
+
+pub returns-in_err-flush-clause-ran : goal.returns-in_err-flush-clause-ran
+returns-in_err-flush-clause-ran g c = λ pass ports octets sent report agrees unbroken so.
+    let p = err_from_is_err_and c.from_residual-in_err-flush.result c.from_residual-in_err-flush.ensures.1 in
+    let given = c.in_ok-refused.ensures in
+    let done = c.in_err-flush.ensures in
+    rw p.1 (inr (piece_cut pass ports octets _ unbroken sent report _ _ _ _ _ c.args.reader.now _ _ (view_of c.args.stream.now) _ agrees so p.0 (p.2 ∙ done.only) (given.known, given.ran) done.part_sent done.part_report))
+
+pub returns-in-Some-clause-ran : goal.returns-in-Some-clause-ran
+returns-in-Some-clause-ran g c = λ pass ports octets sent report agrees unbroken so.
+    let given = c.in_ok-refused.ensures in
+    let done = c.in_ok-flush.ensures in
+    inl (piece_refused pass ports octets _ unbroken sent report _ _ _ _ _ c.args.reader.now _ _ (view_of c.args.stream.now) _ agrees so _ (given.known, given.ran) (sym c.in-Some.is ∙ given.refused) done.sent done.report)
+
+pub returns-in-None-clause-ran : goal.returns-in-None-clause-ran
+returns-in-None-clause-ran g c = λ pass ports octets sent report agrees unbroken so.
+    let given = c.in_ok-refused.ensures in
+    let done = c.in_ok-flush.ensures in
+    piece_run pass ports octets _ unbroken sent report _ _ _ _ _ _ _ _ _ _ agrees so (given.known, given.ran) given.reads (sym c.in-None.is ∙ given.refused) done.sent done.report done.emptied

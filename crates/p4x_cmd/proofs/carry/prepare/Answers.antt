@@ -1,0 +1,34 @@
+use Rattle.std.proofs.Common.{inr, [], option_to_list, ◌∙◌}
+use Rattle.std.proofs.lemmas.Result.{err_from_is_err_and}
+use Rattle.p4x_io.proofs.Desks.{moves_on}
+use Rattle.p4x_cmd.specs.Carry.{HasProgram}
+use Rattle.p4x_cmd.specs.Words.{files_of}
+use Rattle.p4x_cmd.proofs.Phases.{tells_on, reads_since, blames_as, stops_at_ports}
+use Rattle.p4x_cmd.proofs.carry.prepare.Goals as goal
+
+pub returns-in_err-ports-clause-stops : goal.returns-in_err-ports-clause-stops
+returns-in_err-ports-clause-stops g c = λ files told.
+    let p = err_from_is_err_and c.from_residual-in_err-ports.result c.from_residual-in_err-ports.ensures.1 in
+    let n = c.args.names.now in
+    let first = c.in_ok-program.ensures.moves in
+    let moves = moves_on [] _ _ _ first c.in_ok-check_entries.ensures.moves in
+    let has : HasProgram (files_of n) files c.in_ok-program.program = (c.in_ok-program.ensures.gives (files n.program.now) told.0, c.in_ok-check_entries.ensures.gives (files n.entries.now) (first.others n.entries.now tt ∙ told.1.0)) in
+    rw (p.1, p.2) (stops_at_ports (files_of n) files _ _ has (c.in_err-ports.ensures.gives files (tells_on (option_to_list (files_of n).ports) _ _ files moves told.1.1.1)))
+
+pub returns-in_err-ports-clause-cause : goal.returns-in_err-ports-clause-cause
+returns-in_err-ports-clause-cause g c =
+    let p = err_from_is_err_and c.from_residual-in_err-ports.result c.from_residual-in_err-ports.ensures.1 in
+    let moves = moves_on [] _ _ _ c.in_ok-program.ensures.moves c.in_ok-check_entries.ensures.moves in
+    rw (p.1, p.2) (blames_as _ _ _ (λ rose. inr (inr (inr (reads_since [] (option_to_list (files_of c.args.names.now).ports) _ _ _ moves rose)))) c.in_err-ports.ensures.cause)
+
+pub returns-clause-moves : goal.returns-clause-moves
+returns-clause-moves g c = moves_on [] _ _ _ c.in_ok-program.ensures.moves (moves_on [] _ _ _ c.in_ok-check_entries.ensures.moves c.in_ok-ports.ensures.moves)
+
+pub returns-clause-begins : goal.returns-clause-begins
+returns-clause-begins g c = λ files told.
+    let n = c.args.names.now in
+    let first = c.in_ok-program.ensures.moves in
+    let moves = moves_on [] _ _ _ first c.in_ok-check_entries.ensures.moves in
+    let has : HasProgram (files_of n) files c.in_ok-program.program = (c.in_ok-program.ensures.gives (files n.program.now) told.0, c.in_ok-check_entries.ensures.gives (files n.entries.now) (first.others n.entries.now tt ∙ told.1.0)) in
+    let ports = c.in_ok-ports.ensures.gives files (tells_on (option_to_list (files_of n).ports) _ _ files moves told.1.1.1) in
+    (_, (has, ports), c.in_ok-program-2.ensures.program)

@@ -1,0 +1,7 @@
+use Rattle.p4x_cmd.proofs.stop.say_limit.Goals as goal
+
+pub returns-in-Ports : goal.returns-in-Ports
+returns-in-Ports g c = rw c.in-Ports.is c.say.ensures
+
+pub returns-in-Capture : goal.returns-in-Capture
+returns-in-Capture g c = rw c.in-Capture.is c.say-in-Capture.ensures

@@ -1,0 +1,9 @@
+use Rattle.std.proofs.Common.{◌≡◌, map, string_bytes, length}
+use Rattle.p4x_cmd.specs.Words.{options_of, no_options, options_in}
+use Rattle.p4x_cmd.proofs.words.read_options.Given as goal
+
+abbrev pub invariant-loop-rest : goal.invariant-loop-rest
+invariant-loop-rest l = options_in (map string_bytes l.rest) (options_of l.found) ≡ options_in (map string_bytes l.words) no_options
+
+abbrev pub decreases-loop-rest : goal.decreases-loop-rest
+decreases-loop-rest l = length l.rest
