@@ -1,43 +1,32 @@
 // Each cause of a status other than 0, with the line that is printed and the files that are left.
-use crate::setting::{WORDS, capture, desk, expect_file, front, program, run, text};
-use p4x_io::MemorySink;
+use crate::expected::{Expected, expect_end, expect_files, stopped};
+use crate::setting::{WORDS, capture, desk, program, text};
 use std::alloc::Global;
 use std::process::Abort;
 use std::test::Fail;
 
-/// What the files hold, which call fails, and what comes of it. An output that isn't named isn't made.
+/// What the files hold, which call fails, how much can be printed, and what comes of it.
 #[derive(Drop)]
 struct Case<'a> {
     words: &'a [&'static str],
     program: &'a [u8],
     entries: &'a [u8],
-    capture: &'a [u8],
     read_fails: &'static str,
     append_fails: &'static str,
     room: usize,
-    status: u8,
-    line: &'a [u8],
-    text: Option<&'a [u8]>,
-    sent: Option<&'a [u8]>,
-    report: Option<&'a [u8]>,
+    expected: Expected<'a>,
 }
 
 fn expect_case(rt: &impl Abort, alloc: Global, case: &Case<'_>) -> Result<(), Fail> {
-    let mut desk = desk(alloc, case.program, case.entries, case.capture)?;
-    let mut sink = MemorySink::new(alloc, case.room)?;
+    let mut desk = desk(alloc, case.program, case.entries, capture())?;
     if !case.read_fails.is_empty() {
         desk.fail_read(case.read_fails, 1)?;
     }
     if !case.append_fails.is_empty() {
         desk.fail_append(case.append_fails, 1)?;
     }
-    let status = run(alloc, case.words, &mut desk, &mut sink)?;
-    assert_eq!(rt; status, case.status);
-    assert!(rt; sink.text() == case.line);
-    expect_file(rt, &desk, "t", case.text);
-    expect_file(rt, &desk, "s", case.sent);
-    expect_file(rt, &desk, "r", case.report);
-    expect_file(rt, &desk, "else", Some(b"x"));
+    expect_end(rt, alloc, case.words, case.room, &mut desk, case.expected)?;
+    expect_files(rt, &desk, case.expected);
     Ok(())
 }
 
@@ -54,15 +43,16 @@ fn expect_fault(
         words: &WORDS,
         program: program(),
         entries: b"",
-        capture: capture(),
         read_fails,
         append_fails,
         room: 100,
-        status: 1,
-        line: b"fault\n",
-        text,
-        sent: if made { Some(b"") } else { None },
-        report: if made { Some(b"") } else { None },
+        expected: Expected {
+            status: 1,
+            line: b"fault\n",
+            text,
+            sent: if made { Some(b"") } else { None },
+            report: if made { Some(b"") } else { None },
+        },
     };
     expect_case(rt, alloc, &case)
 }
@@ -89,15 +79,10 @@ fn expect_words<'a>(
         words,
         program: program(),
         entries: b"",
-        capture: capture(),
         read_fails: "",
         append_fails: "",
         room: 100,
-        status,
-        line,
-        text: None,
-        sent: None,
-        report: None,
+        expected: stopped(status, line),
     };
     expect_case(rt, alloc, &case)
 }
@@ -150,15 +135,10 @@ fn expect_refused<'a>(
         words: &WORDS,
         program,
         entries,
-        capture: capture(),
         read_fails: "",
         append_fails: "",
         room,
-        status,
-        line,
-        text: None,
-        sent: None,
-        report: None,
+        expected: stopped(status, line),
     };
     expect_case(rt, alloc, &case)
 }
@@ -173,49 +153,4 @@ fn a_refused_program_and_refused_entries(rt: HostRuntime) -> Result<(), Fail> {
     expect_refused(&rt, alloc, program(), b"\n", 100, 4, b"refused E1 at 1:1\n")?;
     // A sink that is full in the middle of the line.
     expect_refused(&rt, alloc, program(), b"#", 9, 1, b"refused E")
-}
-
-/// A capture that is refused: the text is whole, and the other two outputs are empty.
-fn expect_capture_refused(rt: &impl Abort, alloc: Global, capture: &[u8]) -> Result<(), Fail> {
-    let case = Case {
-        words: &WORDS,
-        program: program(),
-        entries: b"",
-        capture,
-        read_fails: "",
-        append_fails: "",
-        room: 100,
-        status: 5,
-        line: b"refused K2\n",
-        text: Some(text()),
-        sent: Some(b""),
-        report: Some(b""),
-    };
-    expect_case(rt, alloc, &case)
-}
-
-/// The capture with another octet at a place.
-fn changed(alloc: Global, place: usize, octet: u8) -> Result<Vec<u8>, Fail> {
-    let mut octets = Vec::from_slice(alloc, capture())?;
-    if place < octets.len() {
-        octets[place] = octet;
-    }
-    Ok(octets)
-}
-
-#[test]
-fn captures_that_are_not_taken(rt: HostRuntime) -> Result<(), Fail> {
-    let alloc = rt.alloc();
-    for length in [0, 23, 53] {
-        expect_capture_refused(&rt, alloc, front(capture(), length))?;
-    }
-    // Other magic numbers, version 2.5, and a captured length that is too long for the file, or for a record.
-    for (place, octet) in [(0, 0xd5), (0, 0xa1), (6, 5), (32, 15), (34, 1)] {
-        let octets = changed(alloc, place, octet)?;
-        expect_capture_refused(&rt, alloc, &octets)?;
-    }
-    // Octets behind the last record.
-    let mut longer = Vec::from_slice(alloc, capture())?;
-    longer.extend_from_slice(&[0; 7])?;
-    expect_capture_refused(&rt, alloc, &longer)
 }

@@ -2,10 +2,20 @@
 #![tactic(auto)]
 
 #[cfg(test)]
+mod captures;
+#[cfg(test)]
 mod causes;
 #[cfg(test)]
+mod desks;
+#[cfg(test)]
+mod expected;
+#[cfg(test)]
 mod memory;
+#[cfg(test)]
+mod options;
 pub mod plain;
+#[cfg(test)]
+mod ports;
 #[cfg(test)]
 mod runs;
 #[cfg(test)]

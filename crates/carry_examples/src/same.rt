@@ -3,7 +3,9 @@ ghost use Rattle.std.specs.Prelude.{◌≤◌};
 ghost use Rattle.carry_examples.specs.Plain.{AreWidths};
 
 use crate::plain::{Leaving, run14};
-use crate::setting::{WORDS, capture, desk, expect_file, front, nibbles, program, run, sent};
+use crate::setting::{
+    WORDS, behind, capture, desk, expect_file, front, nibbles, program, run, sent,
+};
 use p4x_bits::Octets;
 use p4x_io::MemorySink;
 use std::alloc::Global;
@@ -49,15 +51,6 @@ fn lines_of(alloc: Global, leaving: &[Leaving]) -> Result<String, Fail> {
         writeln!(lines, "sent {} {}", packet.port, count)?;
     }
     Ok(lines)
-}
-
-/// What stands behind so many octets.
-fn behind(octets: &[u8], count: usize) -> &[u8] {
-    if count <= octets.len() {
-        &octets[count..]
-    } else {
-        octets
-    }
 }
 
 /// A whole packet with octets behind its header, one that is too short, and a whole one.

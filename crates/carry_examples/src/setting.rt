@@ -1,6 +1,6 @@
 // What the examples have in common: a program, a capture, and a run over files in memory.
 use p4x_cmd::p4x;
-use p4x_io::{MemoryDesk, MemorySink};
+use p4x_io::{Desk, MemoryDesk, MemorySink};
 use std::alloc::Global;
 use std::process::Abort;
 use std::test::Fail;
@@ -131,10 +131,10 @@ pub fn desk(
 }
 
 /// Runs the words, and answers the status.
-pub fn run(
+pub fn run<D: Desk>(
     alloc: Global,
     list: &[&str],
-    desk: &mut MemoryDesk,
+    desk: &mut D,
     sink: &mut MemorySink,
 ) -> Result<u8, Fail> {
     let mut words: Vec<String> = Vec::new(alloc);
@@ -159,5 +159,14 @@ pub fn front(octets: &'static [u8], count: usize) -> &'static [u8] {
         &octets[..count]
     } else {
         octets
+    }
+}
+
+/// What stands behind so many octets, or nothing where there are fewer.
+pub fn behind(octets: &[u8], count: usize) -> &[u8] {
+    if count <= octets.len() {
+        &octets[count..]
+    } else {
+        b""
     }
 }
