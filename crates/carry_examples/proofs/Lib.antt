@@ -1,3 +1,3 @@
-pub mod Desks
+pub mod DeskLaws
 pub mod Sending
 pub mod Steps

@@ -19,7 +19,7 @@ pub struct SlowDesk {
 impl Desk for SlowDesk {
     ghost view = { λ d. memory_view d.desk };
 
-    #[tactic(auto, using(crate::proofs::Desks::reads_front))]
+    #[tactic(auto, using(crate::proofs::DeskLaws::reads_front))]
     fn read(&mut self, name: &str, place: u64, into: &mut [u8]) -> Result<usize, Failed> {
         let mut octet = [0u8; 1];
         let count = self.desk.read(name, place, &mut octet)?;
@@ -99,7 +99,7 @@ fn grow(output: &mut Option<Vec<u8>>, piece: &[u8]) -> Result<usize, Failed>
 impl Desk for FarDesk {
     ghost view = { λ d. record { told = λ name. None; reads = λ name. d.faults; writes = λ name. d.faults } };
 
-    #[tactic(auto, using(crate::proofs::Desks::reads_untold))]
+    #[tactic(auto, using(crate::proofs::DeskLaws::reads_untold))]
     fn read(&mut self, name: &str, place: u64, into: &mut [u8]) -> Result<usize, Failed> {
         match octets_from(name, place) {
             Some(octets) => Ok(copy_front(octets, into)),
