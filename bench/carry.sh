@@ -47,5 +47,5 @@ END
 python3 "$work/carry.py"
 if command -v tcpdump >/dev/null; then
     tcpdump --version 2>&1 | sed -n 1p
-    echo "packets that it reads: $(tcpdump -n -r sent 2>/dev/null | wc -l)"
+    tcpdump --count -r sent
 fi
