@@ -2,8 +2,13 @@
 #![tactic(auto)]
 
 mod cells;
+mod ports;
 mod shapes;
 mod state;
 
-pub use shapes::{Kind, Session, Shape};
+pub use ports::{
+    DROP_PORT, GREATEST_PORT, GREATEST_SESSION, Session, is_drop, is_port, is_session,
+    is_session_number,
+};
+pub use shapes::{Kind, Shape};
 pub use state::{OutOfMemory, Store};

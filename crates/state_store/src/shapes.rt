@@ -25,16 +25,6 @@ pub enum Shape {
     Meter { cells: u32 },
 }
 
-/// A clone session: a packet cloned under its number leaves by its port (P4_14 1.0.5, "Clone";
-/// v1model.p4: `clone`).
-#[derive(Clone, Copy, Debug, PartialEq, Eq)]
-pub struct Session {
-    /// The session's number, from 0 to 32,767.
-    pub number: u32,
-    /// The egress port, from 0 to 510.
-    pub port: u16,
-}
-
 impl Shape {
     /// How many cells the object has.
     pub(crate) fn size(self) -> u32

@@ -1,0 +1,50 @@
+// Ports and clone sessions: what their numbers may be.
+ghost use Rattle.std.specs.Prelude.{◌≡◌, IsTrue, ◌↔◌, ◌≤◌};
+ghost use Rattle.state_store.specs.Ports.{IsPort, IsSession, drop_port, greatest_session};
+
+/// The greatest port that a packet comes in on or leaves on. (This project's own.)
+pub const GREATEST_PORT: u16 = 510;
+
+/// The port that drops: a packet that is sent there leaves nowhere. (This project's own.)
+pub const DROP_PORT: u16 = 511;
+
+/// The greatest number of a clone session. (This project's own.)
+pub const GREATEST_SESSION: u32 = 32_767;
+
+/// A clone session: a packet cloned under its number leaves by its port (P4_14 1.0.5, "Clone";
+/// v1model.p4: `clone`).
+#[derive(Clone, Copy, Debug, PartialEq, Eq)]
+pub struct Session {
+    /// The session's number, from 0 to `GREATEST_SESSION`.
+    pub number: u32,
+    /// The egress port, from 0 to `GREATEST_PORT`.
+    pub port: u16,
+}
+
+/// Whether packets come in and leave on this port: from 0 to `GREATEST_PORT`.
+pub fn is_port(port: u16) -> bool
+    ensures { IsTrue result ↔ IsPort port }
+{
+    port <= GREATEST_PORT
+}
+
+/// Whether this is `DROP_PORT`.
+pub fn is_drop(port: u16) -> bool
+    ensures { IsTrue result ↔ port ≡ drop_port }
+{
+    port == DROP_PORT
+}
+
+/// Whether a clone session may have this number: from 0 to `GREATEST_SESSION`.
+pub fn is_session_number(number: u32) -> bool
+    ensures { IsTrue result ↔ number ≤ greatest_session }
+{
+    number <= GREATEST_SESSION
+}
+
+/// Whether the number and the port of a session are in their ranges.
+pub fn is_session(session: Session) -> bool
+    ensures { IsTrue result ↔ IsSession session }
+{
+    is_session_number(session.number) && is_port(session.port)
+}
