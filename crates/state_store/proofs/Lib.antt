@@ -1,2 +1,4 @@
+pub mod Clearing
 pub mod Joined
 pub mod Stores
+pub mod Sums

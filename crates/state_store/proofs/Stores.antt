@@ -86,7 +86,7 @@ blank_fits (Register width size) = (grind (arith, common_steps), All-replicate (
 blank_fits (Meter size) = λ k d lt. absurd (omega arith)
 
 -- what holds of a written item, and of the items that stand, holds after the write
-set-holds : {X : Type 0} (P : X → Type 0) (xs : List X) (i k : ℕ) (x d : X) → (i ≡ k → P x) → P (get_or xs k d) → P (get_or (set xs i x) k d)
+pub set-holds : {X : Type 0} (P : X → Type 0) (xs : List X) (i k : ℕ) (x d : X) → (i ≡ k → P x) → P (get_or xs k d) → P (get_or (set xs i x) k d)
 set-holds P [] i k x d here there = there
 set-holds P (y ∷ ys) zero zero x d here there = here refl
 set-holds P (y ∷ ys) zero (suc k) x d here there = there

@@ -1,6 +1,7 @@
 // The cells of one object.
 ghost use Rattle.std.specs.Prelude.{◌≡◌, ℕ, ◌%◌, ◌^◌, ◌≤◌, List, [], ◌∷◌, ◌++◌, length, drop, replicate, slice_index, slice_index_or, slice_set, IfOk, OnErr};
 ghost use Rattle.state_store.specs.Cells.{size_of, kind_of, width_of, blank, counted, count_at, count_in, pair_in, read_in, write_at, write_in, first_colour, colour_in, taken_in, given_in, joined, sum_of_counts, sum_of_cells};
+ghost use Rattle.state_store.specs.internal.Clearing.{cleared};
 
 use crate::shapes::{Kind, Shape};
 use std::alloc::{AllocError, Global};
@@ -71,6 +72,12 @@ impl Counts {
             self.cells[i] = sum_of_counts(self.cells[i], more.cells[i]);
         }
     }
+
+    pub fn clear(&mut self)
+        ensures { self.new ≡ replicate (length self.old) (0, 0) }
+    {
+        self.cells.fill((0, 0));
+    }
 }
 
 /// The numbers that a register's cells hold.
@@ -109,6 +116,12 @@ impl Numbers {
         if index < self.cells.len() {
             self.cells[index] = low_bits(value, width);
         }
+    }
+
+    pub fn clear(&mut self)
+        ensures { self.new ≡ replicate (length self.old) 0 }
+    {
+        self.cells.fill(0);
     }
 }
 
@@ -169,6 +182,13 @@ impl Colours {
         } else {
             0
         }
+    }
+
+    pub fn clear(&mut self)
+        ensures { self.new ≡ [] }
+    {
+        self.given.clear();
+        self.taken = 0;
     }
 }
 
@@ -252,6 +272,16 @@ impl Cells {
     {
         if let (Cells::Counts(counts), Cells::Counts(others)) = (self, more) {
             counts.add(others);
+        }
+    }
+
+    pub fn clear(&mut self)
+        ensures { self.new ≡ cleared self.old }
+    {
+        match self {
+            Cells::Counts(counts) => counts.clear(),
+            Cells::Numbers(numbers) => numbers.clear(),
+            Cells::Colours(colours) => colours.clear(),
         }
     }
 }

@@ -26,8 +26,9 @@ pub enum Shape {
 }
 
 impl Shape {
-    /// How many cells the object has.
-    pub(crate) fn size(self) -> u32
+    /// How many cells the object has. A meter has colours in place of cells, and this is how many
+    /// indexes take one.
+    pub fn size(self) -> u32
         ensures { result ≡ size_of self }
     {
         match self {
@@ -38,8 +39,8 @@ impl Shape {
         }
     }
 
-    /// What a counter counts.
-    pub(crate) fn kind(self) -> Kind
+    /// What a counter counts; `Kind::Both` of a register and a meter.
+    pub fn kind(self) -> Kind
         ensures { result ≡ kind_of self }
     {
         match self {
@@ -48,8 +49,8 @@ impl Shape {
         }
     }
 
-    /// How many bits a register's cells have.
-    pub(crate) fn width(self) -> u8
+    /// How many bits a register's cells have, from 1 to 128; 0 of a counter and a meter.
+    pub fn width(self) -> u8
         ensures { result ≡ width_of self }
     {
         match self {

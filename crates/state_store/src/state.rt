@@ -2,6 +2,7 @@
 ghost use Rattle.std.specs.Prelude.{◌≡◌, ℕ, ◌^◌, ◌<◌, ◌≤◌, All, IfOk, OnErr};
 ghost use Rattle.state_store.specs.Cells.{width_of, kind_of, size_of, IsCounter, IsCount};
 ghost use Rattle.state_store.specs.State.{Contents, shape_at, IsCounterAt, IsRegisterAt, IsMeterAt, new_store, count, pair, read, write, colour, colour_taken, give, sum_of_stores, IsStore};
+ghost use Rattle.state_store.specs.Sums.{SumLaws};
 
 use crate::cells::Cells;
 use crate::shapes::Shape;
@@ -30,8 +31,8 @@ impl<T: Drop> From<AllocFailed<T>> for OutOfMemory {
 ///
 /// An object is named by its number, from 0 in the order of the shapes that the store was made of,
 /// and a cell by its index. An index at or past the end of an object's cells reads 0, and writes,
-/// counts and takes nothing. No call but `new` and `give` takes memory, and each changes one cell at
-/// most, but `add`. (P4_14 1.0.5, "Counters", "Meters" and "Registers"; v1model.p4. What an index out
+/// counts and takes nothing. No call but `new`, `empty` and `give` takes memory, and each changes one
+/// cell at most, but `clear` and `add`. (P4_14 1.0.5, "Counters", "Meters" and "Registers"; v1model.p4. What an index out
 /// of range does, and that a meter's colours are handed in, is this project's own.)
 #[derive(Drop)]
 pub struct Store {
@@ -64,6 +65,31 @@ impl Store {
             shapes: Vec::from_slice(alloc, shapes)?,
             cells,
         })
+    }
+
+    /// What the objects are, in the order of their numbers.
+    pub fn shapes(&self) -> &[Shape]
+        ensures { result.now ≡ self.now.shapes }
+    {
+        self.shapes.as_slice()
+    }
+
+    /// A store of the same objects, with all cells 0 and no colours. The one error is want of memory.
+    pub fn empty(&self, alloc: Global) -> Result<Store, OutOfMemory>
+        ensures empty { IfOk result (λ store. store ≡ new_store self.now.shapes) }
+        ensures store { IfOk result IsStore }
+    {
+        Store::new(alloc, self.shapes.as_slice())
+    }
+
+    /// Makes all cells 0, and leaves no colours. It takes no memory.
+    pub fn clear(&mut self)
+        ensures clear { self.new ≡ new_store self.old.shapes }
+        ensures store { IsStore self.new }
+    {
+        for object in 0..self.cells.len() {
+            self.cells[object].clear();
+        }
     }
 
     /// Hands a colour, from 0 to 2, to a meter, behind the colours that it has left. For want of
@@ -142,6 +168,7 @@ impl Store {
         requires counters { All IsCounter self.old.shapes }
         requires same { other.now.shapes ≡ self.old.shapes }
         ensures sums { self.new ≡ sum_of_stores self.old other.now }
+        ensures laws { SumLaws self.old other.now }
         ensures store { IsStore self.new }
     {
         for object in 0..self.cells.len().min(other.cells.len()) {

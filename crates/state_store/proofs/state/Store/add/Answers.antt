@@ -2,6 +2,7 @@ use Rattle.std.proofs.Common.{arith, ◌≡◌, ◌∙◌}
 use Rattle.state_store.specs.Cells.{joined, sum_of_cells}
 use Rattle.state_store.proofs.Joined.{joined-turn, joined-all}
 use Rattle.state_store.proofs.Stores.{sum_is}
+use Rattle.state_store.proofs.Sums.{sum_laws}
 use Rattle.state_store.proofs.state.Store.add.Goals as goal
 
 pub invariant_of-self : goal.invariant_of-self
@@ -25,3 +26,7 @@ returns-clause-store c =
     rw (← c.other.view_is) (c.loop-object.invariant.cells ∙ joined-all sum_of_cells c.args.self.now.cells c.other.inside.cells.items c.loop-object.object (rw (← c.self.view_is) (omega arith))) in
     rw (c.loop-object.invariant.shapes, whole)
     (sum_is c.args.self.now c.args.other.now c.requires.counters c.requires.same (rw (← c.self.view_is) c.self.invariant) (rw (← c.other.view_is) c.other.invariant))
+
+pub returns-clause-laws : goal.returns-clause-laws
+returns-clause-laws c =
+    sum_laws c.args.self.now c.args.other.now c.requires.counters c.requires.same (rw (← c.self.view_is) c.self.invariant) (rw (← c.other.view_is) c.other.invariant)
