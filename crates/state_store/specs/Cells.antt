@@ -1,4 +1,5 @@
--- The cells of one object, and what one call does to them.
+-- The cells of one object by its shape, and what one call does to them. A part that is given for another kind of
+-- object stands only so that each function has all cases: no call of a store reaches it.
 use Rattle.std.specs.Prelude.{◌≡◌, ℕ, ◌+◌, ◌%◌, ◌^◌, ◌<◌, ◌≤◌, List, [], ◌∷◌, ◌++◌, length, drop, replicate, All, slice_index, slice_index_or, slice_set}
 use Rattle.state_store.specs.declared.shapes.Kind.{Kind}
 use Rattle.state_store.specs.declared.shapes.Kind.TheVariants.{Packets, Bytes, Both}
@@ -7,7 +8,7 @@ use Rattle.state_store.specs.declared.shapes.Shape.TheVariants.{Counter, Direct,
 use Rattle.state_store.specs.declared.cells.Cells.{Cells}
 use Rattle.state_store.specs.declared.cells.Cells.TheVariants.{Counts, Numbers, Colours}
 
--- how many cells an object has
+-- how many cells an object has; of a meter, how many indexes take a colour
 abbrev pub size_of : Shape → ℕ
 size_of (Counter kind cells) = cells
 size_of (Direct kind cells) = cells
@@ -28,18 +29,21 @@ width_of (Direct kind cells) = 0
 width_of (Register width cells) = width
 width_of (Meter cells) = 0
 
+-- a counter of either form: one that actions count in by an index, or one of a table's entries
 abbrev pub IsCounter : Shape → Type 0
 IsCounter (Counter kind cells) = Unit {0}
 IsCounter (Direct kind cells) = Unit {0}
 IsCounter (Register width cells) = ⊥
 IsCounter (Meter cells) = ⊥
 
+-- a register
 abbrev pub IsRegister : Shape → Type 0
 IsRegister (Counter kind cells) = ⊥
 IsRegister (Direct kind cells) = ⊥
 IsRegister (Register width cells) = Unit {0}
 IsRegister (Meter cells) = ⊥
 
+-- a meter
 abbrev pub IsMeter : Shape → Type 0
 IsMeter (Counter kind cells) = ⊥
 IsMeter (Direct kind cells) = ⊥
@@ -65,6 +69,7 @@ counted Both cell octets = ((cell.0 + 1) % 2 ^ 64, (cell.1 + octets) % 2 ^ 64)
 abbrev pub count_at : Kind → List (ℕ × ℕ) → ℕ → ℕ → List (ℕ × ℕ)
 count_at kind cells index octets = slice_set cells index (counted kind (slice_index_or cells index (0, 0)) octets)
 
+-- the same in the cells of an object
 abbrev pub count_in : Kind → Cells → ℕ → ℕ → Cells
 count_in kind (Counts cells) index octets = Counts (count_at kind cells index octets)
 count_in kind (Numbers cells) index octets = Numbers cells
@@ -88,6 +93,7 @@ read_in (Colours left) index = 0
 abbrev pub write_at : ℕ → List ℕ → ℕ → ℕ → List ℕ
 write_at width cells index value = slice_set cells index (value % 2 ^ width)
 
+-- the same in the cells of an object
 abbrev pub write_in : ℕ → Cells → ℕ → ℕ → Cells
 write_in width (Counts cells) index value = Counts cells
 write_in width (Numbers cells) index value = Numbers (write_at width cells index value)
@@ -99,6 +105,7 @@ abbrev pub first_colour : List ℕ → ℕ
 first_colour [] = 0
 first_colour (colour ∷ left) = colour
 
+-- the same of an object
 abbrev pub colour_in : Cells → ℕ
 colour_in (Counts cells) = 0
 colour_in (Numbers cells) = 0

@@ -48,3 +48,25 @@ pub fn is_session(session: Session) -> bool
 {
     is_session_number(session.number) && is_port(session.port)
 }
+
+#[cfg(test)]
+mod tests {
+    use super::*;
+    use std::test::Fail;
+
+    #[test]
+    fn the_greatest_numbers_are_these(rt: HostRuntime) -> Result<(), Fail> {
+        assert_eq!(rt; GREATEST_PORT, 510);
+        assert_eq!(rt; DROP_PORT, 511);
+        assert_eq!(rt; GREATEST_SESSION, 32767);
+        assert!(rt; is_port(510) && !is_port(511));
+        assert!(rt; is_drop(511) && !is_drop(510));
+        assert!(rt; is_session_number(32767) && !is_session_number(32768));
+        let session = Session {
+            number: 32767,
+            port: 511,
+        };
+        assert!(rt; !is_session(session));
+        Ok(())
+    }
+}

@@ -32,8 +32,9 @@ impl<T: Drop> From<AllocFailed<T>> for OutOfMemory {
 /// An object is named by its number, from 0 in the order of the shapes that the store was made of,
 /// and a cell by its index. An index at or past the end of an object's cells reads 0, and writes,
 /// counts and takes nothing. No call but `new`, `empty` and `give` takes memory, and each changes one
-/// cell at most, but `clear` and `add`. (P4_14 1.0.5, "Counters", "Meters" and "Registers"; v1model.p4. What an index out
-/// of range does, and that a meter's colours are handed in, is this project's own.)
+/// cell at most, but `clear` and `add`. (P4_14 1.0.5, "Counters", "Meters" and "Registers";
+/// v1model.p4. What an index out of range does, and that a meter's colours are handed in, is this
+/// project's own.)
 #[derive(Drop)]
 pub struct Store {
     shapes: Vec<Shape>,
@@ -74,7 +75,8 @@ impl Store {
         self.shapes.as_slice()
     }
 
-    /// A store of the same objects, with all cells 0 and no colours. The one error is want of memory.
+    /// Another store of the same objects, with all cells 0 and no colours. The one error is want of
+    /// memory.
     pub fn empty(&self, alloc: Global) -> Result<Store, OutOfMemory>
         ensures empty { IfOk result (λ store. store ≡ new_store self.now.shapes) }
         ensures store { IfOk result IsStore }
@@ -82,7 +84,8 @@ impl Store {
         Store::new(alloc, self.shapes.as_slice())
     }
 
-    /// Makes all cells 0, and leaves no colours. It takes no memory.
+    /// Makes all cells 0 and drops the colours that are left: the store is as `new` made it. It takes
+    /// no memory.
     pub fn clear(&mut self)
         ensures clear { self.new ≡ new_store self.old.shapes }
         ensures store { IsStore self.new }
@@ -163,7 +166,9 @@ impl Store {
         }
     }
 
-    /// Adds the counts of another store of the same counters, cell by cell and modulo 2^64.
+    /// Adds the counts of another store of the same counters, cell by cell and modulo 2^64. The sum of
+    /// several stores depends neither on their order nor on how they are grouped, an empty store adds
+    /// nothing, and what is counted in one of them is counted in the sum. (This project's own.)
     pub fn add(&mut self, other: &Store)
         requires counters { All IsCounter self.old.shapes }
         requires same { other.now.shapes ≡ self.old.shapes }
@@ -338,6 +343,76 @@ mod tests {
         assert_eq!(rt; first, (1, 14));
         assert_eq!(rt; last, (2, 54));
         assert_eq!(rt; others, (1, 34));
+        Ok(())
+    }
+
+    #[test]
+    fn a_cleared_store_is_as_a_new_one(rt: HostRuntime) -> Result<(), Fail> {
+        let shapes = [
+            Shape::Direct {
+                kind: Kind::Both,
+                cells: 2,
+            },
+            Shape::Register { width: 9, cells: 2 },
+            Shape::Meter { cells: 1 },
+        ];
+        let mut store = Store::new(rt.alloc(), shapes.as_slice())?;
+        store.count(0, 1, 14);
+        store.write(1, 1, 3);
+        store.give(2, 1)?;
+        store.give(2, 2)?;
+        assert_eq!(rt; store.colour(2, 0), 1);
+        store.clear();
+        assert_eq!(rt; store.pair(0, 1), (0, 0));
+        assert_eq!(rt; store.read(1, 1), 0);
+        assert_eq!(rt; store.colour(2, 0), 0);
+        store.count(0, 1, 15);
+        assert_eq!(rt; store.pair(0, 1), (1, 15), "still has its cells");
+        Ok(())
+    }
+
+    #[test]
+    fn an_empty_store_has_the_same_objects(rt: HostRuntime) -> Result<(), Fail> {
+        let shapes = [
+            Shape::Register { width: 9, cells: 2 },
+            Shape::Meter { cells: 1 },
+        ];
+        let mut store = Store::new(rt.alloc(), shapes.as_slice())?;
+        store.write(0, 1, 3);
+        store.give(1, 2)?;
+        let mut empty = store.empty(rt.alloc())?;
+        assert_eq!(rt; empty.shapes(), shapes.as_slice());
+        assert_eq!(rt; empty.read(0, 1), 0);
+        assert_eq!(rt; empty.colour(1, 0), 0);
+        assert_eq!(rt; store.read(0, 1), 3, "keeps its own");
+        Ok(())
+    }
+
+    #[test]
+    fn a_sum_is_the_same_in_both_orders(rt: HostRuntime) -> Result<(), Fail> {
+        let shapes = [
+            Shape::Counter {
+                kind: Kind::Bytes,
+                cells: 1,
+            },
+            Shape::Direct {
+                kind: Kind::Both,
+                cells: 2,
+            },
+        ];
+        let mut first = Store::new(rt.alloc(), shapes.as_slice())?;
+        let mut second = first.empty(rt.alloc())?;
+        first.count(0, 0, 14);
+        first.count(1, 1, 20);
+        second.count(0, 0, 5);
+        second.count(1, 1, 6);
+        let mut sum = first.empty(rt.alloc())?;
+        sum.add(&second);
+        sum.add(&first);
+        first.add(&second);
+        assert_eq!(rt; (first.pair(0, 0), sum.pair(0, 0)), ((0, 19), (0, 19)));
+        assert_eq!(rt; (first.pair(1, 1), sum.pair(1, 1)), ((2, 26), (2, 26)));
+        assert_eq!(rt; (first.pair(1, 0), sum.pair(1, 0)), ((0, 0), (0, 0)));
         Ok(())
     }
 }
