@@ -1,4 +1,5 @@
 pub mod Clearing
 pub mod Joined
+pub mod Marks
 pub mod Stores
 pub mod Sums

@@ -7,8 +7,8 @@ mod shapes;
 mod state;
 
 pub use ports::{
-    DROP_PORT, GREATEST_PORT, GREATEST_SESSION, Session, is_drop, is_port, is_session,
-    is_session_number,
+    DROP_PORT, GREATEST_PORT, GREATEST_SESSION, Session, are_sessions, is_drop, is_port,
+    is_session, is_session_number,
 };
 pub use shapes::{Kind, Shape};
 pub use state::{OutOfMemory, Store};

@@ -1,6 +1,10 @@
 // Ports and clone sessions: what their numbers may be.
-ghost use Rattle.std.specs.Prelude.{◌≡◌, IsTrue, ◌↔◌, ◌≤◌};
-ghost use Rattle.state_store.specs.Ports.{IsPort, IsSession, drop_port, greatest_session};
+ghost use Rattle.std.specs.Prelude.{◌≡◌, IsTrue, ◌↔◌, ◌<◌, ◌≤◌, IfOk};
+ghost use Rattle.state_store.specs.Ports.{IsPort, IsSession, AreSessions, drop_port, greatest_session};
+ghost use Rattle.state_store.specs.internal.Marks.{is_unmarked};
+
+use crate::state::OutOfMemory;
+use std::alloc::{AllocError, Global};
 
 /// The greatest port that a packet comes in on or leaves on. (This project's own.)
 pub const GREATEST_PORT: u16 = 510;
@@ -49,6 +53,39 @@ pub fn is_session(session: Session) -> bool
     is_session_number(session.number) && is_port(session.port)
 }
 
+/// Whether these are the clone sessions of a run: each number and each port in its range, and no number
+/// twice. It takes 32 KiB of memory for the while, and time in proportion to the number of sessions.
+/// The one error is want of memory.
+pub fn are_sessions(alloc: Global, sessions: &[Session]) -> Result<bool, OutOfMemory>
+    ensures { IfOk result (λ are. IsTrue are ↔ AreSessions sessions.now) }
+{
+    Ok(are_unmarked(alloc, GREATEST_SESSION + 1, sessions)?)
+}
+
+/// The same with a mark for each of so many numbers.
+fn are_unmarked(alloc: Global, numbers: u32, sessions: &[Session]) -> Result<bool, AllocError>
+    requires { greatest_session < numbers }
+    ensures { IfOk result (λ are. IsTrue are ↔ AreSessions sessions.now) }
+{
+    let mut seen = vec![in alloc; false; numbers as usize]?;
+    for session in sessions {
+        if !is_unmarked(seen.as_slice(), *session) {
+            return Ok(false);
+        }
+        seen[session.number as usize] = true;
+    }
+    Ok(true)
+}
+
+/// Whether the session's number and port are in their ranges, and its number has a mark that isn't set.
+fn is_unmarked(seen: &[bool], session: Session) -> bool
+    ensures { result ≡ is_unmarked seen.now session }
+{
+    session.number <= GREATEST_SESSION
+        && session.port <= GREATEST_PORT
+        && !seen.get(session.number as usize).copied().unwrap_or(true)
+}
+
 #[cfg(test)]
 mod tests {
     use super::*;
@@ -67,6 +104,16 @@ mod tests {
             port: 511,
         };
         assert!(rt; !is_session(session));
+        Ok(())
+    }
+
+    #[test]
+    fn no_session_has_the_number_of_another(rt: HostRuntime) -> Result<(), Fail> {
+        let first = Session { number: 9, port: 1 };
+        let second = Session { number: 8, port: 1 };
+        let again = Session { number: 9, port: 2 };
+        assert!(rt; are_sessions(rt.alloc(), [first, second].as_slice())?);
+        assert!(rt; !are_sessions(rt.alloc(), [first, second, again].as_slice())?);
         Ok(())
     }
 }
