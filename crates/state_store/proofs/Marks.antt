@@ -1,5 +1,5 @@
 -- The test of clone sessions by marks is right.
-use Rattle.std.proofs.Common.{◌≡◌, ◌↔◌, IsTrue, ℕ, zero, suc, ◌+◌, ◌<◌, ◌≤◌, Bool, true, false, not, leb, ◌&&◌, List, [], ◌∷◌, length, replicate, drop, get_or, All, refl, sym, ◌∙◌, ap, subst, arith}
+use Rattle.std.proofs.Common.{◌≡◌, ◌↔◌, IsTrue, ℕ, zero, suc, ◌<◌, Bool, true, false, not, leb, ◌&&◌, List, [], ◌∷◌, length, replicate, drop, get_or, All, refl, sym, ◌∙◌, ap, arith}
 use Rattle.std.proofs.Math.ListN.{set}
 use Rattle.std.proofs.lemmas.Bool.{leb-true, le-leb, not-true, not_from_false, true≢false}
 use Rattle.std.proofs.lemmas.List.{get_or-set_other, get_or-replicate}

@@ -1,6 +1,5 @@
 use Rattle.std.proofs.Common.{arith, ◌≡◌, ◌∙◌, sym, true, false, drop, []}
 use Rattle.std.proofs.lemmas.List.{drop_all}
-use Rattle.state_store.specs.internal.Marks.{are_unmarked}
 use Rattle.state_store.proofs.Marks.{are_sessions_if, turn_refuses}
 use Rattle.state_store.proofs.ports.are_unmarked.Goals as goal
 
