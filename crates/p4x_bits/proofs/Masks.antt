@@ -9,7 +9,7 @@ pub mask_of_128 : (n count : ℕ) → count ≤ 8 → bit_and n (1 * 2 ^ count %
 mask_of_128 n count h = ap (λ (m : ℕ). bit_and n (m - 1)) (one_shl count 128 (omega arith)) ∙ and_mask n count
 
 -- a number of so many bits behind others
-joined_below : (high low v w : ℕ) → high < 2 ^ v → low < 2 ^ w → high * 2 ^ w + low < 2 ^ (v + w)
+pub joined_below : (high low v w : ℕ) → high < 2 ^ v → low < 2 ^ w → high * 2 ^ w + low < 2 ^ (v + w)
 joined_below high low v w h l = rw (pow-add 2 v w) (omega (arith, mul-add-lt high (2 ^ w) low (2 ^ v) h l))
 
 -- an octet's front, a part and the octet's end

@@ -27,6 +27,15 @@ spliced_twice from mid to x y old h e le =
     ∙ ap (λ zs. front ++ y ++ zs) last
     ∙ ap (λ zs. zs ++ drop to old) (append_assoc (take from old) x y)
 
+-- of two splices between the same places the last one stays
+pub spliced_again : (from to : ℕ) (x y old : List Bool) → from ≤ length old → from + length x ≡ to → spliced from to y (spliced from to x old) ≡ spliced from to y old
+spliced_again from to x y old h e =
+    let short : length (take from old) ≡ from = length-take-le from old h in
+    let long : length (take from old ++ x) ≡ to = length-append (take from old) x ∙ omega (arith, short) in
+    let first : take from (take from old ++ x ++ drop to old) ≡ take from old = ap (take from) (append_assoc (take from old) x (drop to old)) ∙ take_at (take from old) (x ++ drop to old) from short in
+    let last : drop to (take from old ++ x ++ drop to old) ≡ drop to old = drop_at (take from old ++ x) (drop to old) to long in
+    rw (first, last)
+
 -- a splice of nothing
 pub spliced_none : (at : ℕ) (old : List Bool) → old ≡ spliced at at [] old
 spliced_none at old = sym (ap (λ zs. zs ++ drop at old) (append-nil (take at old)) ∙ take-append-drop at old)
@@ -94,33 +103,33 @@ reads_on octets at done index skip count part number e le h within p n =
     ∙ rw (long, window, n, p)
     )
 
--- the last bits of an octet's front are those of a quotient
-pub part_is : (octet skip count : ℕ) → skip + count ≤ 8 → octet / 2 ^ (8 - skip - count) % 2 ^ count ≡ num (take count (drop skip (bits 8 octet)))
-part_is octet skip count le =
-    let rest = 8 - skip - count in
-    let all : skip + (count + rest) ≡ 8 = omega arith in
+-- the last bits of a front are those of a quotient
+pub part_is : (w n skip count : ℕ) → skip + count ≤ w → n / 2 ^ (w - skip - count) % 2 ^ count ≡ num (take count (drop skip (bits w n)))
+part_is w n skip count le =
+    let rest = w - skip - count in
+    let all : skip + (count + rest) ≡ w = omega arith in
     sym (
-    ap (λ (n : ℕ). num (take count (drop skip (bits n octet)))) (sym all)
-    ∙ ap (λ xs. num (take count xs)) (drop-bits skip (count + rest) octet)
-    ∙ ap num (take-bits count rest octet)
-    ∙ num-bits count (octet / 2 ^ rest)
+    ap (λ (k : ℕ). num (take count (drop skip (bits k n)))) (sym all)
+    ∙ ap (λ xs. num (take count xs)) (drop-bits skip (count + rest) n)
+    ∙ ap num (take-bits count rest n)
+    ∙ num-bits count (n / 2 ^ rest)
     )
 
--- an octet with a part written anew
-pub with_part_is : (octet skip count number : ℕ) → skip + count ≤ 8 → bits 8 ((octet / 2 ^ (8 - skip) * 2 ^ count + number % 2 ^ count) * 2 ^ (8 - skip - count) + octet % 2 ^ (8 - skip - count)) ≡ spliced skip (skip + count) (bits count number) (bits 8 octet)
-with_part_is octet skip count number le =
-    let rest = 8 - skip - count in
-    let high = octet / 2 ^ (8 - skip) in
-    let all : skip + count + rest ≡ 8 = omega arith in
-    let back : skip + (8 - skip) ≡ 8 = omega arith in
-    let front : take skip (bits 8 octet) ≡ bits skip high = ap (λ (n : ℕ). take skip (bits n octet)) (sym back) ∙ take-bits skip (8 - skip) octet in
-    let behind : drop (skip + count) (bits 8 octet) ≡ bits rest octet = ap (λ (n : ℕ). drop (skip + count) (bits n octet)) (sym all) ∙ drop-bits (skip + count) rest octet in
+-- a number of w bits with a part written anew
+pub with_part_is : (w n skip count number : ℕ) → skip + count ≤ w → bits w ((n / 2 ^ (w - skip) * 2 ^ count + number % 2 ^ count) * 2 ^ (w - skip - count) + n % 2 ^ (w - skip - count)) ≡ spliced skip (skip + count) (bits count number) (bits w n)
+with_part_is w n skip count number le =
+    let rest = w - skip - count in
+    let high = n / 2 ^ (w - skip) in
+    let all : skip + count + rest ≡ w = omega arith in
+    let back : skip + (w - skip) ≡ w = omega arith in
+    let front : take skip (bits w n) ≡ bits skip high = ap (λ (k : ℕ). take skip (bits k n)) (sym back) ∙ take-bits skip (w - skip) n in
+    let behind : drop (skip + count) (bits w n) ≡ bits rest n = ap (λ (k : ℕ). drop (skip + count) (bits k n)) (sym all) ∙ drop-bits (skip + count) rest n in
     let small : number % 2 ^ count < 2 ^ count = omega (arith, pow_pos count) in
-    let low : octet % 2 ^ rest < 2 ^ rest = omega (arith, pow_pos rest) in
-    ap (λ (n : ℕ). bits n ((high * 2 ^ count + number % 2 ^ count) * 2 ^ rest + octet % 2 ^ rest)) (sym all)
-    ∙ sym (bits-append (skip + count) rest (high * 2 ^ count + number % 2 ^ count) (octet % 2 ^ rest) low)
-    ∙ ap (λ xs. xs ++ bits rest (octet % 2 ^ rest)) (sym (bits-append skip count high (number % 2 ^ count) small))
-    ∙ rw (bits-mod count number, bits-mod rest octet, front, behind)
+    let low : n % 2 ^ rest < 2 ^ rest = omega (arith, pow_pos rest) in
+    ap (λ (k : ℕ). bits k ((high * 2 ^ count + number % 2 ^ count) * 2 ^ rest + n % 2 ^ rest)) (sym all)
+    ∙ sym (bits-append (skip + count) rest (high * 2 ^ count + number % 2 ^ count) (n % 2 ^ rest) low)
+    ∙ ap (λ xs. xs ++ bits rest (n % 2 ^ rest)) (sym (bits-append skip count high (number % 2 ^ count) small))
+    ∙ rw (bits-mod count number, bits-mod rest n, front, behind)
 
 -- one turn of a write
 pub writes_on : (old now new : List ℕ) (at done index skip count left number octet : ℕ) → at ≤ 8 * length old → 8 * index + skip ≡ at + done → skip + count ≤ 8 → index < length now → bits 8 octet ≡ spliced skip (skip + count) (bits count (number / 2 ^ left)) (bits 8 (get_or now index 0)) → new ≡ set now index octet → octet_bits now ≡ spliced at (at + done) (bits done (number / 2 ^ (left + count))) (octet_bits old) → octet_bits new ≡ spliced at (at + (done + count)) (bits (done + count) (number / 2 ^ left)) (octet_bits old)
@@ -173,6 +182,25 @@ spliced_behind len to new old h e =
     let front = take len old ++ new in
     let long : length front ≡ to = length-append (take len old) new ∙ omega (arith, length-take-le len old h) in
     take_at front (drop to old) to long
+
+-- a splice of a block that was itself spliced
+pub block_spliced : (p long skip count at : ℕ) (block after new old : List Bool) → p + long ≤ length old → skip + count ≤ long → p + skip ≡ at → block ≡ take long (drop p old) → after ≡ spliced skip (skip + count) new block → spliced p (p + long) after old ≡ spliced at (at + count) new old
+block_spliced p long skip count at block after new old room le e b a =
+    let front = take p old in
+    let behind = drop (p + long) old in
+    let size : length block ≡ long = ap length b ∙ length-take-le long (drop p old) (omega (arith, length-drop p old)) in
+    let whole : front ++ (block ++ behind) ≡ old =
+    ap (λ xs. front ++ (xs ++ behind)) b
+    ∙ ap (λ xs. front ++ (take long (drop p old) ++ xs)) (sym (drop-drop long p old))
+    ∙ ap (λ xs. front ++ xs) (take-append-drop long (drop p old))
+    ∙ take-append-drop p old in
+    let to : p + (skip + count) ≡ at + count = omega arith in
+    append_assoc front after behind
+    ∙ ap (λ xs. front ++ (xs ++ behind)) a
+    ∙ spliced_inside p skip (skip + count) new front block behind (length-take-le p old (omega arith)) (omega arith) (omega arith)
+    ∙ ap (spliced (p + skip) (p + (skip + count)) new) whole
+    ∙ ap (λ (n : ℕ). spliced n (p + (skip + count)) new old) e
+    ∙ ap (λ (n : ℕ). spliced at n new old) to
 
 -- bits that a longer list of octets begins with
 pub grown : (old more : List ℕ) → take (8 * length old) (octet_bits (old ++ more)) ≡ octet_bits old

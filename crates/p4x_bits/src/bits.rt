@@ -1,5 +1,5 @@
 // Bit lists.
-ghost use Rattle.std.specs.Prelude.{◌≡◌, ℕ, ◌+◌, ◌*◌, ◌/◌, ◌^◌, ◌<◌, ◌≤◌, ◌↔◌, Bool, List, [], ◌++◌, length, take, drop, IsTrue, OnErr, OnOk};
+ghost use Rattle.std.specs.Prelude.{◌≡◌, ℕ, ◌+◌, ◌*◌, ◌/◌, ◌^◌, ◌<◌, ◌≤◌, ◌↔◌, Bool, List, [], ◌++◌, length, take, drop, IfOk, IsTrue, OnErr, OnOk, ◌⊎◌};
 ghost use Rattle.p4x_bits.specs.BitLists.{num, bits, octet_bits};
 
 use crate::OutOfMemory;
@@ -46,6 +46,16 @@ impl Bits {
         }
     }
 
+    /// An empty list with room for so many bits, or want of memory.
+    pub fn with_capacity(alloc: Global, bits: usize) -> Result<Self, OutOfMemory>
+        ensures { IfOk result (λ list. list ≡ []) }
+    {
+        Ok(Bits {
+            octets: Vec::with_capacity(alloc, bits.div_ceil(8))?,
+            len: 0,
+        })
+    }
+
     /// How many bits there are.
     pub fn len(&self) -> usize
         ensures { result ≡ length self.now }
@@ -84,8 +94,24 @@ impl Bits {
         requires value { value < 2 ^ width }
         ensures bits { self.new ≡ take at self.old ++ bits width value ++ drop (at + width) self.old }
         ensures len { length self.new ≡ length self.old }
+        ensures reads { num (take width (drop at self.new)) ≡ value }
+        ensures apart { (from count : ℕ) → (from + count ≤ at) ⊎ (at + width ≤ from) → take count (drop from self.new) ≡ take count (drop from self.old) }
     {
         write_octet_field(&mut self.octets, at, width, value);
+    }
+
+    /// Lets go of every bit. The room for them stays.
+    pub fn clear(&mut self)
+        ensures { self.new ≡ [] }
+    {
+        self.len = 0;
+    }
+
+    /// Lets go of every bit but the first `len`. A list that is no longer stays as it was.
+    pub fn truncate(&mut self, len: usize)
+        ensures { self.new ≡ take len self.old }
+    {
+        self.len = self.len.min(len);
     }
 
     /// Puts the `width` bits of a number, at most 128, at the end. For want of memory the list stays as it was.

@@ -1,5 +1,7 @@
 // Lists, as contracts see them.
-ghost use Rattle.std.specs.Prelude.{◌≡◌, List, [], ◌∷◌, ◌++◌, length, IfOk, IsTrue, OnErr, OnOk, ◌↔◌};
+ghost use Rattle.std.specs.Prelude.{◌≡◌, ◌-◌, ◌<◌, ◌≤◌, List, [], ◌∷◌, ◌++◌, length, take, drop, slice_get, option_copied, option_to_list, IfOk, IsSome, IsTrue, OnErr, OnOk, ◌↔◌};
+ghost use Rattle.std.specs.Borrow.{sem};
+ghost use Rattle.p4x_bits.specs.Lending.{LendsItems};
 
 use crate::OutOfMemory;
 use std::alloc::Global;
@@ -21,6 +23,8 @@ pub type Numbers = Rows<u128>;
 pub type Text = Rows<u8>;
 
 impl<T: Drop> Model for Rows<T> {
+    ghost use Rattle.std.specs.Prelude.{List};
+
     ghost Value = { List T };
 
     ghost view = { λ rows. rows.items.items };
@@ -34,6 +38,15 @@ impl<T: Drop> Rows<T> {
         Rows {
             items: Vec::new(alloc),
         }
+    }
+
+    /// An empty list with room for so many items, or want of memory.
+    pub fn with_capacity(alloc: Global, capacity: usize) -> Result<Self, OutOfMemory>
+        ensures { IfOk result (λ list. list ≡ []) }
+    {
+        Ok(Rows {
+            items: Vec::with_capacity(alloc, capacity)?,
+        })
     }
 
     /// The list of the items of a vector. It takes no memory.
@@ -57,6 +70,35 @@ impl<T: Drop> Rows<T> {
         &self.items
     }
 
+    /// The items in order, for writing. The list ends as what is written there.
+    pub fn as_mut_slice(&mut self) -> &mut [T]
+        ensures* writes_back { sem 𝓛 (LendsItems T.row self.entry result) }
+        ensures value { result.now ≡ self.old }
+    {
+        self.items.as_mut_slice()
+    }
+
+    /// The item at a place, or none where the list is no longer than that.
+    pub fn get(&self, index: usize) -> Option<&T>
+        ensures { option_copied result ≡ slice_get self.now index }
+    {
+        self.items.get(index)
+    }
+
+    /// The first item, or none of an empty list.
+    pub fn first(&self) -> Option<&T>
+        ensures { option_copied result ≡ slice_get self.now 0 }
+    {
+        self.items.first()
+    }
+
+    /// The last item, or none of an empty list.
+    pub fn last(&self) -> Option<&T>
+        ensures { option_copied result ≡ slice_get self.now (length self.now - 1) }
+    {
+        self.items.last()
+    }
+
     /// How many items there are.
     pub fn len(&self) -> usize
         ensures { result ≡ length self.now }
@@ -77,6 +119,58 @@ impl<T: Drop> Rows<T> {
         ensures err { OnErr result (self.new ≡ self.old) }
     {
         self.items.push(item)?;
+        Ok(())
+    }
+
+    /// Takes the last item away and gives it, or none of an empty list.
+    pub fn pop(&mut self) -> Option<T>
+        ensures items { self.old ≡ self.new ++ option_to_list result }
+        ensures some { IsSome result ↔ (0 < length self.old) }
+    {
+        self.items.pop()
+    }
+
+    /// Lets go of every item. The room for them stays.
+    pub fn clear(&mut self)
+        ensures { self.new ≡ [] }
+    {
+        self.items.clear();
+    }
+
+    /// Lets go of every item but the first `len`. A list that is no longer stays as it was.
+    pub fn truncate(&mut self, len: usize)
+        ensures { self.new ≡ take len self.old }
+    {
+        self.items.truncate(len);
+    }
+
+    /// Makes room for so many items more. The list stays as it was, for want of memory too.
+    pub fn reserve(&mut self, additional: usize) -> Result<(), OutOfMemory>
+        ensures { self.new ≡ self.old }
+    {
+        self.items.reserve(additional)?;
+        Ok(())
+    }
+
+    /// Puts one item before the item at a place, or at the end where the place is the length of the list. For want of
+    /// memory the list stays as it was, and the item is let go.
+    pub fn insert(&mut self, index: usize, item: T) -> Result<(), OutOfMemory>
+        requires { index ≤ length self.old }
+        ensures ok { OnOk result (self.new ≡ take index self.old ++ item ∷ drop index self.old) }
+        ensures err { OnErr result (self.new ≡ self.old) }
+    {
+        self.items.insert(index, item)?;
+        Ok(())
+    }
+
+    /// Moves the items of another list to the end, and leaves that list empty. For want of memory both stay as they were.
+    pub fn append(&mut self, more: &mut Rows<T>) -> Result<(), OutOfMemory>
+        ensures ok { OnOk result (self.new ≡ self.old ++ more.old) }
+        ensures emptied { OnOk result (more.new ≡ []) }
+        ensures err { OnErr result (self.new ≡ self.old) }
+        ensures kept { OnErr result (more.new ≡ more.old) }
+    {
+        self.items.append(&mut more.items)?;
         Ok(())
     }
 }

@@ -32,6 +32,48 @@ fn rows_keep_their_order(rt: HostRuntime) -> Result<(), Fail> {
 }
 
 #[test]
+fn rows_are_taken_back(rt: HostRuntime) -> Result<(), Fail> {
+    let mut rows = Rows::with_capacity(rt.alloc(), 4)?;
+    assert!(rt; rows.is_empty());
+    rows.push(3u32)?;
+    rows.push(5)?;
+    rows.reserve(9)?;
+    rows.insert(1, 4)?;
+    assert_eq!(rt; rows.as_slice(), [3, 4, 5].as_slice());
+    assert!(rt; rows.first() == Some(&3) && rows.get(1) == Some(&4) && rows.last() == Some(&5));
+    assert!(rt; rows.get(3).is_none());
+    rows.as_mut_slice().reverse();
+    assert_eq!(rt; rows.pop(), Some(3));
+    let mut more = Rows::from_slice(rt.alloc(), &[7, 8])?;
+    rows.append(&mut more)?;
+    assert!(rt; more.is_empty() && more.last().is_none());
+    assert_eq!(rt; more.pop(), None);
+    assert_eq!(rt; rows.as_slice(), [5, 4, 7, 8].as_slice());
+    rows.truncate(3);
+    assert_eq!(rt; rows.as_slice(), [5, 4, 7].as_slice());
+    rows.clear();
+    assert!(rt; rows.is_empty());
+    Ok(())
+}
+
+#[test]
+fn whole_octets_stand_beside_others(rt: HostRuntime) {
+    let mut octets = [1, 2, 3, 4, 5, 6, 7, 8, 9, 10, 11, 12, 13, 14, 15, 16, 17];
+    assert_eq!(rt; read_octet_field(&octets, 8, 48), 0x02_0304_0506_07);
+    assert_eq!(rt; read_octet_field(&octets, 12, 48), 0x20_3040_5060_70);
+    assert_eq!(rt; read_octet_field(&octets, 88, 48), 0x0c_0d0e_0f10_11);
+    assert_eq!(rt; read_octet_field(&octets, 8, 128), 0x0203_0405_0607_0809_0a0b_0c0d_0e0f_1011);
+    assert_eq!(rt; read_octet_field(&octets[..3], 8, 16), 0x0203);
+    write_octet_field(&mut octets, 8, 48, 0xa1_b2c3_d4e5_f6);
+    assert_eq!(rt; read_octet_field(&octets, 0, 64), 0x01a1_b2c3_d4e5_f608);
+    write_octet_field(&mut octets, 84, 48, 0x12_3456_789a_bc);
+    assert_eq!(rt; read_octet_field(&octets, 80, 56), 0x01_2345_6789_abc1);
+    write_octet_field(&mut octets, 8, 128, 3 << 64 | 5);
+    assert_eq!(rt; read_octet_field(&octets, 0, 72), 0x01_0000_0000_0000_0003);
+    assert_eq!(rt; read_octet_field(&octets, 72, 64), 5);
+}
+
+#[test]
 fn octet_fields_stand_at_any_bit(rt: HostRuntime) {
     let mut octets = [0x12, 0x34, 0x56, 0x78];
     assert_eq!(rt; read_octet_field(&octets, 3, 7), 0b100_1000);
@@ -48,7 +90,10 @@ fn octet_fields_stand_at_any_bit(rt: HostRuntime) {
 fn bit_lists_have_the_first_bit_first(rt: HostRuntime) -> Result<(), Fail> {
     let mut bits = Bits::new(rt.alloc());
     assert!(rt; bits.is_empty());
-    bits.push_number(3, 0b101)?;
+    bits.push_octets(&[0xff])?;
+    bits.clear();
+    bits.push_number(5, 0b10111)?;
+    bits.truncate(3);
     bits.push_octets(&[0xab, 0xcd])?;
     assert_eq!(rt; bits.len(), 19);
     assert_eq!(rt; bits.as_octets(), [0xb5, 0x79].as_slice());
@@ -63,7 +108,7 @@ fn bit_lists_have_the_first_bit_first(rt: HostRuntime) -> Result<(), Fail> {
 #[test]
 fn whole_numbers_stand_at_odd_bits(rt: HostRuntime) -> Result<(), Fail> {
     let number = 0x0123_4567_89ab_cdef_0f1e_2d3c_4b5a_6978;
-    let mut bits = Bits::new(rt.alloc());
+    let mut bits = Bits::with_capacity(rt.alloc(), 133)?;
     bits.push_number(5, 0b11011)?;
     bits.push_number(128, number)?;
     let mut twice = Bits::new(rt.alloc());

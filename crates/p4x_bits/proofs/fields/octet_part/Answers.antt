@@ -9,4 +9,4 @@ returns c =
     let small : c.args.count ≤ 8 = omega arith in
     mask_of_16 (c.from.result / 2 ^ (8 - c.args.skip - c.args.count)) c.args.count small
     ∙ ap (λ (n : ℕ). n / 2 ^ (8 - c.args.skip - c.args.count) % 2 ^ c.args.count) c.from.ensures
-    ∙ part_is c.args.octet c.args.skip c.args.count c.requires
+    ∙ part_is 8 c.args.octet c.args.skip c.args.count c.requires

@@ -14,4 +14,4 @@ pub returns : goal.returns
 returns c =
     let octet : c.args.octet < 256 = omega arith in
     let is : glued c.args.octet c.args.skip c.args.count c.args.number ≡ parts c.args.octet c.args.skip c.args.count c.args.number = glued_is c.args.octet c.args.skip c.args.count c.args.number octet c.requires in
-    rw (c.from.ensures, c.from-2.ensures, is) (with_part_is c.args.octet c.args.skip c.args.count c.args.number c.requires)
+    rw (c.from.ensures, c.from-2.ensures, is) (with_part_is 8 c.args.octet c.args.skip c.args.count c.args.number c.requires)

@@ -21,7 +21,7 @@ returns-clause-ok c =
     let end : len + c.args.width ≡ to = ap (λ (k : ℕ). len + k) (sym c.from.ensures) ∙ sum in
     let same : length now ≡ vec_len c.grow.new.octets = omega arith in
     let is : octet_bits now ≡ spliced len to new (octet_bits longer) =
-    c.write_octet_field.ensures ∙ ap (λ xs. spliced len (len + c.args.width) new (octet_bits xs)) c.deref_mut.ensures.value ∙ ap (λ (k : ℕ). spliced len k new (octet_bits longer)) end in
+    c.write_octet_field.ensures.bits ∙ ap (λ xs. spliced len (len + c.args.width) new (octet_bits xs)) c.deref_mut.ensures.value ∙ ap (λ (k : ℕ). spliced len k new (octet_bits longer)) end in
     ap (λ xs. take to (octet_bits xs)) (with_items_is c.grow.new.octets now same)
     ∙ pushed_behind len to n (octet_bits octets) (octet_bits longer) (octet_bits now) new (omega arith) keeps (begins_longer n (octet_bits longer) (octet_bits octets) keeps (length-octet_bits octets)) (omega (arith, length-octet_bits longer, c.in_ok-grow.ensures.room)) (ap (λ (k : ℕ). len + k) (length-bits c.args.width c.args.value) ∙ end) is
     ∙ ap (λ xs. xs ++ new) c.self.view_is

@@ -1,32 +1,71 @@
--- A splice of the octets' bits is one of the list.
-use Rattle.std.proofs.Common.{◌≡◌, ℕ, ◌+◌, vec_len, length, take, ap, sym, ◌∙◌, arith, length-take-le}
+-- A write into the octets' bits is one into the list, and the laws of windows hold of it.
+use Rattle.std.proofs.Common.{◌≡◌, ℕ, ◌+◌, ◌*◌, ◌≤◌, List, Bool, vec_len, length, take, drop, ap, sym, ◌∙◌, arith, length-take-le}
 use Rattle.std.proofs.lemmas.List.{with_items_is}
-use Rattle.p4x_bits.specs.BitLists.{bits, octet_bits}
-use Rattle.p4x_bits.proofs.BitLists.{length-bits, length-octet_bits}
-use Rattle.p4x_bits.proofs.Splices.{spliced, spliced_within}
+use Rattle.std.specs.Vec.{with_items}
+use Rattle.p4x_bits.specs.BitLists.{num, octet_bits}
+use Rattle.p4x_bits.proofs.BitLists.{length-octet_bits}
+use Rattle.p4x_bits.proofs.Windows.{written, written_within, length-written, window_written, window_apart}
 use Rattle.p4x_bits.proofs.bits.Bits.write_field.Goals as goal
 
 pub returns-clause-bits : goal.returns-clause-bits
 returns-clause-bits c =
     let octets = c.self.inside.octets.items in
     let len = c.self.inside.len in
+    let now = c.write_octet_field.new.octets in
     let at = c.args.at in
-    let to = at + c.args.width in
-    let new = bits c.args.width c.args.value in
-    let long : length c.args.self.now ≡ len = ap length (sym c.self.view_is) ∙ length-take-le len (octet_bits octets) (omega (arith, length-octet_bits octets)) in
-    let same : length c.write_octet_field.new.octets ≡ vec_len c.self.inside.octets = omega arith in
-    ap (λ xs. take len (octet_bits xs)) (with_items_is c.self.inside.octets c.write_octet_field.new.octets same)
-    ∙ ap (take len) (c.write_octet_field.ensures ∙ ap (λ xs. spliced at to new (octet_bits xs)) c.deref_mut.ensures.value)
-    ∙ spliced_within len at to new (octet_bits octets) (omega (arith, length-octet_bits octets)) (ap (λ (k : ℕ). at + k) (length-bits c.args.width c.args.value)) (omega arith)
-    ∙ ap (spliced at to new) c.self.view_is
+    let width = c.args.width in
+    let old = c.args.self.now in
+    let long : length old ≡ len = ap length (sym c.self.view_is) ∙ length-take-le len (octet_bits octets) (omega (arith, length-octet_bits octets)) in
+    let same : length now ≡ vec_len c.self.inside.octets = omega arith in
+    let bits : take len (octet_bits (with_items c.self.inside.octets now).items) ≡ written at width c.args.value old =
+    ap (λ xs. take len (octet_bits xs)) (with_items_is c.self.inside.octets now same)
+    ∙ written_within octets now old len at width c.args.value (omega arith) c.self.view_is (omega arith) (c.write_octet_field.ensures.bits ∙ ap (λ xs. written at width c.args.value (octet_bits xs)) c.deref_mut.ensures.value) in
+    bits
+
 
 pub returns-clause-len : goal.returns-clause-len
 returns-clause-len c =
     let octets = c.self.inside.octets.items in
     let len = c.self.inside.len in
     let now = c.write_octet_field.new.octets in
-    let long : length c.args.self.now ≡ len = ap length (sym c.self.view_is) ∙ length-take-le len (octet_bits octets) (omega (arith, length-octet_bits octets)) in
+    let at = c.args.at in
+    let width = c.args.width in
+    let old = c.args.self.now in
+    let long : length old ≡ len = ap length (sym c.self.view_is) ∙ length-take-le len (octet_bits octets) (omega (arith, length-octet_bits octets)) in
     let same : length now ≡ vec_len c.self.inside.octets = omega arith in
-    ap (λ xs. length (take len (octet_bits xs))) (with_items_is c.self.inside.octets now same)
-    ∙ length-take-le len (octet_bits now) (omega (arith, length-octet_bits now, ap length c.deref_mut.ensures.value))
-    ∙ sym long
+    let bits : take len (octet_bits (with_items c.self.inside.octets now).items) ≡ written at width c.args.value old =
+    ap (λ xs. take len (octet_bits xs)) (with_items_is c.self.inside.octets now same)
+    ∙ written_within octets now old len at width c.args.value (omega arith) c.self.view_is (omega arith) (c.write_octet_field.ensures.bits ∙ ap (λ xs. written at width c.args.value (octet_bits xs)) c.deref_mut.ensures.value) in
+    ap length bits ∙ length-written at width c.args.value old (omega arith)
+
+
+pub returns-clause-reads : goal.returns-clause-reads
+returns-clause-reads c =
+    let octets = c.self.inside.octets.items in
+    let len = c.self.inside.len in
+    let now = c.write_octet_field.new.octets in
+    let at = c.args.at in
+    let width = c.args.width in
+    let old = c.args.self.now in
+    let long : length old ≡ len = ap length (sym c.self.view_is) ∙ length-take-le len (octet_bits octets) (omega (arith, length-octet_bits octets)) in
+    let same : length now ≡ vec_len c.self.inside.octets = omega arith in
+    let bits : take len (octet_bits (with_items c.self.inside.octets now).items) ≡ written at width c.args.value old =
+    ap (λ xs. take len (octet_bits xs)) (with_items_is c.self.inside.octets now same)
+    ∙ written_within octets now old len at width c.args.value (omega arith) c.self.view_is (omega arith) (c.write_octet_field.ensures.bits ∙ ap (λ xs. written at width c.args.value (octet_bits xs)) c.deref_mut.ensures.value) in
+    ap (λ xs. num (take width (drop at xs))) bits ∙ window_written at width c.args.value old (omega arith) (omega arith)
+
+
+pub returns-clause-apart : goal.returns-clause-apart
+returns-clause-apart c =
+    let octets = c.self.inside.octets.items in
+    let len = c.self.inside.len in
+    let now = c.write_octet_field.new.octets in
+    let at = c.args.at in
+    let width = c.args.width in
+    let old = c.args.self.now in
+    let long : length old ≡ len = ap length (sym c.self.view_is) ∙ length-take-le len (octet_bits octets) (omega (arith, length-octet_bits octets)) in
+    let same : length now ≡ vec_len c.self.inside.octets = omega arith in
+    let bits : take len (octet_bits (with_items c.self.inside.octets now).items) ≡ written at width c.args.value old =
+    ap (λ xs. take len (octet_bits xs)) (with_items_is c.self.inside.octets now same)
+    ∙ written_within octets now old len at width c.args.value (omega arith) c.self.view_is (omega arith) (c.write_octet_field.ensures.bits ∙ ap (λ xs. written at width c.args.value (octet_bits xs)) c.deref_mut.ensures.value) in
+    λ from count h. ap (λ xs. take count (drop from xs)) bits ∙ window_apart at width c.args.value from count old (omega arith) h

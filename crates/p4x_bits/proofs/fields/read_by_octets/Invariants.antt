@@ -1,7 +1,7 @@
 -- The bits that were read so far, and where the next ones stand.
 use Rattle.std.proofs.Common.{◌≡◌, ◌+◌, ◌-◌, ◌*◌, ◌<◌, ◌≤◌, take, drop}
 use Rattle.p4x_bits.specs.BitLists.{num, octet_bits}
-use Rattle.p4x_bits.proofs.fields.read_octet_field.Given as goal
+use Rattle.p4x_bits.proofs.fields.read_by_octets.Given as goal
 
 abbrev pub invariant-loop-left : goal.invariant-loop-left
 invariant-loop-left l = record {

@@ -2,7 +2,7 @@
 use Rattle.std.proofs.Common.{◌≡◌, ◌+◌, ◌-◌, ◌≤◌, take}
 use Rattle.p4x_bits.specs.BitLists.{octet_bits}
 use Rattle.p4x_bits.proofs.Splices.{spliced}
-use Rattle.p4x_bits.proofs.fields.copy_bits.Given as goal
+use Rattle.p4x_bits.proofs.fields.copy_by_fields.Given as goal
 
 abbrev pub invariant-loop-done : goal.invariant-loop-done
 invariant-loop-done l = record {

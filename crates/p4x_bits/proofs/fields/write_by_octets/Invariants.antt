@@ -2,7 +2,7 @@
 use Rattle.std.proofs.Common.{◌≡◌, ◌+◌, ◌-◌, ◌*◌, ◌/◌, ◌^◌, ◌<◌, ◌≤◌}
 use Rattle.p4x_bits.specs.BitLists.{bits, octet_bits}
 use Rattle.p4x_bits.proofs.Splices.{spliced}
-use Rattle.p4x_bits.proofs.fields.write_octet_field.Given as goal
+use Rattle.p4x_bits.proofs.fields.write_by_octets.Given as goal
 
 abbrev pub invariant-loop-left : goal.invariant-loop-left
 invariant-loop-left l = record {
