@@ -1,6 +1,7 @@
 // What the examples have in common: a program, a capture, and a run over files in memory.
 use p4x_cmd::p4x;
 use p4x_io::{Desk, MemoryDesk, MemorySink};
+use p4x_texts::ONE_TABLE;
 use std::alloc::Global;
 use std::process::Abort;
 use std::test::Fail;
@@ -12,13 +13,7 @@ pub const WORDS: [&str; 10] = [
 
 /// A program whose header has 14 octets, and which sends to port 3.
 pub fn program() -> &'static [u8] {
-    b"header_type eth_t { fields { a : 48; b : 48; c : 16; } }
-header eth_t eth;
-parser start { extract(eth); return ingress; }
-action out3() { modify_field(standard_metadata.egress_spec, 3); }
-table t { actions { out3; } default_action : out3(); }
-control ingress { apply(t); }
-"
+    ONE_TABLE
 }
 
 /// The text that is written for it.

@@ -31,6 +31,3 @@ pub use parsers::{Case, CaseTarget, CaseValues, Masked, PStmt, PValue, Parser, R
 pub use parts::{Index, Inst, Number, Ref, Sign};
 pub use syntax::{Decl, LeftOut, LeftOutKind, Rule14, Sort, Syntax14};
 pub use tables::{Read, ReadKey, Table, TableAttr};
-
-#[cfg(test)]
-mod tests;

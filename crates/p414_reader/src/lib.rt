@@ -26,8 +26,6 @@ mod stack;
 mod states;
 mod symbols;
 mod tables;
-#[cfg(test)]
-mod tests;
 
 pub use error::Read14;
 pub use read::read14;

@@ -7,8 +7,6 @@ mod kind;
 mod lexicon;
 mod lines;
 mod numbers;
-#[cfg(test)]
-mod tests;
 
 pub use kind::{Token14, TokenKind14};
 pub use lexicon::tokens;

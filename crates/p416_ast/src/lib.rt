@@ -16,6 +16,3 @@ pub use node::{ExpNode, Operator, StmtNode};
 pub use nodes::Nodes;
 pub use parser::{Parser16, ParserParts, State, Target, Transition};
 pub use syntax::{Decl16, Syntax16};
-
-#[cfg(test)]
-mod tests;

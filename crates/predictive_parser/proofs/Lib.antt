@@ -4,4 +4,3 @@ pub mod Meanings
 pub mod Closings
 pub mod Languages
 pub mod Turns
-pub mod ExampleReading

@@ -2,5 +2,3 @@ pub mod Machine
 pub mod Grammar
 pub mod Steps
 pub mod Answers
-pub mod ExampleSyntax
-pub mod ExampleGrammar

@@ -4,12 +4,9 @@
 
 mod alternatives;
 mod builder;
-mod example;
 mod parser;
 mod stack;
 mod symbol;
-#[cfg(test)]
-mod tests;
 
 pub use alternatives::{Alternative, choose_first};
 pub use builder::{Builder, Lookahead};
