@@ -1,6 +1,6 @@
 -- What a desk and a sink are to their callers, and what a call does to them: this project's own.
 -- Every definition is over plain records, never over the type of a desk.
-use Rattle.std.specs.Prelude.{◌≡◌, ◌≢◌, ◌<◌, ◌≤◌, ◌+◌, ◌-◌, ◌^◌, ℕ, min, List, [], ◌∷◌, ◌++◌, length, take, drop, Option, Some, None}
+use Rattle.std.specs.Prelude.{◌≡◌, ◌≢◌, ◌<◌, ◌≤◌, ◌+◌, ◌-◌, ◌^◌, ℕ, min, List, [], ◌∷◌, ◌++◌, length, take, drop, Option, Some, None, Result, Ok, Err}
 
 -- A desk: what it tells of each name (nothing, or that no such file is there, or the octets of
 -- the file), and how often a read, and a make or an append, of that name failed.
@@ -17,6 +17,11 @@ pub record SinkView : Type 0 where
 -- the count after one more: it stands still at its last value
 abbrev pub next : ℕ → ℕ
 next n = min (n + 1) (2 ^ 64 - 1)
+
+-- the count after a call with this result: one more exactly where the call failed
+abbrev pub counted : {T E : Type 0} → Result T E → ℕ → ℕ
+counted (Ok value) n = n
+counted (Err fault) n = next n
 
 -- the count rose, or stands at its last value
 abbrev pub Rose : ℕ → ℕ → Type 0

@@ -1,12 +1,13 @@
 // A sink in memory, which tells what was printed.
 ghost use Rattle.std.specs.Prelude.{◌≤◌, vec_capacity};
+ghost use Rattle.p4x_io.specs.Memory.{Printed};
 
-use std::alloc::Global;
+use std::marker::Model;
 
 /// A sink that keeps what is printed in memory and fails where that was asked for.
 ///
-/// Contracts see what it holds (`printed` of the crate's definitions); its count of faults stands
-/// still at 2^64 - 1.
+/// Contracts see it as one record (`Printed` of the crate's definitions): what was printed, the room,
+/// the writes so far, those that fail, and a count of faults that stands still at 2^64 - 1.
 #[derive(Drop)]
 pub struct MemorySink {
     text: Vec<u8>,
@@ -14,7 +15,21 @@ pub struct MemorySink {
     calls: u64,
     failing: Vec<u64>,
     faults: u64,
-    ghost has_room: { room ≤ vec_capacity text },
+}
+
+impl Model for MemorySink {
+    ghost Value = { Printed };
+
+    ghost view = { λ s. record {
+      text = s.text.items;
+      room = s.room;
+      calls = s.calls;
+      failing = s.failing.items;
+      faults = s.faults;
+    } };
+
+    // There is memory for the room, so a write takes none.
+    ghost invariant = { λ s. s.room ≤ vec_capacity s.text };
 }
 
 mod calls;

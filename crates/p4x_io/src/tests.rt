@@ -1,10 +1,9 @@
-// What no clause says: that the calls succeed with ample memory, and the edge to the system.
+// What no clause says: that the calls succeed with ample memory.
 use crate::{
-    Desk, Failed, HostDesk, HostSink, MemoryDesk, MemorySink, ReadFault, Sink, append_all,
-    has_octet, print_all, read_file, say,
+    Desk, Failed, MemoryDesk, MemorySink, ReadFault, Sink, append_all, has_octet, print_all,
+    read_file, say,
 };
 use std::alloc::Global;
-use std::fs::Files;
 use std::process::Abort;
 use std::test::Fail;
 
@@ -145,63 +144,4 @@ fn a_line_that_fails_gives_status_1(rt: HostRuntime) -> Result<(), Fail> {
     assert_eq!(rt; sink.text(), b"accepted\nusa".as_slice());
     assert_eq!(rt; print_all(&mut sink, b""), Ok(()));
     Ok(())
-}
-
-// Makes a file of the system and appends a text to it.
-fn made<R: Files>(desk: &mut HostDesk<'_, R>, name: &str, text: &[u8]) -> Result<(), Failed> {
-    desk.make(name)?;
-    append_all(desk, name, text)
-}
-
-// Appends a text to a file of the system.
-fn grow<R: Files>(desk: &mut HostDesk<'_, R>, name: &str, text: &[u8]) -> Result<(), Failed> {
-    append_all(desk, name, text)
-}
-
-// Whether a file of the system holds these octets and no more.
-fn holds<R: Files>(
-    alloc: Global,
-    desk: &mut HostDesk<'_, R>,
-    name: &str,
-    want: &[u8],
-) -> Result<bool, ReadFault> {
-    let text = read_file(alloc, desk, name, 1_000_000)?;
-    Ok(text.as_slice() == want)
-}
-
-#[test]
-fn the_host_desk_fails_where_no_file_is(rt: HostRuntime) {
-    let mut desk = HostDesk::new(&rt);
-    assert_eq!(rt; has_octet(&mut desk, "f", 0), Err(Failed));
-    assert_eq!(rt; grow(&mut desk, "f", b"abc"), Err(Failed));
-    assert_eq!(rt; made(&mut desk, "none/f", b"abc"), Err(Failed));
-}
-
-#[test]
-fn the_host_desk_keeps_files_of_the_system(rt: HostRuntime) -> Result<(), Fail> {
-    let text = vec![in rt.alloc(); 7u8; 70_000]?;
-    let twice = vec![in rt.alloc(); 7u8; 140_000]?;
-    let mut long = "./".repeat(rt.alloc(), 130)?;
-    long.push_str("k")?;
-    let mut desk = HostDesk::new(&rt);
-    // More files than stand open at once, the last under a name that is too long to be kept.
-    let names = ["f", "g", "h", "i", long.as_str()];
-    for name in names {
-        assert_eq!(rt; made(&mut desk, name, &text), Ok(()));
-    }
-    for name in names {
-        assert_eq!(rt; grow(&mut desk, name, &text), Ok(()));
-    }
-    for name in names {
-        assert_eq!(rt; holds(rt.alloc(), &mut desk, name, &twice), Ok(true));
-    }
-    assert_eq!(rt; made(&mut desk, "f", b"new"), Ok(()));
-    assert_eq!(rt; holds(rt.alloc(), &mut desk, "f", b"new"), Ok(true));
-    Ok(())
-}
-
-#[test]
-fn the_host_sink_prints(rt: HostRuntime) {
-    let mut sink = HostSink::new(&rt);
-    assert_eq!(rt; say(&mut sink, b"printed by the host sink\n", 3), 3);
 }

@@ -1,10 +1,10 @@
 // Files that stand open under their names.
 ghost use Rattle.std.specs.Prelude.{◌≤◌, length, IfOk};
 
+use crate::host::tries::{try_open, try_read, try_seek, try_write};
 use arrayvec::ArrayString;
 use std::fs::OpenOptions;
 use std::io;
-use std::io::{Read, Seek, SeekFrom, Write};
 use std::rt::Files;
 
 // A longer name isn't kept.
@@ -18,7 +18,7 @@ struct Handle<F: Drop> {
     place: u64,
 }
 
-// A few open files, each under another name.
+// A few open files, each under another name: the one used last comes first.
 #[derive(Drop)]
 pub(super) struct Handles<F: Drop> {
     first: Option<Handle<F>>,
@@ -56,19 +56,19 @@ impl<F: Drop> Handles<F> {
         take_of(&mut self.third, name)
     }
 
-    // Keeps a file in a free place, or else in the last one.
+    // Keeps a file as the one used last. Where no place is free, the one that wasn't used for the
+    // longest time is closed.
     fn keep(&mut self, name: &str, file: F, place: u64) {
         let Ok(name) = ArrayString::from(name) else {
             return;
         };
-        let handle = Handle { name, file, place };
-        if self.first.is_none() {
-            self.first = Some(handle);
-        } else if self.second.is_none() {
-            self.second = Some(handle);
-        } else {
-            self.third = Some(handle);
-        }
+        let Some(second) = self.first.replace(Handle { name, file, place }) else {
+            return;
+        };
+        let Some(third) = self.second.replace(second) else {
+            return;
+        };
+        self.third = Some(third);
     }
 
     // Closes the file of a name.
@@ -90,23 +90,21 @@ pub(super) fn read_from<R: Files>(
 {
     let (mut file, stands) = match handles.take(name) {
         Some(open) => open,
-        None => (OpenOptions::new().read(true).open(rt, name)?, 0),
+        None => (try_open(rt, OpenOptions::new().read(true), name)?, 0),
     };
     if stands != place {
-        file.seek(SeekFrom::Start(place))?;
+        try_seek(&mut file, place)?;
     }
-    let count = file.read(into)?;
+    let count = try_read(&mut file, into)?;
     handles.keep(name, file, place.saturating_add(count as u64));
     Ok(count)
 }
 
 // Makes a file empty.
 pub(super) fn make_at<R: Files>(rt: &R, name: &str) -> io::Result<()> {
-    let _file = OpenOptions::new()
-        .write(true)
-        .create(true)
-        .truncate(true)
-        .open(rt, name)?;
+    let mut how = OpenOptions::new();
+    how.write(true).create(true).truncate(true);
+    let _file = try_open(rt, &how, name)?;
     Ok(())
 }
 
@@ -119,9 +117,9 @@ pub(super) fn append_to<R: Files>(
 ) -> io::Result<usize> {
     let mut file = match handles.take(name) {
         Some((file, _)) => file,
-        None => OpenOptions::new().append(true).open(rt, name)?,
+        None => try_open(rt, OpenOptions::new().append(true), name)?,
     };
-    let count = file.write(piece)?;
+    let count = try_write(&mut file, piece)?;
     handles.keep(name, file, 0);
     Ok(count)
 }

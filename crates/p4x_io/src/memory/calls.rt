@@ -1,7 +1,9 @@
 ghost use Rattle.std.specs.Prelude.{◌≤◌, ◌≡◌, ◌≢◌, ◌<◌, ℕ, List, [], ◌∷◌, cond, length, min, MatchOption, take, Some, None, IfOk, OnOk, OnErr, option_map, unwrap_or, option_copied};
 ghost use Rattle.std.specs.Result.{is_err};
-ghost use Rattle.p4x_io.specs.Memory.{slot_at, known_at, IsFirst, file_in, fresh, asked, left, known, faults, memory_file, memory_view, read_fails, make_fails, append_fails, after_read, after_make, after_append, with_file, with_room, with_failing_read, with_failing_append};
-ghost use Rattle.p4x_io.specs.Desk.{DeskView, Rose, Moves, Reads, Takes, next, put, grown};
+ghost use Rattle.p4x_io.specs.internal.Slots.{IsFirst};
+ghost use Rattle.p4x_io.specs.internal.Asking.{asked};
+ghost use Rattle.p4x_io.specs.Memory.{known_at, file_in, fresh, left, known, memory_file, memory_view, read_fails, make_fails, append_fails, after_read, after_make, after_append, with_file, with_room, with_failing_read, with_failing_append};
+ghost use Rattle.p4x_io.specs.Desk.{DeskView, Rose, Moves, Reads, Takes, counted, put, grown};
 
 use crate::desk::Desk;
 use crate::faults::{Failed, OutOfMemory};
@@ -10,10 +12,10 @@ use crate::slot::{Ask, Slot};
 use std::alloc::{AllocError, Global};
 
 fn find(slots: &[Slot], name: &str) -> Option<usize>
-    ensures { MatchOption result (slot_at name.now slots.now ≡ None) (IsFirst name.now slots.now) }
+    ensures { MatchOption result (known_at slots.now name.now ≡ None) (IsFirst name.now slots.now) }
 {
     for (i, slot) in slots.iter().enumerate() {
-        if slot.name.as_str() == name {
+        if slot.is_named(name) {
             return Some(i);
         }
     }
@@ -75,7 +77,7 @@ fn ask_fresh(
     name: &str,
     ask: Ask<'_>,
 ) -> Result<(), AllocError>
-    requires { slot_at name.now slots.old.items ≡ None }
+    requires { known_at slots.old.items name.now ≡ None }
     ensures others { (n : List ℕ) → n ≢ name.now → known_at slots.new.items n ≡ known_at slots.old.items n }
     ensures known { OnOk result (known_at slots.new.items name.now ≡ Some (asked ask.entry (unwrap_or (known_at slots.old.items name.now) fresh))) }
     ensures kept { OnErr result (known_at slots.new.items name.now ≡ known_at slots.old.items name.now) }
@@ -101,8 +103,7 @@ impl MemoryDesk {
     /// A desk with no files, of which nothing was asked. It takes no memory yet; its later calls
     /// use this allocator.
     pub fn new(alloc: Global) -> MemoryDesk
-        ensures known { (n : List ℕ) → known result n ≡ None }
-        ensures faults { faults result ≡ 0 }
+        ensures { result ≡ record { names = []; faults = 0 } }
     {
         MemoryDesk {
             alloc,
@@ -116,8 +117,8 @@ impl MemoryDesk {
         ensures { option_map (λ x. x.now) result ≡ memory_file self.now name.now }
     {
         match find(&self.slots, name) {
-            Some(i) if self.slots[i].there => Some(&self.slots[i].octets),
-            _ => None,
+            Some(i) => self.slots[i].file(),
+            None => None,
         }
     }
 
@@ -130,7 +131,7 @@ impl MemoryDesk {
         ensures others { (n : List ℕ) → n ≢ name.now → known self.new n ≡ known self.old n }
         ensures put { OnOk result (known self.new name.now ≡ Some (with_file octets.now (unwrap_or (known self.old name.now) fresh))) }
         ensures kept { OnErr result (known self.new name.now ≡ known self.old name.now) }
-        ensures faults { faults self.new ≡ faults self.old }
+        ensures faults { self.new.faults ≡ self.old.faults }
     {
         Ok(ask_in(self.alloc, &mut self.slots, name, Ask::Put(octets))?)
     }
@@ -144,7 +145,7 @@ impl MemoryDesk {
         ensures others { (n : List ℕ) → n ≢ name.now → known self.new n ≡ known self.old n }
         ensures room { OnOk result (known self.new name.now ≡ Some (with_room octets (unwrap_or (known self.old name.now) fresh))) }
         ensures kept { OnErr result (known self.new name.now ≡ known self.old name.now) }
-        ensures faults { faults self.new ≡ faults self.old }
+        ensures faults { self.new.faults ≡ self.old.faults }
     {
         Ok(ask_in(self.alloc, &mut self.slots, name, Ask::Room(octets))?)
     }
@@ -158,7 +159,7 @@ impl MemoryDesk {
         ensures others { (n : List ℕ) → n ≢ name.now → known self.new n ≡ known self.old n }
         ensures asked { OnOk result (known self.new name.now ≡ Some (with_failing_read k (unwrap_or (known self.old name.now) fresh))) }
         ensures kept { OnErr result (known self.new name.now ≡ known self.old name.now) }
-        ensures faults { faults self.new ≡ faults self.old }
+        ensures faults { self.new.faults ≡ self.old.faults }
     {
         Ok(ask_in(self.alloc, &mut self.slots, name, Ask::FailRead(k))?)
     }
@@ -171,7 +172,7 @@ impl MemoryDesk {
         ensures others { (n : List ℕ) → n ≢ name.now → known self.new n ≡ known self.old n }
         ensures asked { OnOk result (known self.new name.now ≡ Some (with_failing_append k (unwrap_or (known self.old name.now) fresh))) }
         ensures kept { OnErr result (known self.new name.now ≡ known self.old name.now) }
-        ensures faults { faults self.new ≡ faults self.old }
+        ensures faults { self.new.faults ≡ self.old.faults }
     {
         Ok(ask_in(self.alloc, &mut self.slots, name, Ask::FailAppend(k))?)
     }
@@ -184,11 +185,11 @@ impl Desk for MemoryDesk {
         requires room { 0 < length into.old }
         ensures moves { Moves [] (memory_view self.old) (memory_view self.new) }
         ensures octets { IfOk result (λ n. Reads ((memory_view self.old).told name.now) place n into.new) }
-        ensures cause { OnErr result (Rose (faults self.old) (faults self.new)) }
+        ensures cause { OnErr result (Rose self.old.faults self.new.faults) }
         ensures exact { is_err result ≡ read_fails (known self.old name.now) }
         ensures known { known self.new name.now ≡ option_map after_read (known self.old name.now) }
         ensures others { (n : List ℕ) → n ≢ name.now → known self.new n ≡ known self.old n }
-        ensures faults { faults self.new ≡ cond (is_err result) (next (faults self.old)) (faults self.old) }
+        ensures faults { self.new.faults ≡ counted result self.old.faults }
     {
         match read_in(&mut self.slots, name, place, into) {
             Ok(count) => Ok(count),
@@ -203,11 +204,11 @@ impl Desk for MemoryDesk {
         ensures moves { Moves (name.now ∷ []) (memory_view self.old) (memory_view self.new) }
         ensures made { OnOk result ((memory_view self.new).told name.now ≡ put ((memory_view self.old).told name.now) []) }
         ensures kept { OnErr result ((memory_view self.new).told name.now ≡ (memory_view self.old).told name.now) }
-        ensures cause { OnErr result (Rose (faults self.old) (faults self.new)) }
+        ensures cause { OnErr result (Rose self.old.faults self.new.faults) }
         ensures exact { is_err result ≡ make_fails (known self.old name.now) }
         ensures known { known self.new name.now ≡ option_map after_make (known self.old name.now) }
         ensures others { (n : List ℕ) → n ≢ name.now → known self.new n ≡ known self.old n }
-        ensures faults { faults self.new ≡ cond (is_err result) (next (faults self.old)) (faults self.old) }
+        ensures faults { self.new.faults ≡ counted result self.old.faults }
     {
         match make_in(&mut self.slots, name) {
             Ok(()) => Ok(()),
@@ -225,12 +226,12 @@ impl Desk for MemoryDesk {
         ensures takes { IfOk result (Takes piece.now) }
         ensures grown { IfOk result (λ n. (memory_view self.new).told name.now ≡ grown ((memory_view self.old).told name.now) (take n piece.now)) }
         ensures kept { OnErr result ((memory_view self.new).told name.now ≡ (memory_view self.old).told name.now) }
-        ensures cause { OnErr result (Rose (faults self.old) (faults self.new)) }
+        ensures cause { OnErr result (Rose self.old.faults self.new.faults) }
         ensures exact { is_err result ≡ append_fails (known self.old name.now) }
         ensures count { IfOk result (λ n. n ≡ min (left (unwrap_or (known self.old name.now) fresh)) (length piece.now)) }
         ensures known { known self.new name.now ≡ option_map (after_append piece.now) (known self.old name.now) }
         ensures others { (n : List ℕ) → n ≢ name.now → known self.new n ≡ known self.old n }
-        ensures faults { faults self.new ≡ cond (is_err result) (next (faults self.old)) (faults self.old) }
+        ensures faults { self.new.faults ≡ counted result self.old.faults }
     {
         match append_in(&mut self.slots, name, piece) {
             Ok(count) => Ok(count),

@@ -1,7 +1,9 @@
-ghost use Rattle.std.specs.Prelude.{◌≡◌, ◌≤◌, ◌<◌, ◌+◌, ◌-◌, true, false, not, [], ◌++◌, length, take, min, max, Some, None, IfOk, OnOk, OnErr, string_bytes, vec_capacity, unwrap_or};
+ghost use Rattle.std.specs.Prelude.{◌≡◌, ◌≤◌, ◌<◌, ◌+◌, ◌-◌, true, false, not, [], ◌++◌, length, take, min, max, Some, None, IfOk, OnOk, OnErr, string_bytes, vec_capacity, unwrap_or, option_map};
 ghost use Rattle.std.specs.Result.{is_err};
 ghost use Rattle.p4x_io.specs.Desk.{Reads, Takes};
-ghost use Rattle.p4x_io.specs.Memory.{known_in, fresh, asked, left, read_fails, make_fails, append_fails, after_read, after_make, after_append, SameName};
+ghost use Rattle.std.specs.Str.{bytes_eq};
+ghost use Rattle.p4x_io.specs.Memory.{fresh, left, read_fails, make_fails, append_fails, after_read, after_make, after_append};
+ghost use Rattle.p4x_io.specs.internal.Asking.{asked};
 
 use crate::faults::Failed;
 use crate::slot::{Ask, Slot};
@@ -24,8 +26,7 @@ fn copy_at(octets: &[u8], place: u64, into: &mut [u8]) -> usize
 impl Slot {
     // A name of which nothing was asked.
     pub(crate) fn new(alloc: Global, name: &str) -> Result<Slot, AllocError>
-        ensures name { IfOk result (λ s. string_bytes s.name ≡ name.now) }
-        ensures known { IfOk result (λ s. known_in s ≡ fresh) }
+        ensures { IfOk result (λ s. s ≡ record { name = name.now; known = fresh }) }
     {
         Ok(Slot {
             name: String::from_str(alloc, name)?,
@@ -39,13 +40,28 @@ impl Slot {
         })
     }
 
+    pub(crate) fn is_named(&self, name: &str) -> bool
+        ensures { result ≡ bytes_eq self.now.name name.now }
+    {
+        self.name.as_str() == name
+    }
+
+    // The octets of the file, where it is there.
+    pub(crate) fn file(&self) -> Option<&[u8]>
+        ensures { option_map (λ x. x.now) result ≡ self.now.known.file }
+    {
+        if !self.there {
+            return None;
+        }
+        Some(&self.octets)
+    }
+
     pub(crate) fn read(&mut self, place: u64, into: &mut [u8]) -> Result<usize, Failed>
         requires { 0 < length into.old }
-        ensures name { SameName self.old self.new }
-        ensures known { known_in self.new ≡ after_read (known_in self.old) }
-        ensures reads { IfOk result (λ n. Reads (Some (Some self.old.octets.items)) place n into.new) }
-        ensures present { OnOk result (self.old.there ≡ true) }
-        ensures exact { is_err result ≡ read_fails (Some (known_in self.old)) }
+        ensures name { self.new.name ≡ self.old.name }
+        ensures known { self.new.known ≡ after_read self.old.known }
+        ensures reads { IfOk result (λ n. Reads (Some self.old.known.file) place n into.new) }
+        ensures exact { is_err result ≡ read_fails (Some self.old.known) }
     {
         self.reads = self.reads.saturating_add(1);
         if !self.there || self.failing_reads.contains(&self.reads) {
@@ -55,9 +71,9 @@ impl Slot {
     }
 
     pub(crate) fn make(&mut self) -> Result<(), Failed>
-        ensures name { SameName self.old self.new }
-        ensures known { known_in self.new ≡ after_make (known_in self.old) }
-        ensures exact { is_err result ≡ make_fails (Some (known_in self.old)) }
+        ensures name { self.new.name ≡ self.old.name }
+        ensures known { self.new.known ≡ after_make self.old.known }
+        ensures exact { is_err result ≡ make_fails (Some self.old.known) }
     {
         if self.room.is_none() {
             return Err(Failed);
@@ -69,12 +85,12 @@ impl Slot {
 
     pub(crate) fn append(&mut self, piece: &[u8]) -> Result<usize, Failed>
         requires piece { 0 < length piece.now }
-        requires there { self.old.there ≡ true }
-        ensures name { SameName self.old self.new }
-        ensures known { known_in self.new ≡ after_append piece.now (known_in self.old) }
+        requires there { self.old.known.file ≡ None → ⊥ }
+        ensures name { self.new.name ≡ self.old.name }
+        ensures known { self.new.known ≡ after_append piece.now self.old.known }
         ensures takes { IfOk result (Takes piece.now) }
-        ensures count { IfOk result (λ n. n ≡ min (left (known_in self.old)) (length piece.now)) }
-        ensures exact { is_err result ≡ append_fails (Some (known_in self.old)) }
+        ensures count { IfOk result (λ n. n ≡ min (left self.old.known) (length piece.now)) }
+        ensures exact { is_err result ≡ append_fails (Some self.old.known) }
     {
         self.appends = self.appends.saturating_add(1);
         let left = self.room.unwrap_or(0).saturating_sub(self.octets.len());
@@ -89,11 +105,9 @@ impl Slot {
 
     // Makes room for so many octets, which stand beside those that are there.
     fn reserve(&mut self, octets: usize) -> Result<(), AllocError>
-        ensures name { SameName self.old self.new }
-        ensures there { self.new.there ≡ self.old.there }
-        ensures room { OnOk result (octets ≤ vec_capacity self.new.octets) }
-        ensures known { OnOk result (known_in self.new ≡ asked (Ask.Room octets) (known_in self.old)) }
-        ensures kept { OnErr result (known_in self.new ≡ known_in self.old) }
+        ensures name { self.new.name ≡ self.old.name }
+        ensures known { OnOk result (self.new.known ≡ asked (Ask.Room octets) self.old.known) }
+        ensures kept { OnErr result (self.new.known ≡ self.old.known) }
     {
         let more = octets.saturating_sub(self.octets.len());
         self.octets.reserve_exact(more)?;
@@ -102,9 +116,9 @@ impl Slot {
     }
 
     fn put(&mut self, octets: &[u8]) -> Result<(), AllocError>
-        ensures name { SameName self.old self.new }
-        ensures known { OnOk result (known_in self.new ≡ asked (Ask.Put octets.entry) (known_in self.old)) }
-        ensures kept { OnErr result (known_in self.new ≡ known_in self.old) }
+        ensures name { self.new.name ≡ self.old.name }
+        ensures known { OnOk result (self.new.known ≡ asked (Ask.Put octets.entry) self.old.known) }
+        ensures kept { OnErr result (self.new.known ≡ self.old.known) }
     {
         self.reserve(octets.len())?;
         self.octets.clear();
@@ -115,9 +129,9 @@ impl Slot {
     }
 
     pub(crate) fn ask(&mut self, ask: Ask<'_>) -> Result<(), AllocError>
-        ensures name { SameName self.old self.new }
-        ensures known { OnOk result (known_in self.new ≡ asked ask.entry (known_in self.old)) }
-        ensures kept { OnErr result (known_in self.new ≡ known_in self.old) }
+        ensures name { self.new.name ≡ self.old.name }
+        ensures known { OnOk result (self.new.known ≡ asked ask.entry self.old.known) }
+        ensures kept { OnErr result (self.new.known ≡ self.old.known) }
     {
         match ask {
             Ask::Put(octets) => self.put(octets),
