@@ -1,7 +1,7 @@
 -- Words of eight octets: their bits, and the shifts that take a part out of one or write it anew.
-use Rattle.std.proofs.Common.{◌≡◌, ℕ, suc, ◌+◌, ◌-◌, ◌*◌, ◌/◌, ◌%◌, ◌^◌, ◌<◌, ◌≤◌, Bool, List, [], ◌∷◌, ◌++◌, length, take, drop, get_or, bit_or, refl, sym, ap, ◌∙◌, arith, pow_pos, pow-add, shr-shr, mod-eq_of_lt, drop-cons, drop-drop, length-drop, length-take-le, take-add, take-append-drop, append_assoc}
+use Rattle.std.proofs.Common.{◌≡◌, ℕ, suc, ◌+◌, ◌-◌, ◌*◌, ◌/◌, ◌%◌, ◌^◌, ◌<◌, ◌≤◌, Bool, List, [], ◌∷◌, ◌++◌, length, take, drop, get_or, bit_or, refl, sym, ap, ◌∙◌, arith, pow_pos, shr-shr, mod-eq_of_lt, drop-cons, drop-drop, length-drop, length-take-le, take-add, take-append-drop}
 use Rattle.std.proofs.Math.Nat.{mul-mod_left}
-use Rattle.std.proofs.lemmas.Nat.{mod-pow-add, shr_high, shl-shr, shl_whole, shr_below, mul-add-lt, div-add-mod'}
+use Rattle.std.proofs.lemmas.Nat.{mod-pow-add, shr_high, shl-shr, shl_whole, shr_below, div-add-mod'}
 use Rattle.std.proofs.lemmas.List.{append-nil}
 use Rattle.std.proofs.lemmas.Slice.{take-put_mid, drop-put_mid}
 use borrow.Rule.Slice.PartMut.{put_mid}

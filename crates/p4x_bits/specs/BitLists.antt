@@ -1,4 +1,5 @@
--- Bit lists and their numbers, in the order in which a packet's bits stand on the wire: the most significant bit first.
+-- Bit lists and their numbers, in the order in which a packet's bits stand on the wire: the most significant bit
+-- first.
 use Rattle.std.specs.Prelude.{ℕ, zero, suc, ◌+◌, ◌*◌, ◌/◌, ◌%◌, ◌^◌, ◌<◌, Bool, true, false, nat_eq, List, [], ◌∷◌, ◌++◌, length, All}
 
 -- a bit as a number

@@ -95,7 +95,8 @@ impl Bits {
         ensures bits { self.new ≡ take at self.old ++ bits width value ++ drop (at + width) self.old }
         ensures len { length self.new ≡ length self.old }
         ensures reads { num (take width (drop at self.new)) ≡ value }
-        ensures apart { (from count : ℕ) → (from + count ≤ at) ⊎ (at + width ≤ from) → take count (drop from self.new) ≡ take count (drop from self.old) }
+        ensures apart { (from count : ℕ) → (from + count ≤ at) ⊎ (at + width ≤ from) →
+            take count (drop from self.new) ≡ take count (drop from self.old) }
     {
         write_octet_field(&mut self.octets, at, width, value);
     }

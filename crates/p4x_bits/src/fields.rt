@@ -219,7 +219,8 @@ pub fn write_octet_field(octets: &mut [u8], at: usize, width: u8, value: u128)
     ensures bits { let old = octet_bits octets.old in
         octet_bits octets.new ≡ take at old ++ bits width value ++ drop (at + width) old }
     ensures reads { num (take width (drop at (octet_bits octets.new))) ≡ value }
-    ensures apart { (from count : ℕ) → (from + count ≤ at) ⊎ (at + width ≤ from) → take count (drop from (octet_bits octets.new)) ≡ take count (drop from (octet_bits octets.old)) }
+    ensures apart { (from count : ℕ) → (from + count ≤ at) ⊎ (at + width ≤ from) →
+        take count (drop from (octet_bits octets.new)) ≡ take count (drop from (octet_bits octets.old)) }
 {
     write_window(octets, at, width, value);
 }

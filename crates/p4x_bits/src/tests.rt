@@ -62,7 +62,10 @@ fn whole_octets_stand_beside_others(rt: HostRuntime) {
     assert_eq!(rt; read_octet_field(&octets, 8, 48), 0x02_0304_0506_07);
     assert_eq!(rt; read_octet_field(&octets, 12, 48), 0x20_3040_5060_70);
     assert_eq!(rt; read_octet_field(&octets, 88, 48), 0x0c_0d0e_0f10_11);
-    assert_eq!(rt; read_octet_field(&octets, 8, 128), 0x0203_0405_0607_0809_0a0b_0c0d_0e0f_1011);
+    assert_eq!(rt;
+        read_octet_field(&octets, 8, 128),
+        0x0203_0405_0607_0809_0a0b_0c0d_0e0f_1011
+    );
     assert_eq!(rt; read_octet_field(&octets[..3], 8, 16), 0x0203);
     write_octet_field(&mut octets, 8, 48, 0xa1_b2c3_d4e5_f6);
     assert_eq!(rt; read_octet_field(&octets, 0, 64), 0x01a1_b2c3_d4e5_f608);

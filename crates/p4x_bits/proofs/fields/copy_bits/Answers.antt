@@ -1,6 +1,5 @@
 -- Whole octets are copied over as many others.
-use Rattle.std.proofs.Common.{◌≡◌, ◌+◌, ◌-◌, ◌*◌, ◌/◌, ◌%◌, ◌^◌, ◌<◌, ◌≤◌, ◌++◌, length, take, drop, ℕ, Bool, List, Fits, w8, w64, get_or, ap, sym, ◌∙◌, arith, drop-drop, pow_mono, pow-add}
-use Rattle.p4x_bits.specs.BitLists.{num, bits, octet_bits}
+use Rattle.std.proofs.Common.{◌+◌, ◌-◌, ◌/◌, arith}
 use Rattle.p4x_bits.proofs.Words.{octets_copied}
 use Rattle.p4x_bits.proofs.fields.copy_bits.Goals as goal
 

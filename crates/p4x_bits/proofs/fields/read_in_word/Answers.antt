@@ -1,6 +1,6 @@
 -- The part of the word is the window of the octets.
-use Rattle.std.proofs.Common.{◌≡◌, ◌+◌, ◌-◌, ◌*◌, ◌/◌, ◌%◌, ◌^◌, ◌<◌, ◌≤◌, ◌++◌, length, take, drop, ℕ, Bool, List, Fits, w8, get_or, ap, sym, ◌∙◌, arith, drop-drop}
-use Rattle.p4x_bits.specs.BitLists.{num, bits, octet_bits}
+use Rattle.std.proofs.Common.{◌≡◌, ◌+◌, ◌-◌, ◌*◌, ◌≤◌, take, drop, ℕ, ap, ◌∙◌, arith, drop-drop}
+use Rattle.p4x_bits.specs.BitLists.{num, octet_bits}
 use Rattle.p4x_bits.proofs.Splices.{window_within}
 use Rattle.p4x_bits.proofs.fields.read_in_word.Goals as goal
 

@@ -1,6 +1,6 @@
 -- A wide number is read as two, one behind the other.
-use Rattle.std.proofs.Common.{◌≡◌, ◌+◌, ◌-◌, ◌*◌, ◌/◌, ◌%◌, ◌^◌, ◌<◌, ◌≤◌, ◌++◌, length, take, drop, ℕ, Bool, List, Fits, w8, w64, get_or, ap, sym, ◌∙◌, arith, drop-drop, pow_mono, pow-add}
-use Rattle.p4x_bits.specs.BitLists.{num, bits, octet_bits}
+use Rattle.std.proofs.Common.{◌∙◌, arith}
+use Rattle.p4x_bits.specs.BitLists.{octet_bits}
 use Rattle.p4x_bits.proofs.BitLists.{length-octet_bits}
 use Rattle.p4x_bits.proofs.Words.{wide_read}
 use Rattle.p4x_bits.proofs.fields.read_octet_field.Goals as goal

@@ -1,6 +1,6 @@
 -- The part is taken out, and the other one put in.
-use Rattle.std.proofs.Common.{◌≡◌, ◌+◌, ◌-◌, ◌*◌, ◌/◌, ◌%◌, ◌^◌, ◌<◌, ◌≤◌, ◌++◌, length, take, drop, ℕ, Bool, List, Fits, w8, get_or, ap, sym, ◌∙◌, arith, drop-drop}
-use Rattle.p4x_bits.specs.BitLists.{num, bits, octet_bits}
+use Rattle.std.proofs.Common.{ap, ◌∙◌, arith}
+use Rattle.p4x_bits.specs.BitLists.{bits}
 use Rattle.p4x_bits.proofs.Words.{word_rebuilt, part_within, rebuilt_below, rebuilt_is}
 use Rattle.p4x_bits.proofs.fields.with_word_part.Goals as goal
 

@@ -1,6 +1,5 @@
 -- The word has the bits of the octets it was put together of.
-use Rattle.std.proofs.Common.{◌≡◌, ◌+◌, ◌-◌, ◌*◌, ◌/◌, ◌%◌, ◌^◌, ◌<◌, ◌≤◌, ◌++◌, length, take, drop, ℕ, Bool, List, Fits, w8, get_or, ap, sym, ◌∙◌, arith, drop-drop}
-use Rattle.p4x_bits.specs.BitLists.{num, bits, octet_bits}
+use Rattle.std.proofs.Common.{◌<◌, ℕ, Fits, w8, get_or, arith}
 use Rattle.p4x_bits.proofs.Words.{word_is}
 use Rattle.p4x_bits.proofs.fields.word_at.Goals as goal
 

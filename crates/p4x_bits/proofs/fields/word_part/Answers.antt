@@ -1,6 +1,5 @@
 -- The shifts are a remainder and a quotient.
-use Rattle.std.proofs.Common.{◌≡◌, ◌+◌, ◌-◌, ◌*◌, ◌/◌, ◌%◌, ◌^◌, ◌<◌, ◌≤◌, ◌++◌, length, take, drop, ℕ, Bool, List, Fits, w8, get_or, ap, sym, ◌∙◌, arith, drop-drop}
-use Rattle.p4x_bits.specs.BitLists.{num, bits, octet_bits}
+use Rattle.std.proofs.Common.{◌∙◌}
 use Rattle.p4x_bits.proofs.Words.{part_shifted}
 use Rattle.p4x_bits.proofs.Splices.{part_is}
 use Rattle.p4x_bits.proofs.fields.word_part.Goals as goal

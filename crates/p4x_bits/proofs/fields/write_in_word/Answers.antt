@@ -1,6 +1,6 @@
 -- A part written into the word is one written into the octets.
-use Rattle.std.proofs.Common.{◌≡◌, ◌+◌, ◌-◌, ◌*◌, ◌/◌, ◌%◌, ◌^◌, ◌<◌, ◌≤◌, ◌++◌, length, take, drop, ℕ, Bool, List, Fits, w8, get_or, ap, sym, ◌∙◌, arith, drop-drop}
-use Rattle.p4x_bits.specs.BitLists.{num, bits, octet_bits}
+use Rattle.std.proofs.Common.{◌≡◌, ◌+◌, ◌-◌, ◌*◌, ◌≤◌, length, ◌∙◌, arith}
+use Rattle.p4x_bits.specs.BitLists.{bits, octet_bits}
 use Rattle.p4x_bits.proofs.BitLists.{length-octet_bits}
 use Rattle.p4x_bits.proofs.Splices.{block_spliced}
 use Rattle.p4x_bits.proofs.fields.write_in_word.Goals as goal

@@ -1,6 +1,6 @@
 -- The laws of windows hold of what was written.
-use Rattle.std.proofs.Common.{◌≡◌, ◌+◌, ◌-◌, ◌*◌, ◌/◌, ◌%◌, ◌^◌, ◌<◌, ◌≤◌, ◌++◌, length, take, drop, ℕ, Bool, List, Fits, w8, w64, get_or, ap, sym, ◌∙◌, arith, drop-drop, pow_mono, pow-add}
-use Rattle.p4x_bits.specs.BitLists.{num, bits, octet_bits}
+use Rattle.std.proofs.Common.{take, drop, ap, ◌∙◌, arith}
+use Rattle.p4x_bits.specs.BitLists.{num, octet_bits}
 use Rattle.p4x_bits.proofs.BitLists.{length-octet_bits}
 use Rattle.p4x_bits.proofs.Windows.{window_written, window_apart}
 use Rattle.p4x_bits.proofs.fields.write_octet_field.Goals as goal

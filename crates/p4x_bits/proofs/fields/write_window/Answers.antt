@@ -1,6 +1,6 @@
 -- A wide number is written as two, one behind the other.
-use Rattle.std.proofs.Common.{rules, ◌≡◌, ◌+◌, ◌-◌, ◌*◌, ◌/◌, ◌%◌, ◌^◌, ◌<◌, ◌≤◌, ◌++◌, length, take, drop, ℕ, Bool, List, Fits, w8, w64, get_or, ap, sym, ◌∙◌, arith, drop-drop, pow_mono, pow-add}
-use Rattle.p4x_bits.specs.BitLists.{num, bits, octet_bits}
+use Rattle.std.proofs.Common.{rules, ◌≡◌, ◌+◌, ◌-◌, ◌^◌, ◌<◌, ◌≤◌, arith, pow_mono}
+use Rattle.p4x_bits.specs.BitLists.{octet_bits}
 use Rattle.std.proofs.lemmas.Nat.{shr_below}
 use Rattle.p4x_bits.proofs.BitLists.{length-octet_bits}
 use Rattle.p4x_bits.proofs.Words.{wide_written}

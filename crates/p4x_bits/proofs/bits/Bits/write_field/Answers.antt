@@ -1,5 +1,5 @@
 -- A write into the octets' bits is one into the list, and the laws of windows hold of it.
-use Rattle.std.proofs.Common.{◌≡◌, ℕ, ◌+◌, ◌*◌, ◌≤◌, List, Bool, vec_len, length, take, drop, ap, sym, ◌∙◌, arith, length-take-le}
+use Rattle.std.proofs.Common.{◌≡◌, vec_len, length, take, drop, ap, sym, ◌∙◌, arith, length-take-le}
 use Rattle.std.proofs.lemmas.List.{with_items_is}
 use Rattle.std.specs.Vec.{with_items}
 use Rattle.p4x_bits.specs.BitLists.{num, octet_bits}
@@ -22,7 +22,6 @@ returns-clause-bits c =
     ∙ written_within octets now old len at width c.args.value (omega arith) c.self.view_is (omega arith) (c.write_octet_field.ensures.bits ∙ ap (λ xs. written at width c.args.value (octet_bits xs)) c.deref_mut.ensures.value) in
     bits
 
-
 pub returns-clause-len : goal.returns-clause-len
 returns-clause-len c =
     let octets = c.self.inside.octets.items in
@@ -38,7 +37,6 @@ returns-clause-len c =
     ∙ written_within octets now old len at width c.args.value (omega arith) c.self.view_is (omega arith) (c.write_octet_field.ensures.bits ∙ ap (λ xs. written at width c.args.value (octet_bits xs)) c.deref_mut.ensures.value) in
     ap length bits ∙ length-written at width c.args.value old (omega arith)
 
-
 pub returns-clause-reads : goal.returns-clause-reads
 returns-clause-reads c =
     let octets = c.self.inside.octets.items in
@@ -53,7 +51,6 @@ returns-clause-reads c =
     ap (λ xs. take len (octet_bits xs)) (with_items_is c.self.inside.octets now same)
     ∙ written_within octets now old len at width c.args.value (omega arith) c.self.view_is (omega arith) (c.write_octet_field.ensures.bits ∙ ap (λ xs. written at width c.args.value (octet_bits xs)) c.deref_mut.ensures.value) in
     ap (λ xs. num (take width (drop at xs))) bits ∙ window_written at width c.args.value old (omega arith) (omega arith)
-
 
 pub returns-clause-apart : goal.returns-clause-apart
 returns-clause-apart c =
