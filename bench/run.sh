@@ -13,7 +13,7 @@ for crate in p4x_bits state_store match_core calc_core; do
     grep "^$crate:" "$top/crates.txt" >>"$work/crates.txt"
 done
 # The scan is no public call of match_core. The copy makes it one.
-sed -i 's/^pub use table::Table;/pub use scan::scan as plain_scan;\n&/' "$work/crates/match_core/src/lib.rt"
+sed -i 's/^pub use table::/pub use scan::scan as plain_scan;\n&/' "$work/crates/match_core/src/lib.rt"
 echo 'bench_tables: p4x_bits match_core calc_core anyhow' >>"$work/crates.txt"
 cp "$top/bench/tables.rattle" "$work/crates/bench_tables/src/main.rt"
 cp "$top/bench/fill.rattle" "$work/crates/bench_tables/proofs/fill/Invariants.antt"

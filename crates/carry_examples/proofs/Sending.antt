@@ -9,7 +9,8 @@ use Rattle.p4x_cmd.specs.Meaning14.{Run14, pass14, signature14}
 use Rattle.p4x_cmd.specs.Passes.{Pass, Ran, sent_from}
 use Rattle.p4x_cmd.proofs.RunLaws.{run_left, run_more, run_done}
 use Rattle.carry_examples.specs.declared.plain.Leaving.{Leaving}
-use Rattle.carry_examples.specs.Plain.{IsProgram, IsPass14, IsRun14, end_of, sent_of}
+use Rattle.carry_examples.specs.Plain.{IsProgram, IsRun14, sent_of}
+use Rattle.carry_examples.specs.internal.Passes.{IsPass14, end_of}
 
 -- the pass of the program without entries
 unfoldable pub own14 : OneTable14 → Arrival → Pass

@@ -8,14 +8,17 @@ use Rattle.std.proofs.lemmas.List.{length-take}
 use Rattle.std.proofs.Math.Nat.{mod-eq_of_lt}
 use Rattle.p4x_bits.specs.BitLists.{num, bits, octet_bits, IsOctets}
 use Rattle.p4x_bits.proofs.BitLists.{length-octet_bits}
+use Rattle.state_store.specs.Ports.{drop_port}
 use Rattle.p4x_cmd.specs.declared.one_table.OneTable14.{OneTable14}
 use Rattle.fabric.specs.declared.packets.Arrival.{Arrival}
-use Rattle.p4x_cmd.specs.Entries.{Entries, no_entries}
+use Rattle.p4x_cmd.specs.Entries.{no_entries}
+use Rattle.match_core.specs.declared.entries.Entries.{Entries}
 use Rattle.p4x_cmd.specs.Headers.{numbers_in, bits_in, octets_in}
 use Rattle.p4x_cmd.specs.Meaning14.{State14, pass14, signature14, widths14, start14, extract14, after_parser14}
 use Rattle.p4x_cmd.specs.Passes.{PassEnd, dropped, leaves}
 use Rattle.p4x_cmd.proofs.HeaderLaws.{bits_of_numbers, octets_of_bits}
-use Rattle.carry_examples.specs.Plain.{AreWidths, IsProgram, IsPass14}
+use Rattle.carry_examples.specs.Plain.{AreWidths, IsProgram}
+use Rattle.carry_examples.specs.internal.Passes.{IsPass14}
 
 -- What the loop over the fields keeps: the header's bits are those that were put, and those of the fields that are left.
 pub record Again (widths : List ℕ) (packet : List Bool) (index at : ℕ) (header : List Bool) : Type 0 where
@@ -78,7 +81,7 @@ abbrev again : List ℕ → List ℕ → List ℕ
 again widths octets = octets_in (bits_in widths (numbers_in widths (octet_bits octets))) ++ drop (sum widths / 8) octets
 
 abbrev ends : List ℕ → List ℕ → ℕ → PassEnd
-ends widths octets port = if port == 511 then dropped else leaves port (again widths octets)
+ends widths octets port = if port == drop_port then dropped else leaves port (again widths octets)
 
 sent_whole : (p : OneTable14) (a : Arrival) → p.port % 2 ^ 9 ≡ p.port → after_parser14 p (none_given p) (Some (got p a)) ≡ ends (widths14 p) a.octets p.port
 sent_whole p a fits = rw fits refl
@@ -89,19 +92,19 @@ short_is widths octets port short p a is same =
     let test : nat_lt (8 * length a.octets) (sum (widths14 p)) ≡ true = grind (arith, nat_tests) in
     ap (after_parser14 p (none_given p)) (extracted_short p a test)
 
-pub whole_is : (widths octets : List ℕ) (port : ℕ) (p : OneTable14) (a : Arrival) → sum widths ≤ 8 * length octets → port ≤ 511 → IsProgram widths port p → a.octets ≡ octets
+pub whole_is : (widths octets : List ℕ) (port : ℕ) (p : OneTable14) (a : Arrival) → sum widths ≤ 8 * length octets → port ≤ drop_port → IsProgram widths port p → a.octets ≡ octets
     → (pass14 p (none_given p) a).end ≡ ends widths octets port
 whole_is widths octets port p a whole small is same =
     let here : sum (widths14 p) ≤ 8 * length a.octets = rw (same, is.widths_are) whole in
     let test : nat_lt (8 * length a.octets) (sum (widths14 p)) ≡ false = grind (arith, nat_tests) in
-    let bound : p.port ≤ 511 = rw is.port_is small in
+    let bound : p.port ≤ drop_port = rw is.port_is small in
     ap (after_parser14 p (none_given p)) (extracted_whole p a test)
     ∙ sent_whole p a (mod-eq_of_lt (omega arith))
     ∙ ap (λ (l : List ℕ). ends l a.octets p.port) is.widths_are
     ∙ ap (λ (l : List ℕ). ends widths l p.port) same
     ∙ ap (λ (n : ℕ). ends widths octets n) is.port_is
 
-pub dropped_is : (widths octets : List ℕ) (port : ℕ) → sum widths ≤ 8 * length octets → port ≡ 511 → IsPass14 widths port octets None
+pub dropped_is : (widths octets : List ℕ) (port : ℕ) → sum widths ≤ 8 * length octets → port ≡ drop_port → IsPass14 widths port octets None
 dropped_is widths octets port whole last p a is same = whole_is widths octets port p a whole (omega arith) is same ∙ rw last refl
 
 -- the header's octets are those whose bits it has
@@ -114,10 +117,10 @@ header_octets widths octets header bits are whole is all same =
     let whole_bits : take (8 * (length bits / 8)) bits ≡ bits = take_all (8 * (length bits / 8)) bits (omega arith) in
     ap octets_in (sym is ∙ sym whole_bits ∙ sym same) ∙ octets_of_bits header all
 
-pub leaving_is : (widths octets header leaving : List ℕ) (bits : List Bool) (port : ℕ) → AreWidths widths → sum widths ≤ 8 * length octets → port < 511 → bits ≡ bits_in widths (numbers_in widths (octet_bits octets)) → IsOctets header
+pub leaving_is : (widths octets header leaving : List ℕ) (bits : List Bool) (port : ℕ) → AreWidths widths → sum widths ≤ 8 * length octets → port < drop_port → bits ≡ bits_in widths (numbers_in widths (octet_bits octets)) → IsOctets header
     → octet_bits header ≡ take (8 * (length bits / 8)) bits → leaving ≡ header ++ drop (sum widths / 8) octets → IsPass14 widths port octets (Some leaving)
 leaving_is widths octets header leaving bits port are whole small is all same both p a program alike =
-    let test : (port == 511) ≡ false = grind (arith, nat_tests) in
+    let test : (port == drop_port) ≡ false = grind (arith, nat_tests) in
     whole_is widths octets port p a whole (omega arith) program alike
     ∙ ap (λ (b : Bool). if b then dropped else leaves port (again widths octets)) test
     ∙ ap (λ (l : List ℕ). leaves port (l ++ drop (sum widths / 8) octets)) (header_octets widths octets header bits are whole is all same)

@@ -1,11 +1,10 @@
 -- What a plain program that follows the meaning of P4_14 step by step answers (this project's own).
-use Rattle.std.specs.Prelude.{◌≡◌, ◌≤◌, ◌%◌, ℕ, List, map, sum, All, Option, Some, None}
+use Rattle.std.specs.Prelude.{◌≡◌, ◌≤◌, ◌%◌, ℕ, List, map, sum, All}
 use Rattle.p4x_cmd.specs.declared.one_table.OneTable14.{OneTable14}
 use Rattle.fabric.specs.declared.packets.Arrival.{Arrival}
 use Rattle.fabric.specs.declared.packets.Sent.{Sent}
 use Rattle.p4x_cmd.specs.Entries.{no_entries}
-use Rattle.p4x_cmd.specs.Meaning14.{Run14, pass14, signature14, widths14}
-use Rattle.p4x_cmd.specs.Passes.{PassEnd, dropped, leaves}
+use Rattle.p4x_cmd.specs.Meaning14.{Run14, signature14, widths14}
 use Rattle.p4x_cmd.specs.Runs.{default_bound}
 use Rattle.carry_examples.specs.declared.plain.Leaving.{Leaving}
 
@@ -20,20 +19,12 @@ pub record IsProgram (widths : List ℕ) (port : ℕ) (p : OneTable14) : Type 0 
   pub widths_are : widths14 p ≡ widths
   pub port_is : p.port ≡ port
 
--- the end of a pass, from the octets that leave
-abbrev pub end_of : ℕ → Option (List ℕ) → PassEnd
-end_of port None = dropped
-end_of port (Some octets) = leaves port octets
-
--- it is what every such program does with a packet of these octets, without entries
-abbrev pub IsPass14 : List ℕ → ℕ → List ℕ → Option (List ℕ) → Type 0
-IsPass14 widths port octets leaving =
-    (p : OneTable14) (a : Arrival) → IsProgram widths port p → a.octets ≡ octets → (pass14 p (no_entries (signature14 p)) a).end ≡ end_of port leaving
-
+-- a packet that leaves, as the meaning has it
 abbrev pub sent_of : Leaving → Sent
 sent_of l = record { arrival = l.arrival; port = l.port; octets = l.octets }
 
--- it is what every such program sends of packets with these octets, without entries and with at most 256 passes for each
+-- it is what every such program sends of packets with these octets, without entries and under the bound that holds where
+-- no other is given
 abbrev pub IsRun14 : List ℕ → ℕ → List (List ℕ) → List Leaving → Type 0
 IsRun14 widths port packets leaving =
     (p : OneTable14) (arrivals : List Arrival) → IsProgram widths port p → map (λ a. a.octets) arrivals ≡ packets

@@ -1,11 +1,14 @@
-// What a P4_14 program of the one-table form does, by the steps of its meaning. It is slow: each header is taken apart into the numbers of its fields and
-// put together again.
+// What a P4_14 program of the one-table form does, by the steps of its meaning. It is slow: each header is taken apart into
+// the numbers of its fields and put together again.
 ghost use Rattle.std.specs.Prelude.{◌≡◌, ◌≤◌, length, sum, IfOk};
 ghost use Rattle.p4x_bits.specs.BitLists.{IsOctets};
+ghost use Rattle.state_store.specs.Ports.{drop_port};
 ghost use Rattle.p4x_cmd.specs.Headers.{numbers_in, bits_in};
-ghost use Rattle.carry_examples.specs.Plain.{AreWidths, IsPass14, IsRun14};
+ghost use Rattle.carry_examples.specs.Plain.{AreWidths, IsRun14};
+ghost use Rattle.carry_examples.specs.internal.Passes.{IsPass14};
 
 use p4x_bits::{Bits, Octets, OutOfMemory, Rows};
+use state_store::DROP_PORT;
 use std::alloc::Global;
 
 /// A packet that leaves.
@@ -13,7 +16,7 @@ use std::alloc::Global;
 pub struct Leaving {
     /// The number of its arrival, from 0.
     pub arrival: u64,
-    /// The port that it leaves on, 0 to 510.
+    /// The port that it leaves on, from 0 to `GREATEST_PORT`.
     pub port: u16,
     /// The octets that leave.
     pub octets: Octets,
@@ -58,7 +61,7 @@ fn pass14(
     octets: &[u8],
 ) -> Result<Option<Octets>, OutOfMemory>
     requires widths { AreWidths widths.now }
-    requires port { port ≤ 511 }
+    requires port { port ≤ drop_port }
     ensures { IfOk result (IsPass14 widths.now port octets.now) }
 {
     let bits = header_bits(widths);
@@ -68,7 +71,7 @@ fn pass14(
     let mut packet = Bits::new(alloc);
     packet.push_octets(octets)?;
     let header = header_again(alloc, widths, &packet)?;
-    if port == 511 {
+    if port == DROP_PORT {
         return Ok(None);
     }
     let mut leaving = copied(alloc, header.as_octets())?;
@@ -84,7 +87,7 @@ pub fn run14(
     packets: &[Octets],
 ) -> Result<Rows<Leaving>, OutOfMemory>
     requires widths { AreWidths widths.now }
-    requires port { port ≤ 511 }
+    requires port { port ≤ drop_port }
     ensures { IfOk result (IsRun14 widths.now port packets.now) }
 {
     let mut sent = Rows::new(alloc);

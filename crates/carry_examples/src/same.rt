@@ -1,5 +1,6 @@
 // The command beside the plain program that follows the meaning of P4_14.
 ghost use Rattle.std.specs.Prelude.{◌≤◌};
+ghost use Rattle.state_store.specs.Ports.{drop_port};
 ghost use Rattle.carry_examples.specs.Plain.{AreWidths};
 
 use crate::plain::{Leaving, run14};
@@ -77,7 +78,7 @@ fn expect_same(
     header: usize,
 ) -> Result<(), Fail>
     requires widths { AreWidths widths.now }
-    requires port { port ≤ 511 }
+    requires port { port ≤ drop_port }
 {
     let packets = packets(alloc, header)?;
     let leaving = run14(alloc, widths, port, &packets)?;

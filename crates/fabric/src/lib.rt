@@ -11,6 +11,6 @@ mod passes;
 #[cfg(test)]
 mod tests;
 
-pub use bounds::{GREATEST_PORT, MOST_PASSES, is_bound, is_port};
+pub use bounds::{MOST_PASSES, is_bound};
 pub use packets::{Arrival, Fate, Out, RunResult, Sent};
 pub use passes::{EgressEnd, EgressNext, Event, IngressEnd, IngressNext, Item, RequestKind};

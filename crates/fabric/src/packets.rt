@@ -7,7 +7,7 @@ use state_store::Store;
 pub struct Arrival {
     /// What was captured of it.
     pub octets: Octets,
-    /// The port that it comes in on, 0 to 510.
+    /// The port that it comes in on, 0 to `state_store::GREATEST_PORT`.
     pub port: u16,
     /// The seconds of its record.
     pub seconds: u32,
@@ -20,7 +20,7 @@ pub struct Arrival {
 pub struct Sent {
     /// The number of the arrival that it came from, from 0.
     pub arrival: u64,
-    /// The port that it leaves on, 0 to 510.
+    /// The port that it leaves on, 0 to `state_store::GREATEST_PORT`.
     pub port: u16,
     /// The octets that leave.
     pub octets: Octets,
@@ -29,7 +29,7 @@ pub struct Sent {
 /// A packet that one arrival gives.
 #[derive(Debug, Drop)]
 pub struct Out {
-    /// The port that it leaves on, 0 to 510.
+    /// The port that it leaves on, 0 to `state_store::GREATEST_PORT`.
     pub port: u16,
     /// The octets that leave.
     pub octets: Octets,

@@ -8,7 +8,7 @@ use p4x_bits::Octets;
 pub struct Item<Q> {
     /// The octets that are parsed.
     pub octets: Octets,
-    /// The port that the packet came in on, 0 to 510.
+    /// The port that the packet came in on, 0 to `state_store::GREATEST_PORT`.
     pub port: u16,
     /// What it is, as `standard_metadata.instance_type` tells: 0 for a packet that came in, 1 and 2 for
     /// clones made at the end of ingress and of egress, 4 for a recirculated packet, 6 for a resubmitted
@@ -36,7 +36,7 @@ pub enum IngressNext<Q, H> {
     Resubmit(Q),
     /// It is dropped.
     Drop,
-    /// It goes on to egress on this port, 0 to 510.
+    /// It goes on to egress on this port, 0 to `state_store::GREATEST_PORT`.
     Go(u16, H),
 }
 

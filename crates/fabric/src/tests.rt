@@ -1,7 +1,7 @@
-// Which numbers fit, and what crosses threads.
+// Which numbers are bounds, and what crosses threads.
 use crate::{
-    Arrival, EgressEnd, EgressNext, Event, Fate, GREATEST_PORT, IngressEnd, IngressNext, Item,
-    MOST_PASSES, Out, RequestKind, RunResult, Sent, is_bound, is_port,
+    Arrival, EgressEnd, EgressNext, Event, Fate, IngressEnd, IngressNext, Item, MOST_PASSES, Out,
+    RequestKind, RunResult, Sent, is_bound,
 };
 use p4x_bits::{Octets, OutOfMemory, Rows};
 use state_store::{Shape, Store};
@@ -56,15 +56,6 @@ fn a_bound_is_from_1_to_65536(rt: HostRuntime) {
     assert!(rt; is_bound(256));
     assert!(rt; is_bound(65_536));
     assert!(rt; !is_bound(65_537));
-}
-
-#[test]
-fn a_port_is_from_0_to_510(rt: HostRuntime) {
-    assert_eq!(rt; GREATEST_PORT, 510);
-    assert!(rt; is_port(0));
-    assert!(rt; is_port(510));
-    assert!(rt; !is_port(511));
-    assert!(rt; !is_port(65_535));
 }
 
 // The ways that a pass can end, at one kind of preserved set and held value.

@@ -17,7 +17,7 @@ use Rattle.match_core.specs.declared.entries.Entry.{Entry}
 use Rattle.match_core.specs.Matching.{matches, by_priority, has_priority, prefix_length, rank_of}
 use Rattle.match_core.specs.Best.{Filled, IsLeader, entry_at, hits, rank_at}
 use Rattle.match_core.specs.Fits.{FitsKey, FitsKeys}
-use Rattle.match_core.specs.Index.{is_exact, are_exact, value_of}
+use Rattle.match_core.specs.internal.Index.{is_exact, are_exact, value_of}
 use Rattle.match_core.proofs.Leaders.{first_leads, leader_stays, pass_is}
 
 equal_of : (o : Ordering) → is_eq o ≡ true → o ≡ Equal

@@ -3,3 +3,9 @@ pub mod Matches
 pub mod Ordered
 pub mod Indexes
 pub mod Prefixed
+pub mod InPairs
+pub mod Sizing
+pub mod Building
+pub mod Colouring
+pub mod CountedKeys
+pub mod InLevels

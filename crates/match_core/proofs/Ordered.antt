@@ -9,7 +9,7 @@ use Rattle.std.proofs.lemmas.List.Sorted.{All-permutation, Contains-permutation}
 use Rattle.match_core.specs.declared.entries.Entry.{Entry}
 use Rattle.match_core.specs.Matching.{matches}
 use Rattle.match_core.specs.Best.{Filled, IsBest, hits}
-use Rattle.match_core.specs.Order.{place_of, IsPlace, IsOrder}
+use Rattle.match_core.specs.internal.Order.{place_of, IsPlace, IsOrder}
 
 -- the places of the first entries
 abbrev pub places : Filled → ℕ → List ℕ

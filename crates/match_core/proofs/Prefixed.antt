@@ -16,8 +16,9 @@ use Rattle.match_core.specs.declared.entries.Entry.{Entry}
 use Rattle.match_core.specs.Matching.{matches, prefix_length, rank_of}
 use Rattle.match_core.specs.Best.{Leads, IsLeader, IsBest, entry_at}
 use Rattle.match_core.specs.Fits.{FitsKeys}
-use Rattle.match_core.specs.Index.{IsPut, IsLpmIndex}
-use Rattle.match_core.specs.Prefixes.{lpm_value, lpm_length, has_prefix, found_in, found_at, AreEmpty, IsPrefixIndex, IsFoundAt, IsLongest}
+use Rattle.match_core.specs.internal.Index.{IsLpmIndex}
+use Rattle.match_core.specs.internal.Maps.{IsPut}
+use Rattle.match_core.specs.internal.Prefixes.{lpm_value, lpm_length, has_prefix, found_in, found_at, AreEmpty, IsPrefixIndex, IsFoundAt, IsLongest}
 use Rattle.match_core.proofs.Leaders.{pass_is}
 use Rattle.match_core.proofs.Indexes.{put_is, both}
 

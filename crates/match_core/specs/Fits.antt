@@ -1,10 +1,9 @@
 -- When entries fit a signature.
-use Rattle.std.specs.Prelude.{◌≡◌, ℕ, ◌^◌, ◌<◌, ◌≤◌, Bool, true, false, List, [], length, count_by, All, IfSome, slice_index_or}
+use Rattle.std.specs.Prelude.{◌≡◌, ℕ, ◌^◌, ◌<◌, ◌≤◌, false, List, [], length, All, IfSome, slice_index_or}
 use Rattle.std.specs.List.{AllZip}
 use Rattle.state_store.specs.declared.shapes.Shape.{Shape}
 use Rattle.state_store.specs.declared.shapes.Shape.TheVariants.{Counter, Direct, Register, Meter}
-use Rattle.state_store.specs.declared.shapes.Session.{Session}
-use Rattle.match_core.specs.declared.signatures.KeyKind.{KeyKind}
+use Rattle.state_store.specs.Ports.{AreSessions}
 use Rattle.match_core.specs.declared.signatures.KeyKind.TheVariants as kind
 use Rattle.match_core.specs.declared.signatures.KeySpec.{KeySpec}
 use Rattle.match_core.specs.declared.signatures.ActionSig.{ActionSig}
@@ -16,6 +15,7 @@ use Rattle.match_core.specs.declared.entries.KeyMatch.TheVariants.{Exact, Ternar
 use Rattle.match_core.specs.declared.entries.Entry.{Entry}
 use Rattle.match_core.specs.declared.entries.TableFill.{TableFill}
 use Rattle.match_core.specs.declared.entries.Entries.{Entries}
+use Rattle.match_core.specs.Matching.{by_priority}
 
 -- what an entry asks of a key is of the key's kind, and its numbers are within the key's width
 abbrev pub FitsKey : KeySpec → KeyMatch → Type 0
@@ -28,17 +28,6 @@ FitsKey spec (Range low high) = (spec.kind ≡ kind.Range) × (low ≤ high) × 
 abbrev pub FitsKeys : List KeySpec → Entry → Type 0
 FitsKeys specs entry = AllZip FitsKey specs entry.keys
 
-abbrev pub is_lpm : KeyKind → Bool
-is_lpm kind.Exact = false
-is_lpm kind.Ternary = false
-is_lpm kind.Lpm = true
-is_lpm kind.Range = false
-
--- keys that a table can have: of 1 to 128 bits, and one lpm key at most
-pub record AreSpecs (specs : List KeySpec) : Type 0 where
-  pub widths : All (λ (spec : KeySpec). (1 ≤ spec.width) × (spec.width ≤ 128)) specs
-  pub one_lpm : count_by (λ spec. is_lpm spec.kind) specs ≤ 1
-
 abbrev pub action_at : TableSig → ℕ → ActionSig
 action_at table action = slice_index_or table.actions action (record { name = []; widths = [] })
 
@@ -47,23 +36,19 @@ pub record FitsCall (table : TableSig) (action : ℕ) (arguments : List ℕ) : T
   pub listed : action < length table.actions
   pub widths : AllZip (λ width value. value < 2 ^ width) (action_at table action).widths arguments
 
+-- an entry of a table: its keys, its priority, which is 0 where the table has neither ternary nor range keys, and its call
 pub record FitsEntry (table : TableSig) (entry : Entry) : Type 0 where
   pub keys : FitsKeys table.keys entry
   pub priority : entry.priority < 2 ^ 31
+  pub no_priority : by_priority table.keys ≡ false → entry.priority ≡ 0
   pub call : FitsCall table entry.action entry.arguments
 
+-- what fills a table: no more entries than its size, and none where it has no keys, so that it never hits
 pub record FitsFill (table : TableSig) (fill : TableFill) : Type 0 where
   pub size : length fill.entries ≤ table.size
+  pub no_keys : table.keys ≡ [] → fill.entries ≡ []
   pub entries : All (FitsEntry table) fill.entries
   pub call : IfSome fill.default (λ call. FitsCall table call.action call.arguments)
-
--- a session's number is at most 32,767, and its port at most 510
-abbrev pub FitsSession : Session → Type 0
-FitsSession session = (session.number ≤ 32767) × (session.port ≤ 510)
-
--- no number stands twice
-abbrev pub AreDistinct : List Session → Type 0
-AreDistinct sessions = (i j : ℕ) (d : Session) → i < length sessions → j < length sessions → (slice_index_or sessions i d).number ≡ (slice_index_or sessions j d).number → i ≡ j
 
 -- a meter's colours are 0, 1 and 2, and nothing else has colours
 abbrev pub FitsColours : Shape → List ℕ → Type 0
@@ -77,6 +62,5 @@ FitsColours (Meter cells) colours = All (λ colour. colour ≤ 2) colours
 -- control plane of P4_14 1.0.5 and P4_16 1.2 is left open by both)
 pub record Fits (entries : Entries) (signature : Signature) : Type 0 where
   pub tables : AllZip FitsFill signature.tables entries.tables
-  pub sessions : All FitsSession entries.sessions
-  pub distinct : AreDistinct entries.sessions
+  pub sessions : AreSessions entries.sessions
   pub colours : AllZip (λ (object : ObjectSig). FitsColours object.shape) signature.objects entries.colours

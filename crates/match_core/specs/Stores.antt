@@ -11,6 +11,7 @@ use Rattle.match_core.specs.declared.signatures.Signature.{Signature}
 use Rattle.match_core.specs.declared.entries.TableFill.{TableFill}
 use Rattle.match_core.specs.declared.entries.Entries.{Entries}
 
+-- this is the direct counter of a table
 abbrev pub names : Option ℕ → ℕ → Bool
 names None object = false
 names (Some direct) object = direct == object
@@ -22,18 +23,19 @@ entries_counted (table ∷ tables) [] object = 0
 entries_counted (table ∷ tables) (fill ∷ fills) object =
     if names table.direct object then length fill.entries else entries_counted tables fills object
 
--- an object's shape, once the entries are known: a direct counter has a cell for each entry of its table
+-- the shape of an object once the entries are known: a direct counter has a cell for each of so many entries
 -- (P4_14 1.0.5, "Counters"; v1model.p4, `direct_counter`)
-abbrev pub filled_shape : Signature → Entries → ℕ → Shape → Shape
-filled_shape signature entries object (Counter kind cells) = Counter kind cells
-filled_shape signature entries object (Direct kind cells) = Direct kind (entries_counted signature.tables entries.tables object)
-filled_shape signature entries object (Register width cells) = Register width cells
-filled_shape signature entries object (Meter cells) = Meter cells
+abbrev pub sized : Shape → ℕ → Shape
+sized (Counter kind cells) entries = Counter kind cells
+sized (Direct kind cells) entries = Direct kind entries
+sized (Register width cells) entries = Register width cells
+sized (Meter cells) entries = Meter cells
 
+-- the shapes of objects, of which the first has this number
 abbrev pub shapes_from : Signature → Entries → ℕ → List ObjectSig → List Shape
 shapes_from signature entries object [] = []
 shapes_from signature entries object (one ∷ others) =
-    filled_shape signature entries object one.shape ∷ shapes_from signature entries (object + 1) others
+    sized one.shape (entries_counted signature.tables entries.tables object) ∷ shapes_from signature entries (object + 1) others
 
 -- the shapes of the objects, in the order of the signature
 abbrev pub shapes_of : Signature → Entries → List Shape
@@ -48,15 +50,19 @@ pub record IsStoreOf (signature : Signature) (entries : Entries) (store : Conten
 abbrev pub zero_store : Signature → Entries → Contents
 zero_store signature entries = new_store (shapes_of signature entries)
 
--- cells whose meters were handed these colours
+-- the cells of an object to which colours were handed: a meter has them behind those that it has left
+abbrev pub handed : Cells → List ℕ → Cells
+handed (Counts cells) colours = Counts cells
+handed (Numbers cells) colours = Numbers cells
+handed (Colours left) colours = Colours (left ++ colours)
+
+-- the cells of objects, to each of which the colours at its place were handed
 abbrev pub with_colours : List Cells → List (List ℕ) → List Cells
 with_colours [] colours = []
 with_colours (cells ∷ others) [] = cells ∷ others
-with_colours (Counts cells ∷ others) (more ∷ colours) = Counts cells ∷ with_colours others colours
-with_colours (Numbers cells ∷ others) (more ∷ colours) = Numbers cells ∷ with_colours others colours
-with_colours (Colours left ∷ others) (more ∷ colours) = Colours (left ++ more) ∷ with_colours others colours
+with_colours (cells ∷ others) (more ∷ colours) = handed cells more ∷ with_colours others colours
 
--- the zero store with the colours of the entries: the store that a run begins with
+-- the zero store with the colours of the entries: the store that a run begins with (this project's own)
 abbrev pub first_store : Signature → Entries → Contents
 first_store signature entries =
     record { shapes = shapes_of signature entries; cells = with_colours (zero_store signature entries).cells entries.colours }

@@ -2,7 +2,8 @@
 ghost use Rattle.std.specs.Prelude.{◌≡◌, ℕ, ◌^◌, ◌<◌, ◌≤◌, length, map, All, IfOk, OnOk, IsTrue};
 ghost use Rattle.match_core.specs.Best.{Filled};
 ghost use Rattle.match_core.specs.Fits.{FitsKeys};
-ghost use Rattle.match_core.specs.Index.{is_exact, are_exact, value_of, IsKeyIndex, IsPut};
+ghost use Rattle.match_core.specs.internal.Index.{is_exact, are_exact, value_of, IsKeyIndex};
+ghost use Rattle.match_core.specs.internal.Maps.{IsPut};
 
 use crate::entries::{Entry, KeyMatch};
 use crate::key::Key;

@@ -1,15 +1,17 @@
 // How a table finds the best entry.
 ghost use Rattle.std.specs.Prelude.{◌≡◌, ℕ, ◌^◌, ◌<◌, length, All, IfOk};
 ghost use Rattle.match_core.specs.Best.{Filled, IsBest};
-ghost use Rattle.match_core.specs.Fits.{AreSpecs, FitsKeys, is_lpm};
-ghost use Rattle.match_core.specs.Index.{IsIndex, IsLpmIndex};
+ghost use Rattle.match_core.specs.Fits.{FitsKeys};
+ghost use Rattle.match_core.specs.Signatures.{AreSpecs};
+ghost use Rattle.match_core.specs.internal.Index.{IsIndex, IsLpmIndex};
 
 use crate::entries::Entry;
 use crate::exact::{are_exact, key_index};
 use crate::key::Key;
 use crate::order::{first, order_of};
 use crate::prefix::{longest, prefix_index};
-use crate::signatures::{KeyKind, KeySpec};
+use crate::signatures::KeySpec;
+use crate::well_formed::is_lpm;
 use p4x_bits::OutOfMemory;
 use std::alloc::Global;
 use std::collections::BTreeMap;
@@ -72,14 +74,5 @@ fn find_prefix(
     match specs {
         [spec] => longest(maps, spec.width, key[0]),
         _ => None,
-    }
-}
-
-fn is_lpm(kind: KeyKind) -> bool
-    ensures { result ≡ is_lpm kind }
-{
-    match kind {
-        KeyKind::Lpm => true,
-        _ => false,
     }
 }

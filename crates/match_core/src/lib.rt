@@ -3,19 +3,27 @@
 
 mod entries;
 mod exact;
+mod identity;
 mod index;
 mod key;
+mod levels;
 mod order;
 mod prefix;
 mod scan;
 mod signatures;
+mod stores;
 mod table;
+mod well_formed;
 
 pub use entries::{DefaultCall, Entries, Entry, KeyMatch, TableFill};
+pub use identity::{counted, push_identity};
 pub use key::Key;
+pub use scan::{by_priority, has_priority};
 pub use signatures::{ActionSig, KeyKind, KeySpec, ObjectSig, Signature, TableSig};
 pub use state_store::Session;
-pub use table::Table;
+pub use stores::first_store;
+pub use table::{Table, build_tables};
+pub use well_formed::MOST_KEYS;
 
 #[cfg(test)]
 mod tests;

@@ -1,7 +1,7 @@
 // Tables whose entries are asked one by one, in the order in which they count.
 ghost use Rattle.std.specs.Prelude.{◌≡◌, ℕ, ◌+◌, ◌*◌, ◌%◌, ◌^◌, ◌<◌, length, IfOk};
 ghost use Rattle.match_core.specs.Best.{Filled, IsBest};
-ghost use Rattle.match_core.specs.Order.{IsOrder};
+ghost use Rattle.match_core.specs.internal.Order.{IsOrder};
 
 use crate::entries::Entry;
 use crate::scan::{matches, rank_of};

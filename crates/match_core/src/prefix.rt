@@ -5,7 +5,7 @@ ghost use Rattle.std.specs.BTreeMap.{get};
 ghost use Rattle.match_core.specs.Fits.{FitsKeys};
 ghost use Rattle.match_core.specs.declared.signatures.KeyKind.TheVariants as kind;
 ghost use Rattle.match_core.specs.Best.{entry_at};
-ghost use Rattle.match_core.specs.Prefixes.{lpm_value, lpm_length, AreEmpty, IsPrefixIndex, IsLongest};
+ghost use Rattle.match_core.specs.internal.Prefixes.{lpm_value, lpm_length, AreEmpty, IsPrefixIndex, IsLongest};
 
 use crate::entries::{Entry, KeyMatch};
 use crate::exact::put_first;

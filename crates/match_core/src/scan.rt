@@ -43,7 +43,8 @@ pub fn matches(specs: &[KeySpec], ones: &[KeyMatch], key: &[u128]) -> bool
     true
 }
 
-fn has_priority(kind: KeyKind) -> bool
+/// Whether the entries of a table with a key of this kind have priorities: it is ternary or a range.
+pub fn has_priority(kind: KeyKind) -> bool
     ensures { result ≡ has_priority kind }
 {
     match kind {
@@ -52,7 +53,7 @@ fn has_priority(kind: KeyKind) -> bool
     }
 }
 
-/// Whether a table's entries have priorities.
+/// Whether the entries of a table with these keys have priorities: one of them is ternary or a range.
 pub fn by_priority(specs: &[KeySpec]) -> bool
     ensures { result ≡ by_priority specs.now }
 {

@@ -1,13 +1,15 @@
 // A table, filled with its entries.
 ghost use Rattle.std.specs.Prelude.{◌≡◌, ℕ, ◌^◌, ◌<◌, length, All, IfOk};
 ghost use Rattle.match_core.specs.Best.{Filled, IsBest, best};
-ghost use Rattle.match_core.specs.Fits.{AreSpecs, FitsKeys};
+ghost use Rattle.match_core.specs.Fits.{FitsKeys, Fits};
+ghost use Rattle.match_core.specs.Signatures.{AreSpecs, IsSignature};
+ghost use Rattle.match_core.specs.Tables.{tables_of};
 
-use crate::entries::Entry;
+use crate::entries::{Entries, Entry};
 use crate::index::{Index, find, index_of};
 use crate::key::Key;
-use crate::signatures::KeySpec;
-use p4x_bits::OutOfMemory;
+use crate::signatures::{KeySpec, Signature};
+use p4x_bits::{OutOfMemory, Rows};
 use std::alloc::Global;
 use std::marker::Model;
 
@@ -23,7 +25,7 @@ impl Model for Table {
     ghost use Rattle.std.specs.Prelude.{◌^◌, ◌<◌, length, All};
     ghost use Rattle.match_core.specs.Fits.{FitsKeys};
     ghost use Rattle.match_core.specs.Best.{Filled};
-    ghost use Rattle.match_core.specs.Index.{IsIndex};
+    ghost use Rattle.match_core.specs.internal.Index.{IsIndex};
 
     ghost Value = { Filled };
 
@@ -60,4 +62,25 @@ impl Table {
     {
         find(&self.index, &self.specs, &self.entries, key)
     }
+}
+
+/// The tables of a signature, each filled with its entries, in the order of the signature. The one error is want of
+/// memory.
+pub fn build_tables(
+    alloc: Global,
+    signature: &Signature,
+    entries: &Entries,
+) -> Result<Rows<Table>, OutOfMemory>
+    requires signature { IsSignature signature.now }
+    requires fits { Fits entries.now signature.now }
+    ensures { IfOk result (λ tables. tables ≡ tables_of signature.now entries.now) }
+{
+    let sigs = signature.tables.as_slice();
+    let fills = entries.tables.as_slice();
+    let mut tables = Rows::new(alloc);
+    for i in 0..sigs.len().min(fills.len()) {
+        let table = Table::build(alloc, fills[i].entries.as_slice(), sigs[i].keys.as_slice())?;
+        tables.push(table)?;
+    }
+    Ok(tables)
 }

@@ -1,6 +1,7 @@
 // Look-ups against worked examples, and the indexes against the scan on random tables.
 ghost use Rattle.std.specs.Prelude.{◌≡◌, ℕ, ◌^◌, ◌<◌, ◌≤◌, [], ◌∷◌, length, All, IfOk};
-ghost use Rattle.match_core.specs.Fits.{AreSpecs, FitsKey, FitsKeys};
+ghost use Rattle.match_core.specs.Fits.{FitsKey, FitsKeys};
+ghost use Rattle.match_core.specs.Signatures.{AreSpecs};
 ghost use Rattle.match_core.specs.declared.signatures.KeySpec.{KeySpec};
 ghost use Rattle.std.specs.List.{AllZip};
 ghost use Rattle.match_core.specs.declared.entries.KeyMatch.TheVariants.{Exact, Lpm};

@@ -6,6 +6,9 @@ use Rattle.p4x_cmd.specs.declared.one_table.OneTable14.{OneTable14}
 use Rattle.p4x_cmd.specs.declared.stop.Stop.{Stop}
 use Rattle.p4x_cmd.specs.declared.stop.Stop.TheVariants.{Fault, Usage, Program, Entries, Refused, Limit, Memory}
 use Rattle.p4x_cmd.specs.Calls.{Outcome, WorksFor, OwnRose, IsDue, Carried, ComesWhere, Accepts, RefusesProgram, RefusesEntries, RefusesPorts, RefusesCapture, OverPorts, OverCapture, Prints, Translated, Fronts}
+use Rattle.p4x_cmd.specs.Meaning16.{signature16}
+use Rattle.p4x_cmd.specs.Runs.{this_run}
+use Rattle.p4x_cmd.proofs.Filling.{no_entries_fit}
 use Rattle.p4x_cmd.specs.Carry.{CarryDue, ProgramIs, Begins, StopsBefore, capture_reports, delivered}
 use Rattle.p4x_cmd.specs.Forms14.{Reads14}
 use Rattle.p4x_cmd.specs.Outcomes.{Due, Leaves, Tells, AllExact, AllPart, AllKept, IsExact, IsPart}
@@ -98,6 +101,9 @@ module _ (f : Files) (files : List ℕ → Option (List ℕ)) (old new : DeskVie
         fits = run.fits;
         whole = run.whole;
         text_is = files_are.0;
+        given = no_entries_fit (signature16 went.3);
+        ran = this_run went.3 run.arrivals;
+        runs = refl;
         sent_is = files_are.1.0 ∙ ap (put (old.told f.sent)) run.sent;
         report_is = files_are.1.1.0 ∙ ap (put (old.told f.report)) run.report;
         line_is = printed ∙ ap (λ (x : Due). said before.printed (line_of x.end)) went.6 ∙ ap (λ (x : Result (List ℕ) Stop). said before.printed (line_of x)) run.end;

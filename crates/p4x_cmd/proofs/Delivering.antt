@@ -13,13 +13,15 @@ use Rattle.p4x_cmd.specs.declared.one_table.OneTable16.{OneTable16}
 use Rattle.p4x_cmd.specs.declared.stop.Limited.TheVariants as limited
 use Rattle.p4x_cmd.specs.declared.stop.Stop.{Stop}
 use Rattle.p4x_cmd.specs.declared.stop.Stop.TheVariants.{Fault, Refused, Limit, Memory}
-use Rattle.p4x_cmd.specs.Carry.{Reports, capture_limit, capture_reports, reading_reports, run_reports, stopped, Delivers}
+use Rattle.p4x_cmd.specs.Carry.{Reports, capture_limit, capture_reports, reading_reports, run_reports, stopped}
+use Rattle.p4x_cmd.specs.internal.Phases.{Delivers}
 use Rattle.p4x_cmd.specs.Forms16.{program16}
-use Rattle.p4x_cmd.specs.Outcomes.{IsLoose, GrownByFront, line_view}
+use Rattle.p4x_cmd.specs.Outcomes.{IsLoose}
+use Rattle.p4x_cmd.specs.internal.Phases.{GrownByFront, line_view}
 use Rattle.p4x_cmd.specs.Passes.{Pass, Ran}
 use Rattle.p4x_cmd.specs.Reports.{end_lines, carried_line_of}
 use Rattle.p4x_cmd.specs.Runs.{this_run}
-use Rattle.p4x_cmd.specs.Streams.{View, run_view, Cut, Refuses, Streamed, PieceEnds, PiecesEnd}
+use Rattle.p4x_cmd.specs.internal.Streams.{View, run_view, Cut, Refuses, Streamed, PieceEnds, PiecesEnd}
 use Rattle.p4x_cmd.proofs.Pieces.{grown_still, grown_whole, grown_part, grown_front}
 use Rattle.p4x_cmd.proofs.RunLaws.{own_pass}
 use Rattle.p4x_cmd.proofs.StreamRuns.{IsRunOf, is_run_of}

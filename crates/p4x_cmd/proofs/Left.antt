@@ -7,8 +7,10 @@ use Rattle.p4x_io.proofs.Desks.{grown-put}
 use Rattle.p4x_cmd.specs.declared.one_table.OneTable14.{OneTable14}
 use Rattle.p4x_cmd.specs.declared.stop.Stop.{Stop}
 use Rattle.p4x_cmd.specs.declared.stop.Stop.TheVariants.{Fault}
-use Rattle.p4x_cmd.specs.Carry.{CarryDue, StopsBefore, Begins, Written, Reports, Delivers, capture_reports, untouched, delivered}
-use Rattle.p4x_cmd.specs.Outcomes.{IsPart, GrownByFront, Leaves, Loosely}
+use Rattle.p4x_cmd.specs.Carry.{CarryDue, StopsBefore, Begins, Written, Reports, capture_reports, untouched, delivered}
+use Rattle.p4x_cmd.specs.internal.Phases.{Delivers}
+use Rattle.p4x_cmd.specs.Outcomes.{IsPart, Leaves}
+use Rattle.p4x_cmd.specs.internal.Phases.{GrownByFront, Loosely}
 use Rattle.p4x_cmd.specs.Words.{Files, outputs_of}
 
 pub part_whole : (old new : Option (Option (List ℕ))) (content : List ℕ) → new ≡ put old content → IsPart old new (Some content)

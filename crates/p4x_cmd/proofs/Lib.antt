@@ -3,6 +3,7 @@ pub mod Carrying
 pub mod Causes
 pub mod Delivering
 pub mod Dividing
+pub mod Filling
 pub mod Forms
 pub mod HeaderLaws
 pub mod Judging14

@@ -5,7 +5,8 @@ use Rattle.p4x_io.proofs.Desks.{rose_since}
 use Rattle.p4x_cmd.specs.declared.one_table.OneTable14.{OneTable14}
 use Rattle.p4x_cmd.specs.declared.stop.Stop.{Stop}
 use Rattle.p4x_cmd.specs.Carry.{HasProgram, StopsBefore, ports_end}
-use Rattle.p4x_cmd.specs.Outcomes.{Blames, Loosely, Tells, ReadsRose}
+use Rattle.p4x_cmd.specs.Outcomes.{Blames, Tells, ReadsRose}
+use Rattle.p4x_cmd.specs.internal.Phases.{Loosely}
 use Rattle.p4x_cmd.specs.Words.{Files}
 
 -- what the desk tells stays, where nothing is written

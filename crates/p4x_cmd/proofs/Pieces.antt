@@ -9,7 +9,7 @@ use Rattle.p4x_io.specs.Desk.{grown}
 use Rattle.p4x_io.proofs.Desks.{grown_none, grown-grown}
 use Rattle.p4x_io.proofs.Reading.{Front}
 use Rattle.pcap_io.specs.declared.records.Record.{Record}
-use Rattle.pcap_io.specs.Captures.{Reading, reading_of, IsRecord}
+use Rattle.pcap_io.specs.Captures.{Reading, reading_of, IsRecord, arrival_of}
 use Rattle.pcap_io.specs.Reader.{fed, fed_by}
 use Rattle.pcap_io.proofs.Feeding.{fed_more}
 use Rattle.pcap_io.proofs.Opening.{unread}
@@ -17,11 +17,11 @@ use Rattle.fabric.specs.declared.packets.Arrival.{Arrival}
 use Rattle.p4x_cmd.specs.declared.stop.Stop.{Stop}
 use Rattle.p4x_cmd.specs.declared.stop.Stop.TheVariants.{Fault, Refused, Memory}
 use Rattle.p4x_cmd.specs.Carry.{capture_limit}
-use Rattle.p4x_cmd.specs.Outcomes.{GrownByFront}
+use Rattle.p4x_cmd.specs.internal.Phases.{GrownByFront}
 use Rattle.p4x_cmd.specs.declared.stream.Plain.{Plain}
 use Rattle.p4x_cmd.specs.Passes.{Pass}
-use Rattle.p4x_cmd.specs.Plain.{plain_pass}
-use Rattle.p4x_cmd.specs.Streams.{View, Agrees, start, begun, arrival_of, with_pass, after_one, after_all, run_view, emptied, drained, nothing_read, Streamed, Cut, Refuses, PieceEnds, PiecesEnd}
+use Rattle.p4x_cmd.specs.internal.Plain.{plain_pass}
+use Rattle.p4x_cmd.specs.internal.Streams.{View, Agrees, start, begun, with_pass, after_one, after_all, run_view, emptied, drained, nothing_read, Streamed, Cut, Refuses, PieceEnds, PiecesEnd}
 use Rattle.p4x_cmd.proofs.Streams.{preceded, next_view, more}
 
 -- a file that had grown by a front of a text, and then by a front of what stands behind that

@@ -2,7 +2,7 @@
 use Rattle.std.proofs.Common.{◌≡◌, ℕ, true, List, [], ◌∷◌, ◌++◌, drop, codes, refl, sym, ◌∙◌, ap, append_assoc}
 use Rattle.p4x_cmd.specs.Division.{Token, run, mark, tokens_of}
 use Rattle.p4x_cmd.specs.Forms14.{field_tokens, is_one_table, spelled14, Reads14}
-use Rattle.p4x_cmd.specs.Places14.{run_at, value_at, fields_in, behind_fields, candidate, from_header, from_end, from_fields}
+use Rattle.p4x_cmd.specs.internal.Places14.{run_at, value_at, fields_in, behind_fields, candidate, from_header, from_end, from_fields}
 use Rattle.p4x_cmd.specs.declared.one_table.Field.{Field}
 use Rattle.p4x_cmd.specs.declared.one_table.OneTable14.{OneTable14}
 

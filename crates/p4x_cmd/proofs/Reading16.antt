@@ -8,11 +8,13 @@ use Rattle.std.specs.Fmt.{decimal}
 use Rattle.std.proofs.lemmas.Bool.{and_parts, and_from, or_left, false≢true, true≢false, leb-true, le-leb}
 use Rattle.std.proofs.lemmas.List.{append_cancel_left, append_cancel_right}
 use Rattle.std.proofs.lemmas.Fmt.{decimal_is_IsNumeral_wide}
+use Rattle.state_store.specs.Ports.{drop_port}
 use Rattle.p416_ast.specs.declared.syntax.Syntax16.{Syntax16}
 use Rattle.p416_ast.specs.Words.{is_word, is_id16, is_name_part, reserved16}
 use Rattle.p4x_cmd.specs.Division.{Token, run, number, mark, is_letter, is_digit, tokens_of}
 use Rattle.p4x_cmd.specs.Forms14.{is_one_table, is_free_name, are_fields, is_among, is_id, is_width, repeats, form_words14, primitives14}
-use Rattle.p4x_cmd.specs.Forms16.{field_tokens16, header_tokens16, ingress_tokens16, front_tokens, back_tokens, spelled16, program16, include_lines, is_one_table16, Reads16, lowered, lowered_field}
+use Rattle.p4x_cmd.specs.Forms16.{field_tokens16, header_tokens16, ingress_tokens16, front_tokens, back_tokens, spelled16, program16, include_lines, is_one_table16, Reads16}
+use Rattle.p4x_cmd.specs.internal.Lowering.{lowered, lowered_field}
 use Rattle.p4x_cmd.specs.declared.one_table.Field.{Field}
 use Rattle.p4x_cmd.specs.declared.one_table.OneTable14.{OneTable14}
 use Rattle.p4x_cmd.specs.declared.one_table.OneTable16.{OneTable16}
@@ -131,13 +133,13 @@ named_fields fields h =
 -- what a P4_14 program of the form becomes is a P4_16 program of the form
 pub lowered_is_one_table16 : (p : OneTable14) → is_one_table p ≡ true → is_one_table16 (lowered p) ≡ true
 lowered_is_one_table16 p h =
-    let to_table = and_parts (is_free_name p.header_type && are_fields p.fields && is_free_name p.instance && is_free_name p.action && nat_le p.port 511) (is_free_name p.table) h in
-    let to_port = and_parts (is_free_name p.header_type && are_fields p.fields && is_free_name p.instance && is_free_name p.action) (nat_le p.port 511) to_table.0 in
+    let to_table = and_parts (is_free_name p.header_type && are_fields p.fields && is_free_name p.instance && is_free_name p.action && nat_le p.port drop_port) (is_free_name p.table) h in
+    let to_port = and_parts (is_free_name p.header_type && are_fields p.fields && is_free_name p.instance && is_free_name p.action) (nat_le p.port drop_port) to_table.0 in
     let to_action = and_parts (is_free_name p.header_type && are_fields p.fields && is_free_name p.instance) (is_free_name p.action) to_port.0 in
     let to_instance = and_parts (is_free_name p.header_type && are_fields p.fields) (is_free_name p.instance) to_action.0 in
     let to_fields = and_parts (is_free_name p.header_type) (are_fields p.fields) to_instance.0 in
     let fields : list_all (λ (f : Field). is_id16 f.name) (map lowered_field p.fields) ≡ true = lowered_fields p.fields (named_fields p.fields to_fields.1) in
-    let port : nat_le p.port (2 ^ 128 - 1) ≡ true = le-leb p.port (2 ^ 128 - 1) (omega (arith, leb-true p.port 511 to_port.1)) in
+    let port : nat_le p.port (2 ^ 128 - 1) ≡ true = le-leb p.port (2 ^ 128 - 1) (omega (arith, leb-true p.port drop_port to_port.1)) in
     and_from (list_all (λ (f : Field). is_id16 f.name) (map lowered_field p.fields) && is_word p.action && nat_le p.port (2 ^ 128 - 1)) (is_word p.table)
     (and_from (list_all (λ (f : Field). is_id16 f.name) (map lowered_field p.fields) && is_word p.action) (nat_le p.port (2 ^ 128 - 1))
     (and_from (list_all (λ (f : Field). is_id16 f.name) (map lowered_field p.fields)) (is_word p.action) fields (free_is_word p.action to_action.1)) port)

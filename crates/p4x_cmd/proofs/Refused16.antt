@@ -179,8 +179,8 @@ undeclared_call = refl
 plane_name_twice : accepts (record good { locals = action_of drops ∷ table16 (codes "t") ∷ table_named (codes "u") ∷ [] }) ≡ false
 plane_name_twice = refl
 
--- default_action = a ( 9w511 ) ; of an action with a parameter, the same without an argument, and with one that is too wide
-default_given : accepts (record good { locals = port_action ∷ port_table (argument no_arguments (literal (Some 9) 511)) ∷ [] }) ≡ true
+-- default_action = a ( 9w300 ) ; of an action with a parameter, the same without an argument, and with one that is too wide
+default_given : accepts (record good { locals = port_action ∷ port_table (argument no_arguments (literal (Some 9) 300)) ∷ [] }) ≡ true
 default_given = refl
 
 default_not_given : accepts (record good { locals = port_action ∷ port_table no_arguments ∷ [] }) ≡ false

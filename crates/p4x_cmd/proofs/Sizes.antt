@@ -2,11 +2,12 @@
 use Rattle.std.proofs.Common.{◌≡◌, ℕ, ◌+◌, ◌*◌, ◌%◌, ◌==◌, ◌≤◌, Bool, true, false, not, ◌&&◌, nat_le, List, [], ◌∷◌, length, map, sum, refl, sym, ◌∙◌, ap, arith, leb-true, eqb-true}
 use Rattle.std.specs.List.{list_all, sum_by}
 use Rattle.std.proofs.lemmas.List.Sums.{sum_by-cons, sum-map}
+use Rattle.state_store.specs.Ports.{drop_port}
 use Rattle.p4x_cmd.specs.declared.one_table.Field.{Field}
 use Rattle.p4x_cmd.specs.declared.one_table.OneTable14.{OneTable14}
 use Rattle.p4x_cmd.specs.Forms14.{is_one_table, is_free_name, are_fields, is_id, is_width, repeats}
-use Rattle.p4x_cmd.specs.Forms16.{lowered, lowered_field}
-use Rattle.p4x_cmd.specs.Plain.{IsSized}
+use Rattle.p4x_cmd.specs.internal.Lowering.{lowered, lowered_field}
+use Rattle.p4x_cmd.specs.internal.Plain.{IsSized}
 
 -- the two parts of a test
 both : (a b : Bool) → (a && b) ≡ true → (a ≡ true) × (b ≡ true)
@@ -27,8 +28,8 @@ sum_bound (f ∷ fields) h =
 
 pub lowered_sized : (p : OneTable14) → is_one_table p ≡ true → IsSized (lowered p)
 lowered_sized p h =
-    let to_table = both (is_free_name p.header_type && are_fields p.fields && is_free_name p.instance && is_free_name p.action && nat_le p.port 511) (is_free_name p.table) h in
-    let to_port = both (is_free_name p.header_type && are_fields p.fields && is_free_name p.instance && is_free_name p.action) (nat_le p.port 511) to_table.0 in
+    let to_table = both (is_free_name p.header_type && are_fields p.fields && is_free_name p.instance && is_free_name p.action && nat_le p.port drop_port) (is_free_name p.table) h in
+    let to_port = both (is_free_name p.header_type && are_fields p.fields && is_free_name p.instance && is_free_name p.action) (nat_le p.port drop_port) to_table.0 in
     let to_action = both (is_free_name p.header_type && are_fields p.fields && is_free_name p.instance) (is_free_name p.action) to_port.0 in
     let to_instance = both (is_free_name p.header_type && are_fields p.fields) (is_free_name p.instance) to_action.0 in
     let fields = (both (is_free_name p.header_type) (are_fields p.fields) to_instance.0).1 in
@@ -40,7 +41,7 @@ lowered_sized p h =
     record {
       bits = omega (arith, lowered_sum p.fields, sum_bound p.fields judged.1, leb-true (length p.fields) 64 few.1);
       even = ap (λ (n : ℕ). n % 8) (lowered_sum p.fields) ∙ eqb-true _ _ sized.1;
-      port = leb-true p.port 511 to_port.1;
+      port = leb-true p.port drop_port to_port.1;
     }
 
 -- the widths of the fields, as the meaning of P4_14 lists them

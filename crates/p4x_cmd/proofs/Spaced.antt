@@ -5,7 +5,7 @@ use Rattle.std.specs.Prelude.{◌&&◌, ◌||◌, ◌==◌, not, if◌then◌els
 use Rattle.std.specs.List.{list_all}
 use Rattle.std.proofs.lemmas.Bool.{and_parts, and_from, and_right, or_from, or_left, or_right, or_cases, false≢true, eqb-true}
 use Rattle.p4x_cmd.specs.Division.{Token, run, number, mark, is_blank, is_digit, is_word_octet, joins, number_of, token_from, none, some, tokens_behind, begun_at, tokens_of}
-use Rattle.p4x_cmd.specs.Written.{Divided}
+use Rattle.p4x_cmd.specs.internal.Written.{Divided}
 
 -- nothing joins the octet
 abbrev pub stands_alone : ℕ → Bool

@@ -2,9 +2,10 @@
 use Rattle.std.proofs.Common.{◌≡◌, ◌↔◌, ℕ, zero, suc, ◌+◌, ◌-◌, ◌<◌, ◌≤◌, Bool, false, IsTrue, List, [], ◌∷◌, ◌++◌, length, map, get_or, take, drop, refl, sym, ◌∙◌, ap, append_assoc, add-one, arith}
 use Rattle.std.proofs.lemmas.List.{append_cancel_left}
 use Rattle.std.proofs.lemmas.Grind.{common_steps}
-use Rattle.p4x_cmd.specs.Division.{Token, token_of}
+use Rattle.p4x_cmd.specs.Division.{Token}
+use Rattle.p4x_cmd.specs.internal.Views.{token_of}
 use Rattle.p4x_cmd.specs.Forms14.{field_tokens, spelled14}
-use Rattle.p4x_cmd.specs.Places14.{NeverBegins, from_fields}
+use Rattle.p4x_cmd.specs.internal.Places14.{NeverBegins, from_fields}
 use Rattle.p4x_cmd.specs.declared.tokens.Token.{Token as Lent}
 use Rattle.p4x_cmd.specs.declared.one_table.Field.{Field}
 use Rattle.p4x_cmd.specs.declared.one_table.OneTable14.{OneTable14}

@@ -11,7 +11,7 @@ use Rattle.p4x_fault.specs.declared.Rule.TheVariants.{K}
 use Rattle.fabric.specs.declared.packets.Arrival.{Arrival}
 use Rattle.pcap_io.specs.declared.head.Head.{Head}
 use Rattle.pcap_io.specs.declared.records.Record.{Record}
-use Rattle.pcap_io.specs.Captures.{Reading, reading_of, records_in, head_of, opened, behind, ending, is_whole, is_too_long, record_of, captured_length, arrivals_of}
+use Rattle.pcap_io.specs.Captures.{Reading, reading_of, records_in, head_of, opened, behind, ending, is_whole, is_too_long, record_of, captured_length, arrivals_of, arrival_of}
 use Rattle.pcap_io.specs.Sent.{record_header_of, sent_record, seconds_of, fraction_of}
 use Rattle.pcap_io.proofs.Opening.{unread, is_opened}
 use Rattle.p4x_cmd.specs.declared.one_table.OneTable16.{OneTable16}
@@ -19,9 +19,9 @@ use Rattle.p4x_cmd.specs.Carry.{sent_file}
 use Rattle.p4x_cmd.specs.Forms16.{program16}
 use Rattle.p4x_cmd.specs.Passes.{PassEnd, Pass, Ran, dropped, leaves, run_from, sent_from}
 use Rattle.p4x_cmd.specs.Reports.{sent_line, sent_lines}
-use Rattle.p4x_cmd.specs.Runs.{this_run}
-use Rattle.p4x_cmd.specs.Streams.{View, start, begun, arrival_of, with_end, with_pass, after_one, after_all, run_view}
-use Rattle.p4x_cmd.proofs.RunLaws.{own_pass, run_is, run_cut, run_sent}
+use Rattle.p4x_cmd.specs.Runs.{default_bound, this_run}
+use Rattle.p4x_cmd.specs.internal.Streams.{View, start, begun, with_end, with_pass, after_one, after_all, run_view}
+use Rattle.p4x_cmd.proofs.RunLaws.{no_store, own_pass, run_is, run_cut, run_sent}
 use Rattle.p4x_cmd.proofs.Streams.{no_records}
 
 -- What the end of a pass adds.
@@ -82,7 +82,7 @@ octets_are front rest a (leaves port octets) =
 
 module _ (pass : Arrival → Pass) where
   abbrev run : ℕ → List Arrival → Ran
-  run number arrivals = run_from pass 256 number arrivals
+  run number arrivals = run_from pass default_bound no_store number arrivals
 
   -- the packet of a record makes its pass
   abbrev passed : Record → View → View
@@ -252,7 +252,7 @@ pub record IsRunOf (s : Syntax16) (head : Option Head) (packets : List Arrival) 
 module _ (pass : Arrival → Pass) (ports : List ℕ) where
   -- the run of a pass over the packets of records
   abbrev run_over : List Record → Ran
-  run_over records = run_from pass 256 0 (arrivals_of ports records)
+  run_over records = run_from pass default_bound no_store 0 (arrivals_of ports records)
 
   sent_by : (head : Option Head) (records : List Record) → (head ≡ None → records ≡ [])
       → (after_all pass records (begun head (start ports))).sent ≡ sent_file head (arrivals_of ports records) (run_over records).sent

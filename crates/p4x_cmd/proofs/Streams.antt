@@ -6,14 +6,14 @@ use Rattle.p4x_fault.specs.declared.Fault.{Fault as Refusal}
 use Rattle.fabric.specs.declared.packets.Arrival.{Arrival}
 use Rattle.pcap_io.specs.declared.head.Head.{Head}
 use Rattle.pcap_io.specs.declared.records.Record.{Record}
-use Rattle.pcap_io.specs.Captures.{Reading, reading_of, records_in, head_of, opened, IsRecord}
+use Rattle.pcap_io.specs.Captures.{Reading, reading_of, records_in, head_of, opened, IsRecord, arrival_of}
 use Rattle.pcap_io.specs.Reader.{fed, fed_by, read_on, taken_from}
 use Rattle.pcap_io.specs.Sent.{file_header_of}
 use Rattle.pcap_io.proofs.Feeding.{fed_more}
 use Rattle.pcap_io.proofs.Growing.{records_head}
 use Rattle.pcap_io.proofs.Opening.{unread, is_opened}
 use Rattle.p4x_cmd.specs.Passes.{PassEnd, Pass, dropped, leaves}
-use Rattle.p4x_cmd.specs.Streams.{View, start, with_header, begun, arrival_of, with_end, with_pass, after_one, after_all, run_view, emptied, drained}
+use Rattle.p4x_cmd.specs.internal.Streams.{View, start, with_header, begun, with_end, with_pass, after_one, after_all, run_view, emptied, drained}
 
 -- the packets of more records
 pub after_append : (pass : Arrival → Pass) (a b : List Record) (v : View) → after_all pass (a ++ b) v ≡ after_all pass b (after_all pass a v)

@@ -3,11 +3,13 @@ use Rattle.std.proofs.Common.{◌≡◌, ℕ, ◌+◌, ◌%◌, ◌≤◌, Bool,
 use Rattle.std.proofs.lemmas.Bool.Decides.{nat_tests}
 use Rattle.std.specs.List.{list_all, list_any}
 use Rattle.std.specs.Str.{bytes_eq}
+use Rattle.state_store.specs.Ports.{drop_port}
 use Rattle.p416_ast.specs.declared.decl.BitField.{BitField}
 use Rattle.p4x_cmd.specs.declared.one_table.Field.{Field}
 use Rattle.p4x_cmd.specs.declared.one_table.OneTable14.{OneTable14}
 use Rattle.p4x_cmd.specs.Forms14.{is_among, is_width, is_id, repeats, are_fields, is_free_name, is_one_table}
-use Rattle.p4x_cmd.specs.Forms16.{bit_field, lowered_field, lowered, program16}
+use Rattle.p4x_cmd.specs.Forms16.{bit_field, program16}
+use Rattle.p4x_cmd.specs.internal.Lowering.{lowered_field, lowered}
 use Rattle.p4x_cmd.specs.Kinds16.{all_different}
 use Rattle.p4x_cmd.specs.Typed16.{is_header_type, is_well_typed}
 
@@ -67,7 +69,7 @@ header_is fields is =
     rw (different_is fields, is.different, widths_are fields is.widths, sum_is 0 fields, is.octets, is.some) refl
 
 -- all but the header's fields and the port is closed
-closed_is : (p : OneTable14) → is_header_type (record { name = codes "h_t"; fields = written p.fields }) ≡ true → nat_le p.port 511 ≡ true
+closed_is : (p : OneTable14) → is_header_type (record { name = codes "h_t"; fields = written p.fields }) ≡ true → nat_le p.port drop_port ≡ true
     → is_well_typed (program16 (lowered p)) ≡ true
 unfolding program16 is_well_typed
 closed_is p header port = rw (header, port) refl
@@ -102,5 +104,5 @@ fields_are fields is =
 -- the translation of a program of the form is well-typed
 pub well_typed_is : (p : OneTable14) → is_one_table p ≡ true → is_well_typed (program16 (lowered p)) ≡ true
 well_typed_is p is =
-    let parts = form_parts (is_free_name p.header_type) (are_fields p.fields) (is_free_name p.instance) (is_free_name p.action) (nat_le p.port 511) (is_free_name p.table) is in
+    let parts = form_parts (is_free_name p.header_type) (are_fields p.fields) (is_free_name p.instance) (is_free_name p.action) (nat_le p.port drop_port) (is_free_name p.table) is in
     closed_is p (header_is p.fields (fields_are p.fields parts.0)) parts.1

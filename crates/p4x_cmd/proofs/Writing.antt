@@ -5,7 +5,8 @@ use Rattle.p4x_cmd.specs.declared.one_table.OneTable16.{OneTable16}
 use Rattle.p4x_cmd.specs.Carries.{Carries}
 use Rattle.p4x_cmd.specs.Carry.{ProgramIs, Written}
 use Rattle.p4x_cmd.specs.Forms14.{is_one_table}
-use Rattle.p4x_cmd.specs.Forms16.{Reads16, program16, lowered}
+use Rattle.p4x_cmd.specs.Forms16.{Reads16, program16}
+use Rattle.p4x_cmd.specs.internal.Lowering.{lowered}
 use Rattle.p4x_cmd.specs.Typed16.{is_well_typed}
 use Rattle.p4x_cmd.proofs.Carrying.{carries_is}
 use Rattle.p4x_cmd.proofs.Reading16.{reads16_once}

@@ -1,7 +1,6 @@
 -- The command `carry`: what is due for what its input files hold (this project's own).
 use Rattle.std.specs.Prelude.{◌≡◌, ◌⊎◌, ◌<◌, ◌≤◌, ◌%◌, ◌^◌, ℕ, nat_lt, if◌then◌else◌, true, List, [], ◌∷◌, length, Option, Some, None, Result, Ok, Err}
 use Rattle.p416_ast.specs.declared.syntax.Syntax16.{Syntax16}
-use Rattle.p4x_io.specs.Desk.{grown}
 use Rattle.p4x_fault.specs.declared.Fault.{Fault as Refusal}
 use Rattle.fabric.specs.declared.packets.Arrival.{Arrival}
 use Rattle.fabric.specs.declared.packets.Sent.{Sent}
@@ -17,19 +16,21 @@ use Rattle.p4x_cmd.specs.Carries.{Carries}
 use Rattle.p4x_cmd.specs.Typed16.{is_well_typed}
 use Rattle.p4x_cmd.specs.Forms14.{Reads14}
 use Rattle.p4x_cmd.specs.Forms16.{Reads16}
-use Rattle.p4x_cmd.specs.Outcomes.{Due, IsLoose, GrownByFront}
+use Rattle.p4x_cmd.specs.Outcomes.{Held, Due}
 use Rattle.p4x_cmd.specs.Passes.{Ran}
 use Rattle.p4x_cmd.specs.Reports.{sent_lines, report_of, carried_line_of}
 use Rattle.p4x_cmd.specs.Runs.{this_run}
 use Rattle.p4x_cmd.specs.Words.{Files}
 
--- the greatest lengths in octets of a program, of a capture and of a ports file
+-- the greatest length in octets of a program
 abbrev pub program_limit : ℕ
 program_limit = 1048576
 
+-- that of a capture
 abbrev pub capture_limit : ℕ
 capture_limit = 1073741824
 
+-- that of a ports file
 abbrev pub ports_limit : ℕ
 ports_limit = 4194304
 
@@ -55,6 +56,7 @@ entries_stop None = Some Fault
 entries_stop (Some []) = None
 entries_stop (Some (b ∷ octets)) = Some Entries
 
+-- the ports of a text, or its refusal
 abbrev pub taken_ports : Result (List ℕ) Refusal → Result (List ℕ) Stop
 taken_ports (Ok ports) = Ok ports
 taken_ports (Err fault) = Err (Refused fault)
@@ -62,29 +64,31 @@ taken_ports (Err fault) = Err (Refused fault)
 -- what the ports file comes to: its ports, or why there are none
 abbrev pub ports_in : Option (List ℕ) → Result (List ℕ) Stop
 ports_in None = Err Fault
-ports_in (Some text) = if nat_lt ports_limit (length text) then Err (Limit limited.Ports) else taken_ports (ports_of text)
+ports_in (Some text) =
+    if nat_lt ports_limit (length text) then Err (Limit limited.Ports) else taken_ports (ports_of text)
 
 -- where no ports file is named, no packet has a port of its own
-abbrev pub ports_end : (List ℕ → Option (List ℕ)) → Option (List ℕ) → Result (List ℕ) Stop
+abbrev pub ports_end : Held → Option (List ℕ) → Result (List ℕ) Stop
 ports_end files None = Ok []
 ports_end files (Some name) = ports_in (files name)
 
 -- the command has a program, and entries that are taken
-abbrev pub HasProgram : Files → (List ℕ → Option (List ℕ)) → OneTable14 → Type 0
+abbrev pub HasProgram : Files → Held → OneTable14 → Type 0
 HasProgram f files p = ProgramIs (files f.program) (Ok p) × (entries_stop (files f.entries) ≡ None)
 
 -- the command stops before it writes anything: at the program, at the entries or at the ports
-abbrev pub StopsBefore : Files → (List ℕ → Option (List ℕ)) → Stop → Type 0
+abbrev pub StopsBefore : Files → Held → Stop → Type 0
 StopsBefore f files stop =
     ProgramIs (files f.program) (Err stop)
     ⊎ ((p : OneTable14) × ProgramIs (files f.program) (Ok p) × (entries_stop (files f.entries) ≡ Some stop))
     ⊎ ((p : OneTable14) × HasProgram f files p × (ports_end files f.ports ≡ Err stop))
 
 -- the command has a program, entries that are taken, and these ports
-abbrev pub Begins : Files → (List ℕ → Option (List ℕ)) → OneTable14 → List ℕ → Type 0
+abbrev pub Begins : Files → Held → OneTable14 → List ℕ → Type 0
 Begins f files p ports = HasProgram f files p × (ports_end files f.ports ≡ Ok ports)
 
--- The text reads as this program of P4_16, and as no other; the program is well-typed, and it carries the program of P4_14.
+-- The text reads as this program of P4_16, and as no other; the program is well-typed, and it carries the program of
+-- P4_14.
 pub record Written (p : OneTable14) (text : List ℕ) (s : Syntax16) : Type 0 where
   pub reads : Reads16 text s
   pub only : (other : Syntax16) → Reads16 text other → other ≡ s
@@ -102,7 +106,8 @@ abbrev pub sent_file : Option Head → List Arrival → List Sent → List ℕ
 sent_file None arrivals sent = []
 sent_file (Some head) arrivals sent = sent_bytes_of head.link head.nano arrivals sent
 
--- A run over the packets of a capture that is whole, or over those in front of what is refused: then the report has no end part.
+-- A run over the packets of a capture that is whole, or over those in front of what is refused: then the report has no
+-- end part.
 abbrev pub run_reports : Option Refusal → Option Head → List Arrival → Ran → Reports
 run_reports None head arrivals run = record {
   sent = sent_file head arrivals run.sent;
@@ -129,14 +134,8 @@ stopped stop = record { sent = []; report = []; end = Err stop }
 abbrev pub capture_reports : Syntax16 → List ℕ → Option (List ℕ) → Reports
 capture_reports s ports None = stopped Fault
 capture_reports s ports (Some octets) =
-    if nat_lt capture_limit (length octets) then stopped (Limit limited.Capture) else reading_reports s ports (reading_of octets)
-
--- The sent file and the report have grown by what the capture comes to, and the work ended as it says; or it ended with a fault or want of
--- memory, and they have grown by fronts of that.
-abbrev pub Delivers : Reports → Result (List ℕ) Stop → Option (Option (List ℕ)) → Option (Option (List ℕ)) → Option (Option (List ℕ)) → Option (Option (List ℕ)) → Type 0
-Delivers r end sent sent' report report' =
-    ((end ≡ r.end) × (sent' ≡ grown sent r.sent) × (report' ≡ grown report r.report))
-    ⊎ (IsLoose end × GrownByFront sent r.sent sent' × GrownByFront report r.report report')
+    if nat_lt capture_limit (length octets) then stopped (Limit limited.Capture)
+    else reading_reports s ports (reading_of octets)
 
 -- nothing is written
 abbrev pub untouched : Files → Stop → Due
@@ -144,11 +143,15 @@ untouched f stop = record { outs = (f.text, None) ∷ (f.sent, None) ∷ (f.repo
 
 -- the text is written, and with it what the capture comes to
 abbrev pub delivered : Files → List ℕ → Reports → Due
-delivered f text r = record { outs = (f.text, Some text) ∷ (f.sent, Some r.sent) ∷ (f.report, Some r.report) ∷ []; end = r.end }
+delivered f text r = record {
+  outs = (f.text, Some text) ∷ (f.sent, Some r.sent) ∷ (f.report, Some r.report) ∷ [];
+  end = r.end;
+}
 
--- What is due: the first cause in the order of the work, or a text that reads as one program, with the files of this program's run.
-abbrev pub CarryDue : Files → (List ℕ → Option (List ℕ)) → Due → Type 0
+-- What is due: the first cause in the order of the work, or a text that reads as one program, with the files of this
+-- program's run.
+abbrev pub CarryDue : Files → Held → Due → Type 0
 CarryDue f files d =
     ((stop : Stop) × StopsBefore f files stop × (d ≡ untouched f stop))
-    ⊎ ((p : OneTable14) × (ports : List ℕ) × (text : List ℕ) × (s : Syntax16) × Begins f files p ports × Written p text s
-    × (d ≡ delivered f text (capture_reports s ports (files f.capture))))
+    ⊎ ((p : OneTable14) × (ports : List ℕ) × (text : List ℕ) × (s : Syntax16) × Begins f files p ports
+    × Written p text s × (d ≡ delivered f text (capture_reports s ports (files f.capture))))

@@ -1,8 +1,7 @@
--- The one-table form of P4_16 under the v1model architecture: one header, one parser state that extracts it, and one table
--- without keys whose action sends to a port. What its text reads as, and the program of this form that a program of the
--- one-table form of P4_14 becomes.
--- P4_16 1.2, sections 6.3 (lexical constructs), 7.1 (declarations), 12 (parsing), 13 (control blocks), 15 (deparsing) and
--- appendix H (grammar); v1model.p4.
+-- The one-table form of P4_16 under the v1model architecture: one header, one parser state that extracts it, and one
+-- table without keys whose action sends to a port. What its text reads as, and the program of this form that a program
+-- of the one-table form of P4_14 becomes. P4_16 1.2, "Lexical constructs", "P4 data types", "Packet parsing", "Control
+-- blocks", "Deparsing" and "P4 grammar"; v1model.p4.
 use Rattle.std.specs.Prelude.{◌≡◌, ℕ, ◌-◌, ◌^◌, Bool, true, ◌&&◌, nat_le, Some, List, [], ◌∷◌, ◌++◌, map, codes}
 use Rattle.std.specs.List.{list_all}
 use Rattle.std.specs.Fmt.{decimal}
@@ -24,14 +23,14 @@ use Rattle.p416_ast.specs.Blocks.{actions, default_action, LocalTree, action_loc
 use Rattle.p416_ast.specs.Words.{is_word, is_id16}
 use Rattle.p4x_cmd.specs.Division.{Token, run, number, mark, tokens_of}
 use Rattle.p4x_cmd.specs.declared.one_table.Field.{Field}
-use Rattle.p4x_cmd.specs.declared.one_table.OneTable14.{OneTable14}
 use Rattle.p4x_cmd.specs.declared.one_table.OneTable16.{OneTable16}
 
--- The names and numbers are such as the grammar allows at their places: a field's name is an ID, a string in `@name` holds the
--- text of a name, and a literal is below 2^128. Which widths a header may have, whether a literal fits its width and whether
--- names repeat is no grammar.
+-- The names and numbers are such as the grammar allows at their places: a field's name is an ID, a string in `@name`
+-- holds the text of a name, and a literal is below 2^128. Which widths a header may have, whether a literal fits its
+-- width and whether names repeat is no grammar.
 abbrev pub is_one_table16 : OneTable16 → Bool
-is_one_table16 q = list_all (λ f. is_id16 f.name) q.fields && is_word q.action && nat_le q.port (2 ^ 128 - 1) && is_word q.table
+is_one_table16 q =
+    list_all (λ f. is_id16 f.name) q.fields && is_word q.action && nat_le q.port (2 ^ 128 - 1) && is_word q.table
 
 -- The tokens of each declaration.
 
@@ -43,7 +42,8 @@ field_tokens16 (f ∷ fields) =
 
 -- header h_t { bit < w > name ; .. }
 abbrev pub header_tokens16 : List Field → List Token
-header_tokens16 fields = (run (codes "header") ∷ run (codes "h_t") ∷ mark 123 ∷ []) ++ (field_tokens16 fields ++ mark 125 ∷ [])
+header_tokens16 fields =
+    (run (codes "header") ∷ run (codes "h_t") ∷ mark 123 ∷ []) ++ (field_tokens16 fields ++ mark 125 ∷ [])
 
 -- struct hs { h_t h ; } struct ms { }
 abbrev pub struct_tokens : List Token
@@ -70,7 +70,8 @@ parser_tokens16 =
     ∷ run (codes "inout") ∷ run (codes "ms") ∷ run (codes "meta") ∷ mark 44 ∷ [])
     ++ (standard_tokens
     ++ mark 41 ∷ mark 123 ∷ run (codes "state") ∷ run (codes "start") ∷ mark 123
-    ∷ run (codes "p") ∷ mark 46 ∷ run (codes "extract") ∷ mark 40 ∷ run (codes "hdr") ∷ mark 46 ∷ run (codes "h") ∷ mark 41 ∷ mark 59
+    ∷ run (codes "p") ∷ mark 46 ∷ run (codes "extract") ∷ mark 40
+    ∷ run (codes "hdr") ∷ mark 46 ∷ run (codes "h") ∷ mark 41 ∷ mark 59
     ∷ run (codes "transition") ∷ run (codes "accept") ∷ mark 59 ∷ mark 125 ∷ mark 125 ∷ [])
 
 -- { apply { } }
@@ -83,7 +84,8 @@ checksum_tokens n = (run (codes "control") ∷ run n ∷ mark 40 ∷ []) ++ (bot
 
 -- control n ( inout hs hdr , inout ms meta , inout standard_metadata_t sm )
 abbrev pub control_head_tokens : List ℕ → List Token
-control_head_tokens n = (run (codes "control") ∷ run n ∷ mark 40 ∷ []) ++ (both_tokens ++ mark 44 ∷ (standard_tokens ++ mark 41 ∷ []))
+control_head_tokens n =
+    (run (codes "control") ∷ run n ∷ mark 40 ∷ []) ++ (both_tokens ++ mark 44 ∷ (standard_tokens ++ mark 41 ∷ []))
 
 -- @name ( "n" )
 abbrev pub note_tokens : List ℕ → List Token
@@ -106,7 +108,8 @@ table_tokens16 n =
 -- apply { if ( sm . parser_error == error . NoError ) { t . apply ( ) ; } else { mark_to_drop ( sm ) ; } }
 abbrev pub apply_tokens : List Token
 apply_tokens =
-    run (codes "apply") ∷ mark 123 ∷ run (codes "if") ∷ mark 40 ∷ run (codes "sm") ∷ mark 46 ∷ run (codes "parser_error")
+    run (codes "apply") ∷ mark 123 ∷ run (codes "if") ∷ mark 40
+    ∷ run (codes "sm") ∷ mark 46 ∷ run (codes "parser_error")
     ∷ run (codes "==") ∷ run (codes "error") ∷ mark 46 ∷ run (codes "NoError") ∷ mark 41
     ∷ mark 123 ∷ run (codes "t") ∷ mark 46 ∷ run (codes "apply") ∷ mark 40 ∷ mark 41 ∷ mark 59 ∷ mark 125
     ∷ run (codes "else")
@@ -115,7 +118,8 @@ apply_tokens =
 -- the ingress control I, with the action, the table and what it applies
 abbrev pub ingress_tokens16 : OneTable16 → List Token
 ingress_tokens16 q =
-    control_head_tokens (codes "I") ++ mark 123 ∷ (action_tokens16 q.action q.port ++ (table_tokens16 q.table ++ (apply_tokens ++ mark 125 ∷ [])))
+    control_head_tokens (codes "I")
+    ++ mark 123 ∷ (action_tokens16 q.action q.port ++ (table_tokens16 q.table ++ (apply_tokens ++ mark 125 ∷ [])))
 
 -- the egress control E
 abbrev pub egress_tokens : List Token
@@ -127,7 +131,8 @@ deparser_tokens =
     run (codes "control") ∷ run (codes "D") ∷ mark 40 ∷ run (codes "packet_out") ∷ run (codes "p") ∷ mark 44
     ∷ run (codes "in") ∷ run (codes "hs") ∷ run (codes "hdr") ∷ mark 41
     ∷ mark 123 ∷ run (codes "apply") ∷ mark 123
-    ∷ run (codes "p") ∷ mark 46 ∷ run (codes "emit") ∷ mark 40 ∷ run (codes "hdr") ∷ mark 46 ∷ run (codes "h") ∷ mark 41 ∷ mark 59
+    ∷ run (codes "p") ∷ mark 46 ∷ run (codes "emit") ∷ mark 40
+    ∷ run (codes "hdr") ∷ mark 46 ∷ run (codes "h") ∷ mark 41 ∷ mark 59
     ∷ mark 125 ∷ mark 125 ∷ []
 
 -- V1Switch ( P ( ) , V ( ) , I ( ) , E ( ) , C ( ) , D ( ) ) main ;
@@ -153,32 +158,38 @@ spelled16 q = header_tokens16 q.fields ++ (front_tokens ++ (ingress_tokens16 q +
 
 -- The syntax tree of each declaration.
 
+-- bit < w > name ;
 abbrev pub bit_field : Field → BitField
 bit_field f = record { width = f.width; name = f.name }
 
--- struct hs { h_t h ; } and struct ms { }
+-- struct hs { h_t h ; }
 abbrev pub header_struct : Decl16
 header_struct = Struct record {
   name = codes "hs";
   fields = record { notes = []; of = Named (codes "h_t"); name = codes "h" } ∷ [];
 }
 
+-- struct ms { }
 abbrev pub metadata_struct : Decl16
 metadata_struct = Struct record { name = codes "ms"; fields = [] }
 
+-- one parameter
 abbrev pub param : Direction → List ℕ → List ℕ → Param
 param direction type n = record { direction = direction; of = Named type; name = n }
 
+-- inout ms meta
 abbrev pub meta_param : Param
 meta_param = param InOut (codes "ms") (codes "meta")
 
+-- inout standard_metadata_t sm
 abbrev pub standard_param : Param
 standard_param = param InOut (codes "standard_metadata_t") (codes "sm")
 
--- the parameters of the checksum controls, and those of ingress and egress
+-- the parameters of the checksum controls
 abbrev pub checksum_params : List Param
 checksum_params = param InOut (codes "hs") (codes "hdr") ∷ meta_param ∷ []
 
+-- those of ingress and egress
 abbrev pub switch_params : List Param
 switch_params = param InOut (codes "hs") (codes "hdr") ∷ meta_param ∷ standard_param ∷ []
 
@@ -190,10 +201,12 @@ call_with callee only = expression (call callee (argument no_arguments only))
 abbrev pub the_header : Exp16
 the_header = member (name (codes "hdr")) (codes "h")
 
+-- parser P
 abbrev pub parser16 : Decl16
 parser16 = Parser record {
   name = codes "P";
-  parameters = param Plain (codes "packet_in") (codes "p") ∷ param Out (codes "hs") (codes "hdr") ∷ meta_param ∷ standard_param ∷ [];
+  parameters = param Plain (codes "packet_in") (codes "p") ∷ param Out (codes "hs") (codes "hdr") ∷ meta_param
+      ∷ standard_param ∷ [];
   states = record {
     name = codes "start";
     body = then no_statements (call_with (member (name (codes "p")) (codes "extract")) the_header);
@@ -214,6 +227,7 @@ action16 n port = action_local record {
   body = then no_statements (assign (member (name (codes "sm")) (codes "egress_spec")) (literal (Some 9) port));
 }
 
+-- the table
 abbrev pub table16 : List ℕ → LocalTree
 table16 n = table_local record {
   notes = Name n ∷ [];
@@ -228,6 +242,7 @@ apply_or_drop =
     (block (then no_statements (expression (call (member (name (codes "t")) (codes "apply")) no_arguments))))
     (block (then no_statements (call_with (name (codes "mark_to_drop")) (name (codes "sm")))))
 
+-- control I
 abbrev pub ingress16 : OneTable16 → Decl16
 ingress16 q = Control record {
   name = codes "I";
@@ -236,6 +251,7 @@ ingress16 q = Control record {
   body = then no_statements apply_or_drop;
 }
 
+-- control D
 abbrev pub deparser16 : Decl16
 deparser16 =
     plain_control (codes "D") (param Plain (codes "packet_out") (codes "p") ∷ param In (codes "hs") (codes "hdr") ∷ [])
@@ -244,18 +260,19 @@ deparser16 =
 -- the syntax tree of a program of the form
 unfoldable pub program16 : OneTable16 → Syntax16
 program16 q = record {
-  decls = Header record { name = codes "h_t"; fields = map bit_field q.fields } ∷ header_struct ∷ metadata_struct ∷ parser16
-      ∷ plain_control (codes "V") checksum_params no_statements ∷ ingress16 q ∷ plain_control (codes "E") switch_params no_statements
+  decls = Header record { name = codes "h_t"; fields = map bit_field q.fields } ∷ header_struct ∷ metadata_struct
+      ∷ parser16 ∷ plain_control (codes "V") checksum_params no_statements ∷ ingress16 q
+      ∷ plain_control (codes "E") switch_params no_statements
       ∷ plain_control (codes "C") checksum_params no_statements ∷ deparser16 ∷ [];
   main = codes "P" ∷ codes "V" ∷ codes "I" ∷ codes "E" ∷ codes "C" ∷ codes "D" ∷ [];
 }
 
--- #include <core.p4> and #include <v1model.p4>, each on a line of its own (P4_16 1.2, section 6.2: the C preprocessor)
+-- #include <core.p4> and #include <v1model.p4>, each on a line of its own (P4_16 1.2, "Preprocessing")
 abbrev pub include_lines : List ℕ
 include_lines = codes "#include <core.p4>" ++ 10 ∷ (codes "#include <v1model.p4>" ++ 10 ∷ [])
 
--- The text reads as the syntax: it is that of a program of the form, and the text is the two include lines and has behind
--- them the tokens that this program is written with.
+-- The text reads as the syntax: it is that of a program of the form, and the text is the two include lines and has
+-- behind them the tokens that this program is written with.
 pub record Reads16 (text : List ℕ) (syntax : Syntax16) : Type 0 where
   pub program : OneTable16
   pub form : is_one_table16 program ≡ true
@@ -263,11 +280,3 @@ pub record Reads16 (text : List ℕ) (syntax : Syntax16) : Type 0 where
   pub behind : List ℕ
   pub lines : text ≡ include_lines ++ behind
   pub spelled : tokens_of behind ≡ spelled16 program
-
--- What a P4_14 program of the form becomes: `f_` in front keeps every field's name from being a reserved word of P4_16; the
--- action and the table keep their names for the control plane.
-abbrev pub lowered_field : Field → Field
-lowered_field f = record { name = codes "f_" ++ f.name; width = f.width }
-
-abbrev pub lowered : OneTable14 → OneTable16
-lowered p = record { fields = map lowered_field p.fields; action = p.action; port = p.port; table = p.table }

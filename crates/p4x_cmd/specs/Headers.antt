@@ -1,4 +1,5 @@
--- The bits of a header's fields, first field first (P4_14 1.0.5, section 2.2; P4_16 1.2, section 12.8.1).
+-- The bits of a header's fields, first field first (P4_14 1.0.5, "Header Type Declarations"; P4_16 1.2, "Data
+-- extraction").
 use Rattle.std.specs.Prelude.{ℕ, Bool, List, [], ◌∷◌, ◌++◌, take, drop}
 use Rattle.p4x_bits.specs.BitLists.{num, bits}
 

@@ -1,7 +1,7 @@
--- What the names and expressions of a P4_16 program under the v1model architecture are: what a name means where it stands, of
--- which kind a value is, what can be written and which calls are allowed.
--- P4_16 1.2, sections 6.6 (l-values), 6.7 (calls), 6.8 (name resolution), 7 (types) and 8 (expressions); core.p4; v1model.p4.
--- The calls are those of a table, of an action, of a header's methods, of `extract`, `emit` and `mark_to_drop`.
+-- What the names and expressions of a P4_16 program under the v1model architecture are: what a name means where it
+-- stands, of which kind a value is, what can be written and which calls are allowed. P4_16 1.2, "L-values", "Calling
+-- convention: call by copy in/copy out", "Name resolution", "P4 data types" and "Expressions"; core.p4; v1model.p4. The
+-- calls are those of a table, of an action, of a header's methods, of `extract`, `emit` and `mark_to_drop`.
 use Rattle.std.specs.Prelude.{ℕ, ◌-◌, ◌^◌, Bool, true, false, not, ◌==◌, ◌&&◌, ◌||◌, if◌then◌else◌, nat_le, List, [], ◌∷◌, ◌++◌, map, find, codes, Option, Some, None}
 use Rattle.std.specs.List.{list_all}
 use Rattle.std.specs.Str.{bytes_eq}
@@ -19,8 +19,8 @@ use Rattle.p416_ast.specs.declared.node.Operator.TheVariants.{Equal}
 use Rattle.p4x_cmd.specs.Forms14.{is_among, is_width}
 use Rattle.p4x_cmd.specs.Meaning16.{header_of, struct_of}
 
--- what a value is: bits of a width, a number without a width, a truth value, an error, a header or a struct by the name of its
--- type, a packet that is read or one that is written
+-- what a value is: bits of a width, a number without a width, a truth value, an error, a header or a struct by the name
+-- of its type, a packet that is read or one that is written
 pub data Kind : Type 0 where
   bits : (width : ℕ) → Kind
   unsized : (value : ℕ) → Kind
@@ -31,8 +31,8 @@ pub data Kind : Type 0 where
   packet_in : Kind
   packet_out : Kind
 
--- what a name is declared as: a type, a value that can or can't be written, an action, a table, the function `mark_to_drop`,
--- or something that no place of an expression, a type or an action list asks for
+-- what a name is declared as: a type, a value that can or can't be written, an action, a table, the function
+-- `mark_to_drop`, or something that no place of an expression, a type or an action list asks for
 pub data Sort : Type 0 where
   a_type : (kind : Kind) → Sort
   a_value : (kind : Kind) (can_write : Bool) → Sort
@@ -46,21 +46,25 @@ pub record Known : Type 0 where
   pub called : List ℕ
   pub sort : Sort
 
+-- a name with what it is declared as
 abbrev pub known : Sort → List ℕ → Known
 known sort called = record { called = called; sort = sort }
 
--- a name means its innermost declaration, which stands first (section 6.8)
+-- a name means its innermost declaration, which stands first ("Name resolution")
 abbrev pub sort_in : List Known → List ℕ → Sort
 sort_in [] text = unusable
 sort_in (k ∷ names) text = if bytes_eq k.called text then k.sort else sort_in names text
 
+-- no name stands twice
 abbrev pub all_different : List (List ℕ) → Bool
 all_different [] = true
 all_different (n ∷ names) = not (is_among n names) && all_different names
 
+-- the type of the standard metadata
 abbrev pub standard_type : List ℕ
 standard_type = codes "standard_metadata_t"
 
+-- the standard metadata as a value
 abbrev pub standard : Kind
 standard = struct standard_type
 
@@ -72,7 +76,8 @@ built_in =
     ∷ known mark_to_drop (codes "mark_to_drop")
     ∷ map (known unusable) (codes "HashAlgorithm" ∷ codes "CounterType" ∷ codes "MeterType" ∷ codes "CloneType"
     ∷ codes "hash" ∷ codes "verify_checksum" ∷ codes "update_checksum" ∷ codes "verify_checksum_with_payload"
-    ∷ codes "update_checksum_with_payload" ∷ codes "clone_preserving_field_list" ∷ codes "resubmit_preserving_field_list"
+    ∷ codes "update_checksum_with_payload" ∷ codes "clone_preserving_field_list"
+    ∷ codes "resubmit_preserving_field_list"
     ∷ codes "recirculate_preserving_field_list" ∷ [])
 
 -- the names at the top
@@ -82,6 +87,7 @@ top_name (Struct s) = known (a_type (struct s.name)) s.name
 top_name (Parser p) = known unusable p.name
 top_name (Control c) = known unusable c.name
 
+-- the names at the top of a program: those that are built in, and its own
 abbrev pub top_names : List Decl16 → List Known
 top_names decls = map top_name decls ++ built_in
 
@@ -99,7 +105,7 @@ abbrev pub is_directed : Direction → Bool
 is_directed Plain = false
 is_directed _ = true
 
--- `out` and `inout` parameters can be written; `in` ones and those without a direction can't (sections 6.6 and 6.7)
+-- `out` and `inout` parameters can be written; `in` ones and those without a direction can't ("L-values")
 abbrev pub is_written : Direction → Bool
 is_written Out = true
 is_written InOut = true
@@ -113,12 +119,14 @@ parameter_name names p = known (of (kind_of_type names p.of)) p.name
     of (Some k) = a_value k (is_written p.direction)
     of None = unusable
 
+-- an action or a table as a declared name
 abbrev pub local_name : LocalTree → Known
 local_name (action_local a) = known (an_action a) a.name
 local_name (table_local t) = known a_table t.name
 
--- What an expression or a statement stands in: the declarations at the top, for each place of its block in `main` the extern
--- that a block there may call, the names of its block, its own names with these, and whether tables can be applied.
+-- What an expression or a statement stands in: the declarations at the top, for each place of its block in `main` the
+-- extern that a block there may call, the names of its block, its own names with these, and whether tables can be
+-- applied.
 pub record Context : Type 0 where
   pub decls : List Decl16
   pub externs : List (List ℕ)
@@ -131,10 +139,12 @@ abbrev pub is_bits : Option Kind → Bool
 is_bits (Some (bits w)) = true
 is_bits _ = false
 
+-- a value is a header
 abbrev pub is_header : Option Kind → Bool
 is_header (Some (header type)) = true
 is_header _ = false
 
+-- a value is a packet that is read or written
 abbrev pub is_packet : Option Kind → Bool
 is_packet (Some packet_in) = true
 is_packet (Some packet_out) = true
@@ -169,6 +179,7 @@ compares a b = takes a b || takes b a
 abbrev pub field : Type16 → List ℕ → StructField
 field of word = record { notes = []; of = of; name = word }
 
+-- the fields of standard_metadata_t, with their types
 abbrev pub standard_metadata : List StructField
 standard_metadata =
     field (Bit 9) (codes "ingress_port") ∷ field (Bit 9) (codes "egress_spec") ∷ field (Bit 9) (codes "egress_port")
@@ -185,11 +196,12 @@ fields_of decls _ = []
 abbrev pub errors : List (List ℕ)
 errors = codes "NoError" ∷ codes "PacketTooShort" ∷ codes "StackOutOfBounds" ∷ codes "NoMatch" ∷ []
 
+-- a name is that of a table
 abbrev pub is_table : Sort → Bool
 is_table a_table = true
 is_table _ = false
 
--- t.apply() (section 13.2.2)
+-- t.apply() ("Match-action unit invocation")
 abbrev pub is_application : Context → Exp16 → Bool
 is_application c (call (member (name text) word) no_arguments) =
     c.applies && bytes_eq word (codes "apply") && is_table (sort_in c.names text)
@@ -221,7 +233,7 @@ kind_of c (call (member e word) no_arguments) =
     if is_header (kind_of c e) && bytes_eq word (codes "isValid") then Some truth else None
 kind_of c _ = None
 
--- an l-value: a parameter that can be written, or a part of one (section 6.6)
+-- an l-value: a parameter that can be written, or a part of one ("L-values")
 abbrev pub can_write : Context → Exp16 → Bool
 can_write c (name text) = of (sort_in c.names text)
   where
@@ -237,7 +249,8 @@ arguments_of no_arguments = []
 arguments_of (argument before last) = arguments_of before ++ last ∷ []
 arguments_of _ = error ∷ []
 
--- an argument for each parameter, of its kind, and one that can be written where the parameter is `out` or `inout` (section 6.7)
+-- an argument for each parameter, of its kind, and one that can be written where the parameter is `out` or `inout`
+-- ("Calling convention: call by copy in/copy out")
 abbrev pub are_given : Context → List Param → List Exp16 → Bool
 are_given c [] [] = true
 are_given c (p ∷ parameters) (e ∷ es) =
@@ -249,11 +262,12 @@ are_given c _ _ = false
 abbrev pub allows : List (List ℕ) → List ℕ → Bool
 allows externs word = is_among word externs && list_all (bytes_eq word) externs
 
--- the methods of packets (core.p4) and of headers (section 8)
+-- the methods of packets (core.p4) and of headers ("Operations on headers")
 abbrev pub is_method : Context → Option Kind → Bool → List ℕ → List Exp16 → Bool
 is_method c (Some packet_in) can word (e ∷ []) =
     bytes_eq word (codes "extract") && allows c.externs word && is_header (kind_of c e) && can_write c e
-is_method c (Some packet_out) can word (e ∷ []) = bytes_eq word (codes "emit") && allows c.externs word && is_header (kind_of c e)
+is_method c (Some packet_out) can word (e ∷ []) =
+    bytes_eq word (codes "emit") && allows c.externs word && is_header (kind_of c e)
 is_method c (Some (header type)) can word [] =
     bytes_eq word (codes "isValid") || (can && is_among word (codes "setValid" ∷ codes "setInvalid" ∷ []))
 is_method c _ can word es = false
@@ -263,6 +277,7 @@ abbrev pub is_drop : Context → List Exp16 → Bool
 is_drop c (e ∷ []) = allows c.externs (codes "mark_to_drop") && takes (Some standard) (kind_of c e) && can_write c e
 is_drop c _ = false
 
+-- an expression is a call that is allowed where it stands
 abbrev pub is_call : Context → Exp16 → Bool
 is_call c (call (name text) given) = of (sort_in c.names text)
   where

@@ -1,3 +1,28 @@
+-- What the clauses of `p4x` say. Read in this order.
+--
+-- What a call comes to:
+--   Calls      what each clause says: `Carried`, the cause of each status, the line, and what stands in the files
+--   Outcomes   the same for any command: what is due, and what it leaves
+--   Words      the words of the command line, and the files that they name
+--   Carry      what is due for the files that `carry` reads: what stops it, and the written text with this run's files
+--   Stops      the status and the line of what stops it
+--   Runs       the run over the capture
+--   Reports    the report and the line of a run
+--
+-- What the written text is:
+--   Carries    both programs do the same on all entries, under every bound, for every list of arrivals
+--   Passes     what a run over arrivals gives
+--   Meaning14  what the P4_14 program does with a packet
+--   Meaning16  what the P4_16 program does with a packet
+--   Entries    what stands in the tables
+--   Headers    the bits of a header's fields
+--   Forms14    which text reads as which P4_14 program
+--   Forms16    which text reads as which P4_16 program
+--   Division   the division of a text into tokens
+--   Typed16    which P4_16 programs are well-typed
+--   Kinds16    what names and expressions are, as far as Typed16 asks
+--
+-- `internal` has what only private functions and proofs name.
 pub mod Calls
 pub mod Carries
 pub mod Carry
@@ -6,17 +31,14 @@ pub mod Entries
 pub mod Forms14
 pub mod Forms16
 pub mod Headers
+pub mod internal
 pub mod Kinds16
 pub mod Meaning14
 pub mod Meaning16
 pub mod Outcomes
 pub mod Passes
-pub mod Places14
-pub mod Plain
 pub mod Reports
 pub mod Runs
 pub mod Stops
-pub mod Streams
 pub mod Typed16
 pub mod Words
-pub mod Written

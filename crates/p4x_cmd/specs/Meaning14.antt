@@ -1,17 +1,26 @@
 -- What a P4_14 program of the one-table form does with a packet.
--- P4_14 1.0.5, sections 4 (parser), 7 (standard metadata), 9 (actions), 10 (deparsing), 11 (tables), 12 (control flow).
+-- P4_14 1.0.5, "Parser Specification", "Standard Intrinsic Metadata", "Actions", "Deparsing", "Table Declarations" and
+-- "Packet Processing and Control Flow".
 use Rattle.std.specs.Prelude.{ℕ, zero, suc, ◌*◌, ◌/◌, ◌%◌, ◌^◌, Bool, true, false, ◌==◌, if◌then◌else◌, nat_lt, List, [], ◌∷◌, ◌++◌, length, map, sum, drop, Option, Some, None}
 use Rattle.p4x_bits.specs.BitLists.{octet_bits}
+use Rattle.state_store.specs.Ports.{drop_port}
+use Rattle.match_core.specs.declared.signatures.TableSig.{TableSig}
+use Rattle.match_core.specs.declared.signatures.Signature.{Signature}
+use Rattle.match_core.specs.declared.entries.DefaultCall.{DefaultCall}
+use Rattle.match_core.specs.declared.entries.Entries.{Entries}
+use Rattle.match_core.specs.Stores.{first_store}
 use Rattle.p4x_cmd.specs.declared.one_table.OneTable14.{OneTable14}
 use Rattle.fabric.specs.declared.packets.Arrival.{Arrival}
 use Rattle.p4x_cmd.specs.Headers.{numbers_in, bits_in, octets_in, zeros}
 use Rattle.p4x_cmd.specs.Passes.{PassEnd, dropped, leaves, Pass, Ran, run_of}
-use Rattle.p4x_cmd.specs.Entries.{Signature, Choice, Entries, choice_of, fill_at}
+use Rattle.p4x_cmd.specs.Entries.{fill_at}
 
+-- the widths of the header's fields
 abbrev pub widths14 : OneTable14 → List ℕ
 widths14 p = map (λ f. f.width) p.fields
 
--- The state of a pass: the header instance's validity and numbers, the octets not yet parsed, and the standard metadata.
+-- The state of a pass: the header instance's validity and numbers, the octets not yet parsed, and the standard
+-- metadata.
 pub record State14 : Type 0 where
   pub valid : Bool
   pub numbers : List ℕ
@@ -35,7 +44,8 @@ start14 p a = record {
   instance_type = 0;
 }
 
--- `extract`: the next octets become the header's fields, and the header is valid; none where there are too few (p4_pe_out_of_packet)
+-- `extract`: the next octets become the header's fields, and the header is valid; none where there are too few
+-- (p4_pe_out_of_packet)
 abbrev pub extract14 : OneTable14 → State14 → Option State14
 extract14 p s =
     if nat_lt (8 * length s.unparsed) (sum (widths14 p)) then None
@@ -55,10 +65,10 @@ abbrev pub action14 : OneTable14 → ℕ → State14 → State14
 action14 p zero s = act14 p s
 action14 p (suc n) s = s
 
--- apply(t): a table without keys takes its choice, or its own default where there is none
-abbrev pub apply14 : OneTable14 → Option Choice → State14 → State14
+-- apply(t): a table without keys misses, so the default of the entries file runs, or else the program's own
+abbrev pub apply14 : OneTable14 → Option DefaultCall → State14 → State14
 apply14 p None s = action14 p 0 s
-apply14 p (Some c) s = action14 p c.action s
+apply14 p (Some call) s = action14 p call.action s
 
 -- as egress begins; there is no control `egress`, so nothing is done in it
 abbrev pub egress14 : State14 → State14
@@ -68,23 +78,34 @@ egress14 s = record s { egress_port = s.egress_spec; egress_spec = 0 }
 abbrev pub deparsed14 : OneTable14 → State14 → List ℕ
 deparsed14 p s = (if s.valid then octets_in (bits_in (widths14 p) s.numbers) else []) ++ s.unparsed
 
--- what becomes of the packet after ingress: port 511 drops it
+-- what becomes of the packet after ingress: the drop port drops it
 abbrev pub after_ingress14 : OneTable14 → State14 → PassEnd
 after_ingress14 p s =
-    if s.egress_spec == 511 then dropped else leaves (egress14 s).egress_port (deparsed14 p (egress14 s))
+    if s.egress_spec == drop_port then dropped else leaves (egress14 s).egress_port (deparsed14 p (egress14 s))
 
 -- a packet whose parsing ends in an exception is dropped
 abbrev pub after_parser14 : OneTable14 → Entries → Option State14 → PassEnd
 after_parser14 p e None = dropped
-after_parser14 p e (Some s) = after_ingress14 p (apply14 p (choice_of (fill_at e 0)) s)
+after_parser14 p e (Some s) = after_ingress14 p (apply14 p (fill_at e 0).default s)
 
+-- one pass
 abbrev pub pass14 : OneTable14 → Entries → Arrival → Pass
 pass14 p e a = record { end = after_parser14 p e (extract14 p (start14 p a)); work = 0 }
 
--- the signature: one table without keys and with one action without parameters
+-- the table: it has no keys, one action without parameters, and the size of a table that gives none
+abbrev pub table14 : OneTable14 → TableSig
+table14 p = record {
+  name = p.table;
+  keys = [];
+  actions = record { name = p.action; widths = [] } ∷ [];
+  size = 1024;
+  direct = None;
+}
+
+-- the signature: one table, and no object
 abbrev pub signature14 : OneTable14 → Signature
-signature14 p = record { tables = record { name = p.table; actions = record { name = p.action; widths = [] } ∷ []; size = 1024 } ∷ [] }
+signature14 p = record { tables = table14 p ∷ []; objects = [] }
 
 -- what the program does on a list of arrivals
 unfoldable pub Run14 : OneTable14 → Entries → ℕ → List Arrival → Ran
-Run14 p e bound arrivals = run_of (pass14 p e) bound arrivals
+Run14 p e bound arrivals = run_of (pass14 p e) bound (first_store (signature14 p) e) arrivals

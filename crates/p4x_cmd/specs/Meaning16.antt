@@ -1,8 +1,16 @@
--- What a P4_16 program does with a packet, by cases on its syntax, for programs whose headers are those of one struct, whose parser has no further states,
--- and whose tables have no keys. P4_16 1.2, sections 8 (operations on headers), 11 (statements), 12 (parsers), 13 (controls, tables), 15 (deparsing); v1model.p4 (blocks, standard_metadata_t, mark_to_drop).
+-- What a P4_16 program does with a packet, by cases on its syntax, for programs whose headers are those of one struct,
+-- whose parser has no further states, and whose tables have no keys. P4_16 1.2, "Operations on headers", "Statements",
+-- "Packet parsing", "Control blocks" and "Deparsing"; v1model.p4 (blocks, standard_metadata_t, mark_to_drop).
 use Rattle.std.specs.Prelude.{ℕ, zero, suc, ◌+◌, ◌*◌, ◌/◌, ◌%◌, ◌^◌, Bool, true, false, ◌==◌, ◌&&◌, if◌then◌else◌, nat_lt, List, [], ◌∷◌, ◌++◌, length, map, sum, drop, codes, Option, Some, None, slice_index_or}
 use Rattle.std.specs.Str.{bytes_eq}
 use Rattle.p4x_bits.specs.BitLists.{octet_bits}
+use Rattle.state_store.specs.Ports.{drop_port}
+use Rattle.match_core.specs.declared.signatures.ActionSig.{ActionSig}
+use Rattle.match_core.specs.declared.signatures.TableSig.{TableSig}
+use Rattle.match_core.specs.declared.signatures.Signature.{Signature}
+use Rattle.match_core.specs.declared.entries.DefaultCall.{DefaultCall}
+use Rattle.match_core.specs.declared.entries.Entries.{Entries}
+use Rattle.match_core.specs.Stores.{first_store}
 use Rattle.p416_ast.specs.Tree.{Exp16, literal, name, error, member, binary, call, no_arguments, argument, Stmt16, no_statements, then, block, assign, expression, if_else}
 use Rattle.p416_ast.specs.Blocks.{StateTree, ParserTree, ActionTree, PropertyTree, actions, default_action, TableTree, LocalTree, action_local, table_local, ControlTree}
 use Rattle.p416_ast.specs.declared.syntax.Syntax16.{Syntax16}
@@ -21,7 +29,7 @@ use Rattle.p416_ast.specs.declared.control.ActionName.TheVariants.{Declared, NoA
 use Rattle.fabric.specs.declared.packets.Arrival.{Arrival}
 use Rattle.p4x_cmd.specs.Headers.{numbers_in, bits_in, octets_in, zeros}
 use Rattle.p4x_cmd.specs.Passes.{dropped, leaves, Pass, Ran, run_of}
-use Rattle.p4x_cmd.specs.Entries.{Signature, TableSig, ActionSig, Choice, Entries, choice_of, fill_at}
+use Rattle.p4x_cmd.specs.Entries.{fill_at}
 
 -- a member of H, the struct of headers: its name, and the names and widths of its header's fields
 pub record Member : Type 0 where
@@ -34,8 +42,9 @@ pub record Header_now : Type 0 where
   pub valid : Bool
   pub numbers : List ℕ
 
--- What a block works on: the headers of H in order, the standard metadata in the order of `standard_fields`, the octets that are not parsed,
--- those that were emitted, the count of statements and transitions that began, and whether an error stopped the parser.
+-- What a block works on: the headers of H in order, the standard metadata in the order of `standard_fields`, the octets
+-- that are not parsed, those that were emitted, the count of statements and transitions that began, and whether an
+-- error stopped the parser.
 pub record Moment : Type 0 where
   pub headers : List Header_now
   pub standard : List ℕ
@@ -54,8 +63,8 @@ pub record Scope : Type 0 where
 -- the fields of standard_metadata_t
 abbrev pub standard_fields : List (List ℕ)
 standard_fields =
-    codes "ingress_port" ∷ codes "egress_spec" ∷ codes "egress_port" ∷ codes "packet_length" ∷ codes "instance_type" ∷ codes "parser_error"
-    ∷ codes "checksum_error" ∷ []
+    codes "ingress_port" ∷ codes "egress_spec" ∷ codes "egress_port" ∷ codes "packet_length" ∷ codes "instance_type"
+    ∷ codes "parser_error" ∷ codes "checksum_error" ∷ []
 
 -- the number of an error, in the order in which core.p4's are listed by this project
 abbrev pub error_number : List ℕ → ℕ
@@ -81,21 +90,24 @@ abbrev pub field_under : List Member → List Header_now → List ℕ → List �
 field_under [] headers h f = 0
 field_under (m ∷ members) [] h f = 0
 field_under (m ∷ members) (x ∷ headers) h f =
-    if bytes_eq m.called h then (if x.valid then number_under m.fields x.numbers f else 0) else field_under members headers h f
+    if bytes_eq m.called h then (if x.valid then number_under m.fields x.numbers f else 0)
+    else field_under members headers h f
 
 -- the headers with another number in a field; a write to an invalid header does nothing
 abbrev pub put_field : List Member → List Header_now → List ℕ → List ℕ → ℕ → List Header_now
 put_field [] headers h f value = headers
 put_field (m ∷ members) [] h f value = []
 put_field (m ∷ members) (x ∷ headers) h f value =
-    if bytes_eq m.called h then (if x.valid then record x { numbers = put_under m.fields x.numbers f value } else x) ∷ headers
+    if bytes_eq m.called h
+    then (if x.valid then record x { numbers = put_under m.fields x.numbers f value } else x) ∷ headers
     else (x ∷ put_field members headers h f value)
 
 -- the value of e.word, by what e is
 abbrev pub member_value : Scope → Moment → Exp16 → List ℕ → ℕ
 member_value c m error word = error_number word
 member_value c m (name text) word = if bytes_eq text c.standard then number_under standard_fields m.standard word else 0
-member_value c m (member (name text) h) word = if bytes_eq text c.headers then field_under c.members m.headers h word else 0
+member_value c m (member (name text) h) word =
+    if bytes_eq text c.headers then field_under c.members m.headers h word else 0
 member_value c m _ word = 0
 
 -- the number of an expression; a truth value is 1 or 0, an error its number
@@ -136,14 +148,18 @@ extract16 c h m =
     if nat_lt (8 * length m.unparsed) (width_under c.members h) then
     record m { standard = put_under standard_fields m.standard (codes "parser_error") 1; stopped = true }
     else
-    record m { headers = filled c.members m.headers h (octet_bits m.unparsed); unparsed = drop (width_under c.members h / 8) m.unparsed }
+    record m {
+      headers = filled c.members m.headers h (octet_bits m.unparsed);
+      unparsed = drop (width_under c.members h / 8) m.unparsed;
+    }
 
 -- the octets of a header of H: none where it is invalid
 abbrev pub header_octets : List Member → List Header_now → List ℕ → List ℕ
 header_octets [] headers h = []
 header_octets (m ∷ members) [] h = []
 header_octets (m ∷ members) (x ∷ headers) h =
-    if bytes_eq m.called h then (if x.valid then octets_in (bits_in m.widths x.numbers) else []) else header_octets members headers h
+    if bytes_eq m.called h then (if x.valid then octets_in (bits_in m.widths x.numbers) else [])
+    else header_octets members headers h
 
 -- p.emit(hdr.h)
 abbrev pub emit16 : Scope → List ℕ → Moment → Moment
@@ -151,20 +167,22 @@ emit16 c h m = record m { emitted = m.emitted ++ header_octets c.members m.heade
 
 -- mark_to_drop(sm)
 abbrev pub mark_to_drop16 : Moment → Moment
-mark_to_drop16 m = record m { standard = put_under standard_fields m.standard (codes "egress_spec") 511 }
+mark_to_drop16 m = record m { standard = put_under standard_fields m.standard (codes "egress_spec") drop_port }
 
 -- a method of a packet on a header of H
 abbrev pub packet_call : Scope → List ℕ → Exp16 → Moment → Moment
 packet_call c word (argument no_arguments (member (name text) h)) m =
     if bytes_eq text c.headers then
-    (if bytes_eq word (codes "extract") then extract16 c h m else (if bytes_eq word (codes "emit") then emit16 c h m else m))
+    (if bytes_eq word (codes "extract") then extract16 c h m
+    else (if bytes_eq word (codes "emit") then emit16 c h m else m))
     else m
 packet_call c word _ m = m
 
 -- a call; `tables` says what the application of a table does
 abbrev pub call16 : (List ℕ → Moment → Moment) → Scope → Exp16 → Exp16 → Moment → Moment
 call16 tables c (member (name text) word) given m =
-    if bytes_eq word (codes "apply") then tables text m else (if bytes_eq text c.packet then packet_call c word given m else m)
+    if bytes_eq word (codes "apply") then tables text m
+    else (if bytes_eq text c.packet then packet_call c word given m else m)
 call16 tables c (name text) (argument no_arguments (name sm)) m =
     if bytes_eq text (codes "mark_to_drop") && bytes_eq sm c.standard then mark_to_drop16 m else m
 call16 tables c _ given m = m
@@ -191,21 +209,25 @@ abbrev pub plane_name : List Note → List ℕ → List ℕ
 plane_name [] own = own
 plane_name (Name text ∷ notes) own = text
 
+-- the action of a name among the locals of a control
 abbrev pub action_named : List LocalTree → List ℕ → Option ActionTree
 action_named [] text = None
 action_named (action_local a ∷ locals) text = if bytes_eq a.name text then Some a else action_named locals text
 action_named (table_local t ∷ locals) text = action_named locals text
 
+-- the table of a name among them
 abbrev pub table_named : List LocalTree → List ℕ → Option TableTree
 table_named [] text = None
 table_named (table_local t ∷ locals) text = if bytes_eq t.name text then Some t else table_named locals text
 table_named (action_local a ∷ locals) text = table_named locals text
 
+-- the actions that a table lists
 abbrev pub actions_of : List PropertyTree → List ActionName
 actions_of [] = []
 actions_of (actions names ∷ properties) = names
 actions_of (default_action a given ∷ properties) = actions_of properties
 
+-- the action that `default_action` names
 abbrev pub default_of : List PropertyTree → Option ActionName
 default_of [] = None
 default_of (default_action a given ∷ properties) = Some a
@@ -224,9 +246,10 @@ action16 c locals (Some (Declared text)) m = body_of (action_named locals text)
     body_of (Some a) = run16 no_tables c a.body m
 action16 c locals _ m = m
 
--- The action of a table without keys: that of the choice, by its number among the table's actions, or `default_action`, or none.
-abbrev pub chosen16 : TableTree → Option Choice → Option ActionName
-chosen16 t (Some choice) = at choice.action (actions_of t.properties)
+-- A table without keys misses, so the default of the entries file runs, which names one of the table's actions by its
+-- number; or else `default_action`, or none.
+abbrev pub chosen16 : TableTree → Option DefaultCall → Option ActionName
+chosen16 t (Some given) = at given.action (actions_of t.properties)
   where
     at : ℕ → List ActionName → Option ActionName
     at n [] = None
@@ -240,8 +263,9 @@ apply16 c locals e text m = applied (table_named locals text)
   where
     applied : Option TableTree → Moment
     applied None = m
-    applied (Some t) = action16 c locals (chosen16 t (choice_of (fill_at e 0))) m
+    applied (Some t) = action16 c locals (chosen16 t (fill_at e 0).default) m
 
+-- the fields of the header type of a name
 abbrev pub header_of : List Decl16 → List ℕ → List BitField
 header_of [] text = []
 header_of (Header h ∷ decls) text = if bytes_eq h.name text then h.fields else header_of decls text
@@ -249,6 +273,7 @@ header_of (Struct s ∷ decls) text = header_of decls text
 header_of (Parser p ∷ decls) text = header_of decls text
 header_of (Control c ∷ decls) text = header_of decls text
 
+-- the fields of the struct type of a name
 abbrev pub struct_of : List Decl16 → List ℕ → List StructField
 struct_of [] text = []
 struct_of (Struct s ∷ decls) text = if bytes_eq s.name text then s.fields else struct_of decls text
@@ -256,6 +281,7 @@ struct_of (Header h ∷ decls) text = struct_of decls text
 struct_of (Parser p ∷ decls) text = struct_of decls text
 struct_of (Control c ∷ decls) text = struct_of decls text
 
+-- the parser of a name
 abbrev pub parser_of : List Decl16 → List ℕ → Option ParserTree
 parser_of [] text = None
 parser_of (Parser p ∷ decls) text = if bytes_eq p.name text then Some p else parser_of decls text
@@ -263,6 +289,7 @@ parser_of (Header h ∷ decls) text = parser_of decls text
 parser_of (Struct s ∷ decls) text = parser_of decls text
 parser_of (Control c ∷ decls) text = parser_of decls text
 
+-- the control of a name
 abbrev pub control_of : List Decl16 → List ℕ → Option ControlTree
 control_of [] text = None
 control_of (Control c ∷ decls) text = if bytes_eq c.name text then Some c else control_of decls text
@@ -275,16 +302,19 @@ abbrev pub type_name : Type16 → List ℕ
 type_name (Named text) = text
 type_name (Bit w) = []
 
+-- a field of H as a member
 abbrev pub member_of : List Decl16 → StructField → Member
 member_of decls f =
     let fields = header_of decls (type_name f.of) in
     record { called = f.name; fields = map (λ x. x.name) fields; widths = map (λ x. x.width) fields }
 
+-- the name of the parameter at a place
 abbrev pub parameter_at : List Param → ℕ → List ℕ
 parameter_at [] n = []
 parameter_at (p ∷ parameters) zero = p.name
 parameter_at (p ∷ parameters) (suc n) = parameter_at parameters n
 
+-- the name of its type
 abbrev pub parameter_type : List Param → ℕ → List ℕ
 parameter_type [] n = []
 parameter_type (p ∷ parameters) zero = type_name p.of
@@ -321,7 +351,8 @@ deparser_scope s parameters = record {
   standard = [];
 }
 
--- The state `start`, and its transition, which ends the parser and counts one where no error stopped the state before. An error stops the parser alone.
+-- The state `start`, and its transition, which ends the parser and counts one where no error stopped the state before.
+-- An error stops the parser alone.
 abbrev pub parse16 : Syntax16 → Option ParserTree → Moment → Moment
 parse16 s None m = m
 parse16 s (Some p) m = started p.states
@@ -332,7 +363,8 @@ parse16 s (Some p) m = started p.states
     started : List StateTree → Moment
     started [] = m
     started (x ∷ states) =
-        if bytes_eq x.name (codes "start") then ends (run16 no_tables (parser_scope s p.parameters) x.body m) else started states
+        if bytes_eq x.name (codes "start") then ends (run16 no_tables (parser_scope s p.parameters) x.body m)
+        else started states
 
 -- a control block in its scope
 abbrev pub control16 : (List Param → Scope) → Entries → Option ControlTree → Moment → Moment
@@ -343,12 +375,15 @@ control16 scope e (Some c) m = run16 (apply16 (scope c.parameters) c.locals e) (
 abbrev pub main_at : Syntax16 → ℕ → List ℕ
 main_at s n = slice_index_or s.main n []
 
+-- the control at a place of `main`
 abbrev pub block16 : Syntax16 → ℕ → Option ControlTree
 block16 s n = control_of s.decls (main_at s n)
 
+-- headers that are invalid, with fields 0
 abbrev pub invalid_headers : List Member → List Header_now
 invalid_headers members = map (λ x. record { valid = false; numbers = zeros x.widths }) members
 
+-- the members of H, as the parser has it
 abbrev pub members_of : Syntax16 → Option ParserTree → List Member
 members_of s None = []
 members_of s (Some p) = members_at s p.parameters 1
@@ -364,9 +399,11 @@ start16 s p a = record {
   stopped = false;
 }
 
+-- the number of a field of the standard metadata
 abbrev pub standard_number : Moment → List ℕ → ℕ
 standard_number m word = number_under standard_fields m.standard word
 
+-- another number in a field of the standard metadata
 abbrev pub with_standard : List ℕ → ℕ → Moment → Moment
 with_standard word value m = record m { standard = put_under standard_fields m.standard word value }
 
@@ -375,6 +412,7 @@ abbrev pub verified16 : Syntax16 → Entries → Moment → Moment
 verified16 s e m =
     if standard_number m (codes "parser_error") == 0 then control16 (control_scope s) e (block16 s 1) m else m
 
+-- parser, verify and ingress
 abbrev pub ingress16 : Syntax16 → Entries → Arrival → Moment
 ingress16 s e a =
     let p = parser_of s.decls (main_at s 0) in
@@ -384,7 +422,8 @@ ingress16 s e a =
 abbrev pub egress16 : Syntax16 → Entries → Moment → Moment
 egress16 s e m =
     let port = standard_number m (codes "egress_spec") in
-    control16 (control_scope s) e (block16 s 3) (with_standard (codes "egress_spec") 0 (with_standard (codes "egress_port") port m))
+    control16 (control_scope s) e (block16 s 3)
+    (with_standard (codes "egress_spec") 0 (with_standard (codes "egress_port") port m))
 
 -- compute and deparse run where the packet is sent
 abbrev pub deparsed16 : Syntax16 → Entries → Moment → Moment
@@ -394,21 +433,20 @@ deparsed16 s e m = control16 (deparser_scope s) e (block16 s 5) (control16 (cont
 abbrev pub sent16 : Moment → Pass
 sent16 m = record { end = leaves (standard_number m (codes "egress_port")) (m.emitted ++ m.unparsed); work = m.work }
 
+-- the packet is dropped
 abbrev pub dropped16 : Moment → Pass
 dropped16 m = record { end = dropped; work = m.work }
 
--- `egress_spec` 511 drops, after egress as after ingress
+-- the drop port in `egress_spec` drops, after egress as after ingress
 abbrev pub after_egress16 : Syntax16 → Entries → Moment → Pass
-after_egress16 s e m = if standard_number m (codes "egress_spec") == 511 then dropped16 m else sent16 (deparsed16 s e m)
+after_egress16 s e m =
+    if standard_number m (codes "egress_spec") == drop_port then dropped16 m else sent16 (deparsed16 s e m)
 
+-- one pass
 abbrev pub pass16 : Syntax16 → Entries → Arrival → Pass
 pass16 s e a =
     let m = ingress16 s e a in
-    if standard_number m (codes "egress_spec") == 511 then dropped16 m else after_egress16 s e (egress16 s e m)
-
--- what the program does on a list of arrivals, with the count of its work
-unfoldable pub Run16 : Syntax16 → Entries → ℕ → List Arrival → Ran
-Run16 s e bound arrivals = run_of (pass16 s e) bound arrivals
+    if standard_number m (codes "egress_spec") == drop_port then dropped16 m else after_egress16 s e (egress16 s e m)
 
 -- a table of a control: its control-plane name, its actions by theirs
 abbrev pub action_sig : List LocalTree → ActionName → ActionSig
@@ -426,12 +464,19 @@ action_sig locals (Declared text) = of (action_named locals text)
     of None = record { name = text; widths = [] }
     of (Some a) = record { name = plane_name a.notes a.name; widths = map width a.parameters }
 
+-- the tables among the locals of a control
 abbrev pub tables_in : List LocalTree → List LocalTree → List TableSig
 tables_in all [] = []
 tables_in all (action_local a ∷ locals) = tables_in all locals
-tables_in all (table_local t ∷ locals) =
-    record { name = plane_name t.notes t.name; actions = map (action_sig all) (actions_of t.properties); size = 1024 } ∷ tables_in all locals
+tables_in all (table_local t ∷ locals) = record {
+  name = plane_name t.notes t.name;
+  keys = [];
+  actions = map (action_sig all) (actions_of t.properties);
+  size = 1024;
+  direct = None;
+} ∷ tables_in all locals
 
+-- the tables of all controls
 abbrev pub tables_of : List Decl16 → List TableSig
 tables_of [] = []
 tables_of (Control c ∷ decls) = tables_in c.locals c.locals ++ tables_of decls
@@ -439,6 +484,10 @@ tables_of (Header h ∷ decls) = tables_of decls
 tables_of (Struct s ∷ decls) = tables_of decls
 tables_of (Parser p ∷ decls) = tables_of decls
 
--- the tables of a program that has one table, each with one action
+-- the signature of a program that has one table, whose size is 1024 since no property gives it, and no object
 abbrev pub signature16 : Syntax16 → Signature
-signature16 s = record { tables = tables_of s.decls }
+signature16 s = record { tables = tables_of s.decls; objects = [] }
+
+-- what the program does on a list of arrivals, with the count of its work
+unfoldable pub Run16 : Syntax16 → Entries → ℕ → List Arrival → Ran
+Run16 s e bound arrivals = run_of (pass16 s e) bound (first_store (signature16 s) e) arrivals

@@ -1,5 +1,7 @@
--- The queue of passes for programs that make no further items (this project's own fabric), and what a run over a list of arrivals gives.
+-- The queue of passes for programs that make no further items and declare no object, and what a run over a list of
+-- arrivals gives (this project's own).
 use Rattle.std.specs.Prelude.{ℕ, zero, suc, ◌+◌, List, [], ◌∷◌, ◌++◌}
+use Rattle.state_store.specs.State.{Contents}
 use Rattle.fabric.specs.declared.packets.Arrival.{Arrival}
 use Rattle.fabric.specs.declared.packets.Sent.{Sent}
 
@@ -13,31 +15,36 @@ pub record Pass : Type 0 where
   pub end : PassEnd
   pub work : ℕ
 
--- what a run gives: the packets sent in order, the cells of each stateful object, how many items were cut, and the work
+-- what a run gives: the packets sent in order, the store, how many items were cut, and the work
 pub record Ran : Type 0 where
   pub sent : List Sent
-  pub store : List (List ℕ)
+  pub store : Contents
   pub cut : ℕ
   pub work : ℕ
 
+-- the packet that leaves, under the number of its arrival
 abbrev pub sent_from : ℕ → PassEnd → List Sent
 sent_from number dropped = []
 sent_from number (leaves port octets) = record { arrival = number; port = port; octets = octets } ∷ []
 
--- A packet that arrives is the first item of its queue. While fewer than `bound` passes were made the first item is taken; what remains is cut.
-abbrev pub served : (Arrival → Pass) → ℕ → ℕ → Arrival → Ran
-served pass zero number arrival = record { sent = []; store = []; cut = 1; work = 0 }
-served pass (suc bound) number arrival =
+-- A packet that arrives is the first item of its queue. While fewer than `bound` passes were made the first item is
+-- taken; what remains is cut.
+abbrev pub served : (Arrival → Pass) → ℕ → Contents → ℕ → Arrival → Ran
+served pass zero store number arrival = record { sent = []; store = store; cut = 1; work = 0 }
+served pass (suc bound) store number arrival =
     let p = pass arrival in
-    record { sent = sent_from number p.end; store = []; cut = 0; work = p.work }
+    record { sent = sent_from number p.end; store = store; cut = 0; work = p.work }
 
+-- one run, and another behind it
 abbrev pub followed : Ran → Ran → Ran
 followed a b = record { sent = a.sent ++ b.sent; store = b.store; cut = a.cut + b.cut; work = a.work + b.work }
 
--- The run over arrivals that are numbered from a number on. The store has no objects in these programs.
-abbrev pub run_from : (Arrival → Pass) → ℕ → ℕ → List Arrival → Ran
-run_from pass bound number [] = record { sent = []; store = []; cut = 0; work = 0 }
-run_from pass bound number (a ∷ arrivals) = followed (served pass bound number a) (run_from pass bound (number + 1) arrivals)
+-- The run over arrivals that are numbered from a number on. No pass changes the store.
+abbrev pub run_from : (Arrival → Pass) → ℕ → Contents → ℕ → List Arrival → Ran
+run_from pass bound store number [] = record { sent = []; store = store; cut = 0; work = 0 }
+run_from pass bound store number (a ∷ arrivals) =
+    followed (served pass bound store number a) (run_from pass bound store (number + 1) arrivals)
 
-abbrev pub run_of : (Arrival → Pass) → ℕ → List Arrival → Ran
-run_of pass bound arrivals = run_from pass bound 0 arrivals
+-- the run over arrivals from number 0 on
+abbrev pub run_of : (Arrival → Pass) → ℕ → Contents → List Arrival → Ran
+run_of pass bound store arrivals = run_from pass bound store 0 arrivals

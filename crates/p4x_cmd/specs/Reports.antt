@@ -16,11 +16,12 @@ sent_line packet = (codes "sent " ++ decimal packet.port) ++ (32 ∷ decimal (le
 abbrev pub sent_lines : List Sent → List ℕ
 sent_lines sent = flat_map sent_line sent
 
--- The end part of the report: how many packets came in and went out, how many items the bound on passes cut, and the work.
--- It is that of a program without counters and registers, which have no lines yet.
+-- The end part of the report: how many packets came in and went out, how many items the bound on passes cut, and the
+-- work. It is that of a program without counters and registers, which have no lines yet.
 abbrev pub end_lines : ℕ → ℕ → ℕ → ℕ → List ℕ
 end_lines arrivals departures cut work =
-    count_line (codes "in") arrivals ++ (count_line (codes "out") departures ++ (count_line (codes "cut") cut ++ count_line (codes "work") work))
+    count_line (codes "in") arrivals
+    ++ (count_line (codes "out") departures ++ (count_line (codes "cut") cut ++ count_line (codes "work") work))
 
 -- the report of a run over a whole capture
 abbrev pub report_of : ℕ → List Sent → ℕ → ℕ → List ℕ

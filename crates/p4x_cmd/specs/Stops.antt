@@ -6,6 +6,7 @@ use Rattle.p4x_cmd.specs.declared.stop.Limited.TheVariants.{Ports, Capture}
 use Rattle.p4x_cmd.specs.declared.stop.Stop.{Stop}
 use Rattle.p4x_cmd.specs.declared.stop.Stop.TheVariants.{Fault, Usage, Program, Entries, Refused, Limit, Memory}
 
+-- the status
 abbrev pub stop_code : Stop → ℕ
 stop_code Fault = 1
 stop_code Usage = 2
@@ -15,10 +16,12 @@ stop_code (Refused fault) = 5
 stop_code (Limit file) = 6
 stop_code Memory = 7
 
+-- the line of a file that is over its limit
 abbrev pub limit_line : Limited → List ℕ
 limit_line Ports = codes "limit ports\n"
 limit_line Capture = codes "limit capture\n"
 
+-- the line
 abbrev pub stop_line : Stop → List ℕ
 stop_line Fault = codes "fault\n"
 stop_line Usage = codes "usage\n"
@@ -28,11 +31,12 @@ stop_line (Refused fault) = refusal_line fault
 stop_line (Limit file) = limit_line file
 stop_line Memory = codes "no memory\n"
 
--- the line and the status of what the work ended with: its own line and 0, or those of what stopped it
+-- the line of what the work ended with: its own, or that of what stopped it
 abbrev pub line_of : Result (List ℕ) Stop → List ℕ
 line_of (Ok line) = line
 line_of (Err stop) = stop_line stop
 
+-- the status of what the work ended with: 0, or that of what stopped it
 abbrev pub code_of : Result (List ℕ) Stop → ℕ
 code_of (Ok line) = 0
 code_of (Err stop) = stop_code stop

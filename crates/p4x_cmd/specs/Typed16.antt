@@ -1,6 +1,6 @@
--- Which P4_16 programs under the v1model architecture are well-typed, by cases on the syntax: statements, declarations and `main`.
--- P4_16 1.2, sections 7.2 (types), 11 (statements), 12 (parsers), 13 (controls, actions, tables) and 17.3 (control-plane
--- names); v1model.p4. Declarations may be used in front of where they stand. No limit on sizes is part of this.
+-- Which P4_16 programs under the v1model architecture are well-typed, by cases on the syntax: statements, declarations
+-- and `main`. P4_16 1.2, "Derived types", "Statements", "Packet parsing", "Control blocks" and "Control plane names";
+-- v1model.p4. Declarations may be used in front of where they stand. No limit on sizes is part of this.
 use Rattle.std.specs.Prelude.{ℕ, zero, suc, ◌+◌, ◌%◌, Bool, true, false, not, ◌==◌, ◌&&◌, ◌||◌, if◌then◌else◌, nat_le, List, [], ◌∷◌, ◌++◌, length, map, filter, count_by, sum_by, codes, Option, Some, None, option_to_list}
 use Rattle.std.specs.List.{list_all, list_any}
 use Rattle.std.specs.Str.{bytes_eq}
@@ -25,7 +25,7 @@ use Rattle.p4x_cmd.specs.Forms14.{is_among, is_width}
 use Rattle.p4x_cmd.specs.Meaning16.{plane_name, action_named, actions_of, struct_of, parser_of, control_of, parameter_type, main_at, tables_of}
 use Rattle.p4x_cmd.specs.Kinds16.{Kind, Sort, Known, known, sort_in, all_different, top_names, kind_of_type, is_directed, parameter_name, local_name, Context, is_bits, is_header, is_packet, is_data, takes, fields_of, kind_of, can_write, arguments_of, are_given, is_call, standard_type, truth, struct, an_action, unusable}
 
--- Statements (section 11).
+-- "Statements".
 abbrev pub is_statement : Context → Stmt16 → Bool
 is_statement c no_statements = true
 is_statement c ((then) before last) = is_statement c before && is_statement c last
@@ -35,7 +35,7 @@ is_statement c (expression e) = is_call c e
 is_statement c (if_else condition positive negative) =
     takes (Some truth) (kind_of c condition) && is_statement c positive && is_statement c negative
 
--- Types (sections 7.2.2 and 7.2.5).
+-- "Header types" and "Struct types".
 
 -- a header has whole octets, and not none
 abbrev pub is_header_type : Header16 → Bool
@@ -55,9 +55,10 @@ is_struct_type decls s =
     all_different (map (λ f. f.name) s.fields) && list_all (λ f. is_data (kind_of_type (top_names decls) f.of)) s.fields
     && is_finite (length decls + 1) decls (Named s.name)
 
--- Parsers (section 12).
+-- "Packet parsing".
 
--- a parameter of a parser or a control; a packet is handed over without a direction (section 6.7)
+-- a parameter of a parser or a control; a packet is handed over without a direction ("Calling convention: call by
+-- copy in/copy out")
 abbrev pub is_parameter : List Known → Param → Bool
 is_parameter names p = is_data kind || (is_packet kind && not (is_directed p.direction))
   where
@@ -77,7 +78,8 @@ extracts (block statements) = extracts statements
 extracts (expression (call (member e word) given)) = bytes_eq word (codes "extract")
 extracts _ = false
 
--- a transition leads in n steps to the end or to a state that extracts: no state comes again without it (this project's own)
+-- a transition leads in n steps to the end or to a state that extracts: no state comes again without it (this project's
+-- own)
 abbrev pub moves_on : ℕ → List StateTree → Transition → Bool
 moves_on zero states transition = false
 moves_on (suc n) states (Go (State text)) =
@@ -118,17 +120,19 @@ parser_names decls p = map (parameter_name (top_names decls)) p.parameters ++ ma
 -- a parser begins with the state `start`
 abbrev pub is_parser : Syntax16 → ParserTree → Bool
 is_parser s p =
-    all_different (map (λ k. k.called) (parser_names s.decls p)) && list_all (is_parameter (top_names s.decls)) p.parameters
+    all_different (map (λ k. k.called) (parser_names s.decls p))
+    && list_all (is_parameter (top_names s.decls)) p.parameters
     && is_among (codes "start") (map (λ x. x.name) p.states)
     && list_all (is_state (block_context s p.name (parser_names s.decls p)) p.states) p.states
 
--- Actions (section 13.1).
+-- "Actions".
 
 -- parameters without a direction, which the control plane gives, come last
 abbrev pub is_directed_first : List Param → Bool
 is_directed_first [] = true
 is_directed_first (p ∷ parameters) =
-    (is_directed p.direction || not (list_any (λ q. is_directed q.direction) parameters)) && is_directed_first parameters
+    (is_directed p.direction || not (list_any (λ q. is_directed q.direction) parameters))
+    && is_directed_first parameters
 
 -- the actions that statements call by name
 abbrev pub called_in : Stmt16 → List (List ℕ)
@@ -147,11 +151,15 @@ returns (suc n) locals text =
 -- an action applies no table, and its names are its parameters in front of those of its block
 abbrev pub is_action : Context → List LocalTree → ActionTree → Bool
 is_action c locals a =
-    all_different (map (λ p. p.name) a.parameters) && list_all (λ p. is_data (kind_of_type c.block_names p.of)) a.parameters
+    all_different (map (λ p. p.name) a.parameters)
+    && list_all (λ p. is_data (kind_of_type c.block_names p.of)) a.parameters
     && is_directed_first a.parameters && returns (length locals + 1) locals a.name
-    && is_statement (record c { names = map (parameter_name c.block_names) a.parameters ++ c.block_names; applies = false }) a.body
+    && is_statement (record c { names = own ++ c.block_names; applies = false }) a.body
+  where
+    own : List Known
+    own = map (parameter_name c.block_names) a.parameters
 
--- Tables (section 13.2).
+-- "Tables".
 
 -- action NoAction() { } (core.p4)
 abbrev pub no_action : ActionTree
@@ -179,9 +187,11 @@ abbrev pub is_apart : List Known → ActionName → ActionName → Bool
 is_apart names a b = of (action_in names a) (action_in names b)
   where
     of : Option ActionTree → Option ActionTree → Bool
-    of (Some x) (Some y) = bytes_eq x.name y.name || not (bytes_eq (plane_name x.notes x.name) (plane_name y.notes y.name))
+    of (Some x) (Some y) =
+        bytes_eq x.name y.name || not (bytes_eq (plane_name x.notes x.name) (plane_name y.notes y.name))
     of _ _ = false
 
+-- a literal
 abbrev pub is_literal : Exp16 → Bool
 is_literal (literal width value) = true
 is_literal _ = false
@@ -197,11 +207,13 @@ is_default c listed a es = of (action_in c.names a)
     of (Some x) = list_any (among x) listed && list_all is_literal es && are_given c x.parameters es
     of None = false
 
+-- a property of a table with these actions
 abbrev pub is_property : Context → List ActionName → PropertyTree → Bool
 is_property c listed (actions names) =
     list_all (is_listed c.names) names && list_all (λ a. list_all (is_apart c.names a) names) names
 is_property c listed (default_action a given) = is_default c listed a (arguments_of given)
 
+-- the property that lists the actions
 abbrev pub is_list : PropertyTree → Bool
 is_list (actions names) = true
 is_list (default_action a given) = false
@@ -212,8 +224,9 @@ is_table_of c t =
     count_by is_list t.properties == 1 && nat_le (length t.properties) 2
     && list_all (is_property c (actions_of t.properties)) t.properties
 
--- Controls (section 13).
+-- "Control blocks".
 
+-- an action or a table of a control
 abbrev pub is_local : Context → List LocalTree → LocalTree → Bool
 is_local c locals (action_local a) = is_action c locals a
 is_local c locals (table_local t) = is_table_of c t
@@ -222,12 +235,15 @@ is_local c locals (table_local t) = is_table_of c t
 abbrev pub control_names : List Decl16 → ControlTree → List Known
 control_names decls x = map (parameter_name (top_names decls)) x.parameters ++ map local_name x.locals
 
+-- a control: its parameters, its locals and what it applies
 abbrev pub is_control : Syntax16 → ControlTree → Bool
 is_control s x =
     let c = block_context s x.name (control_names s.decls x) in
-    all_different (map (λ k. k.called) (control_names s.decls x)) && list_all (is_parameter (top_names s.decls)) x.parameters
+    all_different (map (λ k. k.called) (control_names s.decls x))
+    && list_all (is_parameter (top_names s.decls)) x.parameters
     && list_all (is_local c x.locals) x.locals && is_statement c x.body
 
+-- a declaration at the top
 abbrev pub is_declaration : Syntax16 → Decl16 → Bool
 is_declaration s (Header h) = is_header_type h
 is_declaration s (Struct x) = is_struct_type s.decls x
@@ -242,16 +258,19 @@ is_struct_of test decls (Some (struct type)) =
     list_all (λ f. test (kind_of_type (top_names decls) f.of)) (fields_of decls (struct type))
 is_struct_of test decls _ = false
 
+-- what a value of a named type is
 abbrev pub type_kind : List Decl16 → List ℕ → Option Kind
 type_kind decls type = kind_of_type (top_names decls) (Named type)
 
--- H holds headers, and M holds bit fields and structs of these
+-- H holds headers
 abbrev pub are_headers : List Decl16 → List ℕ → Bool
 are_headers decls type = is_struct_of is_header decls (type_kind decls type)
 
+-- M holds bit fields and structs of these
 abbrev pub are_metadata : List Decl16 → List ℕ → Bool
 are_metadata decls type = is_struct_of (λ k. is_bits k || is_struct_of is_bits decls k) decls (type_kind decls type)
 
+-- two directions are one
 abbrev pub is_same_direction : Direction → Direction → Bool
 is_same_direction Plain Plain = true
 is_same_direction In In = true
@@ -259,6 +278,7 @@ is_same_direction Out Out = true
 is_same_direction InOut InOut = true
 is_same_direction _ _ = false
 
+-- a type is the one with this name
 abbrev pub is_named : Type16 → List ℕ → Bool
 is_named (Bit w) type = false
 is_named (Named text) type = bytes_eq text type
@@ -269,9 +289,11 @@ are_as [] [] = true
 are_as (d ∷ shape) (p ∷ parameters) = is_same_direction d.0 p.direction && is_named p.of d.1 && are_as shape parameters
 are_as _ _ = false
 
+-- the parameters of verify and compute
 abbrev pub checksum_shape : List ℕ → List ℕ → List (Direction × List ℕ)
 checksum_shape h m = (InOut, h) ∷ (InOut, m) ∷ []
 
+-- the parameters of ingress and egress
 abbrev pub switch_shape : List ℕ → List ℕ → List (Direction × List ℕ)
 switch_shape h m = (InOut, h) ∷ (InOut, m) ∷ (InOut, standard_type) ∷ []
 
@@ -289,11 +311,13 @@ is_main_of s p =
     && is_block s 1 (checksum_shape h m) && is_block s 2 (switch_shape h m) && is_block s 3 (switch_shape h m)
     && is_block s 4 (checksum_shape h m) && is_block s 5 ((Plain, codes "packet_out") ∷ (In, h) ∷ [])
 
+-- the six blocks of `main` are there, each with its parameters
 abbrev pub is_main : Syntax16 → Bool
 is_main s = length s.main == 6 && list_any (is_main_of s) (option_to_list (parser_of s.decls (main_at s 0)))
 
--- The names at the top differ from each other and from the built-in ones, each declaration is well-typed, `main` has its six
--- blocks, and no two tables have one control-plane name (section 17.3), which here is the text of `@name` or else the name alone.
+-- The names at the top differ from each other and from the built-in ones, each declaration is well-typed, `main` has
+-- its six blocks, and no two tables have one control-plane name ("Control plane names"), which here is the text of
+-- `@name` or else the name alone.
 abbrev pub keeps_types : Syntax16 → Bool
 keeps_types s =
     all_different (map (λ k. k.called) (top_names s.decls)) && list_all (is_declaration s) s.decls && is_main s

@@ -1,8 +1,6 @@
 -- The words of a command line (this project's own).
-use Rattle.std.specs.Prelude.{ℕ, Bool, true, false, not, ◌&&◌, ◌==◌, if◌then◌else◌, List, [], ◌∷◌, codes, Option, Some, None, option_map, option_and_then, option_to_list}
+use Rattle.std.specs.Prelude.{ℕ, Bool, true, false, not, ◌&&◌, ◌==◌, if◌then◌else◌, List, [], ◌∷◌, codes, Option, Some, None, option_and_then, option_to_list}
 use Rattle.std.specs.Str.{bytes_eq}
-use Rattle.p4x_cmd.specs.declared.names.Names.{Names}
-use Rattle.p4x_cmd.specs.declared.words.Found.{Found}
 
 -- the files that `carry` names; the ports need not be named
 pub record Files : Type 0 where
@@ -14,21 +12,11 @@ pub record Files : Type 0 where
   pub sent : List ℕ
   pub report : List ℕ
 
-abbrev pub files_of : Names → Files
-files_of n = record {
-  program = n.program.now;
-  entries = n.entries.now;
-  capture = n.capture.now;
-  ports = option_map (λ name. name.now) n.ports;
-  text = n.text.now;
-  sent = n.sent.now;
-  report = n.report.now;
-}
-
--- the files that `carry` reads, and those that it writes
+-- the files that `carry` reads
 abbrev pub inputs_of : Files → List (List ℕ)
 inputs_of f = f.program ∷ f.entries ∷ f.capture ∷ option_to_list f.ports
 
+-- the files that `carry` writes
 abbrev pub outputs_of : Files → List (List ℕ)
 outputs_of f = f.text ∷ f.sent ∷ f.report ∷ []
 
@@ -43,22 +31,27 @@ abbrev pub is_value : List ℕ → Bool
 is_value [] = false
 is_value (a ∷ rest) = true
 
+-- the ports file, where one is named, has a name
 abbrev pub are_ports : Option (List ℕ) → Bool
 are_ports None = true
 are_ports (Some name) = is_value name
 
+-- an output file isn't the ports file
 abbrev pub are_other_ports : Option (List ℕ) → List ℕ → Bool
 are_other_ports None out = true
 are_other_ports (Some name) out = not (bytes_eq out name)
 
 -- an output file is none of the input files
 abbrev pub is_apart : Files → List ℕ → Bool
-is_apart f out = not (bytes_eq out f.program) && not (bytes_eq out f.entries) && not (bytes_eq out f.capture) && are_other_ports f.ports out
+is_apart f out =
+    not (bytes_eq out f.program) && not (bytes_eq out f.entries) && not (bytes_eq out f.capture)
+    && are_other_ports f.ports out
 
 -- each file has a name, and the outputs are other files than the inputs and than each other
 abbrev pub are_names : Files → Bool
 are_names f =
-    is_name f.program && is_name f.entries && is_name f.capture && are_ports f.ports && is_value f.text && is_value f.sent && is_value f.report
+    is_name f.program && is_name f.entries && is_name f.capture && are_ports f.ports
+    && is_value f.text && is_value f.sent && is_value f.report
     && is_apart f f.text && is_apart f f.sent && is_apart f f.report
     && not (bytes_eq f.text f.sent) && not (bytes_eq f.text f.report) && not (bytes_eq f.sent f.report)
 
@@ -69,14 +62,7 @@ pub record Options : Type 0 where
   pub report : Option (List ℕ)
   pub ports : Option (List ℕ)
 
-abbrev pub options_of : Found → Options
-options_of f = record {
-  text = option_map (λ value. value.now) f.text;
-  sent = option_map (λ value. value.now) f.sent;
-  report = option_map (λ value. value.now) f.report;
-  ports = option_map (λ value. value.now) f.ports;
-}
-
+-- no option was found
 abbrev pub no_options : Options
 no_options = record { text = None; sent = None; report = None; ports = None }
 
@@ -100,9 +86,18 @@ options_in (option ∷ []) found = None
 options_in (option ∷ value ∷ words) found = option_and_then (options_in words) (with_option option value found)
 
 -- the files, where the three outputs are named
-abbrev pub files_with : List ℕ → List ℕ → List ℕ → Option (List ℕ) → Option (List ℕ) → Option (List ℕ) → Option (List ℕ) → Option Files
+abbrev pub files_with : List ℕ → List ℕ → List ℕ → Option (List ℕ) → Option (List ℕ) → Option (List ℕ) → Option (List ℕ)
+    → Option Files
 files_with program entries capture ports (Some text) (Some sent) (Some report) =
-    let f : Files = record { program = program; entries = entries; capture = capture; ports = ports; text = text; sent = sent; report = report } in
+    let f : Files = record {
+      program = program;
+      entries = entries;
+      capture = capture;
+      ports = ports;
+      text = text;
+      sent = sent;
+      report = report;
+    } in
     if are_names f then Some f else None
 files_with program entries capture ports text sent report = None
 
@@ -110,6 +105,7 @@ files_with program entries capture ports text sent report = None
 abbrev pub form : List (List ℕ) → Option Files
 form (command ∷ program ∷ entries ∷ capture ∷ words) =
     if bytes_eq command (codes "carry")
-    then option_and_then (λ o. files_with program entries capture o.ports o.text o.sent o.report) (options_in words no_options)
+    then option_and_then (λ o. files_with program entries capture o.ports o.text o.sent o.report)
+    (options_in words no_options)
     else None
 form words = None

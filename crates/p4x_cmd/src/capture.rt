@@ -1,16 +1,19 @@
 // The capture, as it is read and run.
 ghost use Rattle.std.specs.Prelude.{◌≡◌, ◌≤◌, ◌⊎◌, ◌∷◌, ◌++◌, [], ℕ, List, Some, None, Option, Ok, Err, IfErr, OnOk, OnErr, MatchResult, All};
+ghost use Rattle.state_store.specs.Ports.{IsPort, drop_port};
 ghost use Rattle.p4x_fault.specs.declared.Fault.{Fault as Refusal};
 ghost use Rattle.fabric.specs.declared.packets.Arrival.{Arrival};
 ghost use Rattle.p4x_io.specs.Desk.{Rose, Moves, grown};
 ghost use Rattle.pcap_io.specs.Captures.{reading_of, refusal_in};
-ghost use Rattle.p4x_cmd.specs.Carry.{capture_limit, capture_reports, Delivers};
+ghost use Rattle.p4x_cmd.specs.Carry.{capture_limit, capture_reports};
+ghost use Rattle.p4x_cmd.specs.internal.Phases.{Delivers};
 ghost use Rattle.p4x_cmd.specs.Forms16.{program16};
-ghost use Rattle.p4x_cmd.specs.Outcomes.{Blames, GrownByFront, line_view};
+ghost use Rattle.p4x_cmd.specs.Outcomes.{Blames};
+ghost use Rattle.p4x_cmd.specs.internal.Phases.{GrownByFront, line_view};
 ghost use Rattle.p4x_cmd.specs.Passes.{Pass};
-ghost use Rattle.p4x_cmd.specs.Plain.{IsSized};
+ghost use Rattle.p4x_cmd.specs.internal.Plain.{IsSized};
 ghost use Rattle.p4x_cmd.specs.Reports.{end_lines, carried_line_of};
-ghost use Rattle.p4x_cmd.specs.Streams.{view_of, start, emptied, nothing_read, Agrees, Streamed, PieceEnds, PiecesEnd};
+ghost use Rattle.p4x_cmd.specs.internal.Streams.{view_of, start, emptied, nothing_read, Agrees, Streamed, PieceEnds, PiecesEnd};
 
 use crate::names::Names;
 use crate::one_table::OneTable16;
@@ -55,15 +58,15 @@ fn run_piece<D: Desk>(
     stream: &mut Stream<'_>,
 ) -> Result<(), Stop>
     requires bits { plain.bits ≤ 8192 }
-    requires port { plain.port ≤ 511 }
-    requires ports { All (λ port. port ≤ 510) stream.old.ports.now }
+    requires port { plain.port ≤ drop_port }
+    requires ports { All IsPort stream.old.ports.now }
     requires sent_there { (D.view desk.old).told names.now.sent.now ≡ Some None → ⊥ }
     requires report_there { (D.view desk.old).told names.now.report.now ≡ Some None → ⊥ }
     ensures moves { Moves (names.now.sent.now ∷ names.now.report.now ∷ []) (D.view desk.old) (D.view desk.new) }
     ensures ran { (pass : Arrival → Pass) (ports octets : List ℕ) (sent report : Option (Option (List ℕ))) → Agrees pass plain → (reading_of octets).fault ≡ None
         → Streamed pass ports octets sent report ((D.view desk.old).told names.now.sent.now) ((D.view desk.old).told names.now.report.now) reader.old (view_of stream.old)
         → PieceEnds pass ports (octets ++ piece.now) sent report ((D.view desk.new).told names.now.sent.now) ((D.view desk.new).told names.now.report.now) reader.new (view_of stream.new) result }
-    ensures ports { All (λ port. port ≤ 510) stream.new.ports.now }
+    ensures ports { All IsPort stream.new.ports.now }
     ensures cause { Blames result (Rose ((D.view desk.old).writes names.now.sent.now) ((D.view desk.new).writes names.now.sent.now)
         ⊎ Rose ((D.view desk.old).writes names.now.report.now) ((D.view desk.new).writes names.now.report.now)) }
 {
@@ -84,8 +87,8 @@ fn run_pieces<D: Desk>(
     stream: &mut Stream<'_>,
 ) -> Result<(), Stop>
     requires bits { plain.bits ≤ 8192 }
-    requires port { plain.port ≤ 511 }
-    requires ports { All (λ port. port ≤ 510) stream.old.ports.now }
+    requires port { plain.port ≤ drop_port }
+    requires ports { All IsPort stream.old.ports.now }
     requires reader { reader.old ≡ nothing_read }
     requires stream { view_of stream.old ≡ start stream.old.ports.now }
     requires sent_there { (D.view desk.old).told names.now.sent.now ≡ Some None → ⊥ }
@@ -153,7 +156,7 @@ pub(crate) fn run_capture<D: Desk>(
     ports: &[u128],
 ) -> Result<Vec<u8>, Stop>
     requires sized { IsSized program.now }
-    requires ports { All (λ port. port ≤ 510) ports.now }
+    requires ports { All IsPort ports.now }
     requires sent_there { (D.view desk.old).told names.now.sent.now ≡ Some None → ⊥ }
     requires report_there { (D.view desk.old).told names.now.report.now ≡ Some None → ⊥ }
     ensures moves { Moves (names.now.sent.now ∷ names.now.report.now ∷ []) (D.view desk.old) (D.view desk.new) }

@@ -1,13 +1,17 @@
 // The command `carry`.
 ghost use Rattle.std.specs.Prelude.{◌≡◌, ◌≤◌, ◌⊎◌, ◌∷◌, [], ℕ, List, true, Some, None, Option, Ok, Err, IfOk, OnOk, OnErr, IfErr, MatchResult, All, option_to_list};
+ghost use Rattle.state_store.specs.Ports.{IsPort};
 ghost use Rattle.p4x_io.specs.Desk.{Rose, Moves, put, grown};
 ghost use Rattle.p4x_cmd.specs.declared.one_table.OneTable14.{OneTable14};
 ghost use Rattle.p4x_cmd.specs.Carry.{ProgramIs, entries_stop, ports_in, ports_end, StopsBefore, Begins, CarryDue};
 ghost use Rattle.p4x_cmd.specs.Forms14.{is_one_table};
-ghost use Rattle.p4x_cmd.specs.Forms16.{lowered, program16, Reads16};
-ghost use Rattle.p4x_cmd.specs.Outcomes.{Blames, DeskRose, ReadsRose, Tells, Leaves, Works, IsPart, GrownByFront, Loosely, line_view};
-ghost use Rattle.p4x_cmd.specs.Plain.{IsSized};
-ghost use Rattle.p4x_cmd.specs.Words.{files_of, inputs_of, outputs_of};
+ghost use Rattle.p4x_cmd.specs.Forms16.{program16, Reads16};
+ghost use Rattle.p4x_cmd.specs.internal.Lowering.{lowered};
+ghost use Rattle.p4x_cmd.specs.Outcomes.{Blames, DeskRose, ReadsRose, Tells, Leaves, Works, IsPart};
+ghost use Rattle.p4x_cmd.specs.internal.Phases.{GrownByFront, Loosely, line_view};
+ghost use Rattle.p4x_cmd.specs.internal.Plain.{IsSized};
+ghost use Rattle.p4x_cmd.specs.Words.{inputs_of, outputs_of};
+ghost use Rattle.p4x_cmd.specs.internal.Views.{files_of};
 
 use crate::capture::run_capture;
 use crate::lowering::lower;
@@ -101,7 +105,7 @@ fn prepare<D: Desk>(alloc: Global, desk: &mut D, names: &Names<'_>) -> Result<Be
         → IfOk result (λ w. (p : OneTable14) × Begins (files_of names.now) files p w.ports × (w.program ≡ lowered p)) }
     ensures text { IfOk result (λ w. Reads16 w.text (program16 w.program)) }
     ensures sized { IfOk result (λ w. IsSized w.program) }
-    ensures fits { IfOk result (λ w. All (λ port. port ≤ 510) w.ports) }
+    ensures fits { IfOk result (λ w. All IsPort w.ports) }
     ensures cause { Blames result (ReadsRose (inputs_of (files_of names.now)) (D.view desk.old) (D.view desk.new)) }
 {
     let program = read_program(alloc, desk, names.program)?;
@@ -141,7 +145,7 @@ fn read_ports<D: Desk>(alloc: Global, desk: &mut D, names: &Names<'_>) -> Result
     ensures moves { Moves [] (D.view desk.old) (D.view desk.new) }
     ensures gives { (files : List ℕ → Option (List ℕ)) → Tells (option_to_list (files_of names.now).ports) (D.view desk.old) files
         → MatchResult result (λ ports. ports_end files (files_of names.now).ports ≡ Ok ports) (λ e. Loosely e (ports_end files (files_of names.now).ports ≡ Err e)) }
-    ensures fits { IfOk result (λ ports. All (λ port. port ≤ 510) ports) }
+    ensures fits { IfOk result (λ ports. All IsPort ports) }
     ensures cause { Blames result (ReadsRose (option_to_list (files_of names.now).ports) (D.view desk.old) (D.view desk.new)) }
 {
     match names.ports {
@@ -155,7 +159,7 @@ fn read_ports_file<D: Desk>(alloc: Global, desk: &mut D, name: &str) -> Result<N
     ensures moves { Moves [] (D.view desk.old) (D.view desk.new) }
     ensures gives { (file : Option (List ℕ)) → (D.view desk.old).told name.now ≡ Some file
         → MatchResult result (λ ports. ports_in file ≡ Ok ports) (λ e. Loosely e (ports_in file ≡ Err e)) }
-    ensures fits { IfOk result (λ ports. All (λ port. port ≤ 510) ports) }
+    ensures fits { IfOk result (λ ports. All IsPort ports) }
     ensures cause { Blames result (Rose ((D.view desk.old).reads name.now) ((D.view desk.new).reads name.now)) }
 {
     let text = match read_file(alloc, desk, name, PORTS_LIMIT) {

@@ -1,6 +1,6 @@
 // From a P4_14 program of the one-table form to the P4_16 program that it becomes.
 ghost use Rattle.std.specs.Prelude.{◌≡◌, IfOk};
-ghost use Rattle.p4x_cmd.specs.Forms16.{lowered, lowered_field};
+ghost use Rattle.p4x_cmd.specs.internal.Lowering.{lowered, lowered_field};
 
 use crate::one_table::{Field, OneTable14, OneTable16};
 use p4x_bits::{OutOfMemory, Rows, Text};

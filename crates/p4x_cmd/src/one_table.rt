@@ -21,7 +21,7 @@ pub struct OneTable14 {
     pub instance: Text,
     /// The action.
     pub action: Text,
-    /// The port that the action sends to: 0 to 510, or 511 for a drop.
+    /// The port that the action sends to: from 0 to `GREATEST_PORT`, or `DROP_PORT`.
     pub port: u64,
     /// The table.
     pub table: Text,

@@ -1,17 +1,19 @@
 // The run of the written program over a capture that is read in pieces.
-ghost use Rattle.std.specs.Prelude.{◌≡◌, ◌≤◌, drop, sum_by, string_bytes, slice_get, unwrap_or, All, IfOk, IfSome, OnOk, Some};
+ghost use Rattle.std.specs.Prelude.{◌≡◌, ◌≤◌, sum_by, string_bytes, All, IfOk, OnOk};
+ghost use Rattle.state_store.specs.Ports.{IsPort, drop_port};
 ghost use Rattle.pcap_io.specs.Captures.{IsRecord};
 ghost use Rattle.pcap_io.specs.Reader.{fed, taken_from};
 ghost use Rattle.p4x_cmd.specs.Passes.{leaves};
-ghost use Rattle.p4x_cmd.specs.Plain.{plain_pass};
+ghost use Rattle.p4x_cmd.specs.internal.Plain.{plain_pass};
 ghost use Rattle.p4x_cmd.specs.Reports.{end_lines, carried_line_of};
-ghost use Rattle.p4x_cmd.specs.Streams.{view_of, start, begun, arrival_of, after_one, after_all, drained, end_of, with_end, with_pass};
+ghost use Rattle.p4x_cmd.specs.internal.Streams.{view_of, start, begun, after_one, after_all, drained, end_of, with_end, with_pass};
 
 use crate::one_table::{Field, OneTable16};
 use fabric::Arrival;
 use p4x_bits::OutOfMemory;
 use p4x_fault::Fault;
-use pcap_io::{CaptureFault, CaptureReader, Record, file_header, record_header};
+use pcap_io::{CaptureFault, CaptureReader, Record, arrive, file_header, record_header};
+use state_store::DROP_PORT;
 use std::alloc::Global;
 
 /// What a program of the one-table form comes to with a packet.
@@ -19,7 +21,7 @@ use std::alloc::Global;
 pub struct Plain {
     /// How many bits its header has.
     pub bits: u64,
-    /// The port that it sends to, 0 to 511. 511 drops.
+    /// The port that it sends to, from 0 to `DROP_PORT`.
     pub port: u64,
 }
 
@@ -63,34 +65,21 @@ pub(crate) fn plain_of(program: &OneTable16) -> Plain
     }
 }
 
-// The port that a packet leaves on, if it does, and how many statements and transitions began. It is dropped where it is too short or the
-// port is 511, and else leaves as it came.
+// The port that a packet leaves on, if it does, and how many statements and transitions began. It is
+// dropped where it is too short or the port drops, and else leaves as it came.
 fn pass(plain: Plain, arrival: &Arrival) -> (Option<u16>, u64)
     requires bits { plain.bits ≤ 8192 }
-    requires port { plain.port ≤ 511 }
+    requires port { plain.port ≤ drop_port }
     ensures end { (plain_pass plain.bits plain.port arrival.now).end ≡ end_of result.0 arrival.now.octets }
     ensures work { (plain_pass plain.bits plain.port arrival.now).work ≡ result.1 }
 {
     let octets = arrival.octets.len();
     if (octets as u128) * 8 < u128::from(plain.bits) {
         (None, 3)
-    } else if plain.port == 511 {
+    } else if plain.port == u64::from(DROP_PORT) {
         (None, 5)
     } else {
         (Some(plain.port as u16), 6)
-    }
-}
-
-// The port that is first in a list, or 0, and the ports behind it.
-fn next_port(ports: &[u128]) -> (u16, &[u128])
-    requires { All (λ port. port ≤ 510) ports.now }
-    ensures first { result.0 ≡ unwrap_or (slice_get ports.now 0) 0 }
-    ensures behind { result.1.now ≡ drop 1 ports.now }
-    ensures fits { All (λ port. port ≤ 510) result.1.now }
-{
-    match ports {
-        [port, behind @ ..] => (*port as u16, behind),
-        [] => (0, ports),
     }
 }
 
@@ -146,18 +135,12 @@ impl<'a> Stream<'a> {
     // A packet comes in on the next port and makes its pass.
     fn run(&mut self, plain: Plain, one: Record) -> Result<(), OutOfMemory>
         requires bits { plain.bits ≤ 8192 }
-        requires port { plain.port ≤ 511 }
-        requires ports { All (λ port. port ≤ 510) self.old.ports.now }
+        requires port { plain.port ≤ drop_port }
+        requires ports { All IsPort self.old.ports.now }
         ensures ran { OnOk result (view_of self.new ≡ after_one (plain_pass plain.bits plain.port) one (view_of self.old)) }
-        ensures ports { All (λ port. port ≤ 510) self.new.ports.now }
+        ensures ports { All IsPort self.new.ports.now }
     {
-        let (port, behind) = next_port(self.ports);
-        let arrival = Arrival {
-            octets: one.octets,
-            port,
-            seconds: one.seconds,
-            fraction: one.fraction,
-        };
+        let (arrival, behind) = arrive(one, self.ports);
         let (leaves, work) = pass(plain, &arrival);
         self.ports = behind;
         self.counts.arrivals = self.counts.arrivals.wrapping_add(1);
@@ -171,12 +154,12 @@ impl<'a> Stream<'a> {
     // The packets of all records that the reader has come in.
     fn run_all(&mut self, plain: Plain, reader: &mut CaptureReader) -> Result<(), OutOfMemory>
         requires bits { plain.bits ≤ 8192 }
-        requires port { plain.port ≤ 511 }
-        requires ports { All (λ port. port ≤ 510) self.old.ports.now }
+        requires port { plain.port ≤ drop_port }
+        requires ports { All IsPort self.old.ports.now }
         ensures ran { OnOk result (view_of self.new ≡ after_all (plain_pass plain.bits plain.port) reader.old.records (view_of self.old)) }
         ensures taken { OnOk result (reader.new ≡ drained reader.old) }
         ensures known { OnOk result (All IsRecord reader.old.records) }
-        ensures ports { All (λ port. port ≤ 510) self.new.ports.now }
+        ensures ports { All IsPort self.new.ports.now }
     {
         'records: while let Some(one) = reader.next() {
             self.run(plain, one)?;
@@ -193,13 +176,13 @@ impl<'a> Stream<'a> {
         piece: &[u8],
     ) -> Result<Option<Fault>, OutOfMemory>
         requires bits { plain.bits ≤ 8192 }
-        requires port { plain.port ≤ 511 }
-        requires ports { All (λ port. port ≤ 510) self.old.ports.now }
+        requires port { plain.port ≤ drop_port }
+        requires ports { All IsPort self.old.ports.now }
         ensures ran { OnOk result (view_of self.new ≡ after_all (plain_pass plain.bits plain.port) (fed reader.old piece.now).records (begun (fed reader.old piece.now).head (view_of self.old))) }
         ensures reads { OnOk result (reader.new ≡ drained (fed reader.old piece.now)) }
         ensures known { OnOk result (All IsRecord (fed reader.old piece.now).records) }
         ensures refused { IfOk result (λ refused. refused ≡ (fed reader.old piece.now).fault) }
-        ensures ports { All (λ port. port ≤ 510) self.new.ports.now }
+        ensures ports { All IsPort self.new.ports.now }
     {
         let refused = feed_piece(reader, piece)?;
         self.begin(reader)?;

@@ -2,7 +2,8 @@
 ghost use Rattle.std.specs.Prelude.{◌≡◌, ℕ, ◌+◌, ◌<◌, ◌≤◌, false, List, [], ◌∷◌, length, take, drop, map, IfOk, MatchOption};
 ghost use Rattle.std.specs.List.{list_all};
 ghost use Rattle.p4x_cmd.specs.Division as division;
-ghost use Rattle.p4x_cmd.specs.Division.{token_of, tokens_of};
+ghost use Rattle.p4x_cmd.specs.Division.{tokens_of};
+ghost use Rattle.p4x_cmd.specs.internal.Views.{token_of};
 
 use p4x_bits::OutOfMemory;
 use std::alloc::Global;

@@ -2,7 +2,8 @@
 ghost use Rattle.std.specs.Prelude.{◌≡◌, ◌≢◌, ◌&&◌, not, map, string_bytes, option_map, Some};
 ghost use Rattle.std.specs.Str.{bytes_eq};
 ghost use Rattle.std.specs.Bool.{OnTrue};
-ghost use Rattle.p4x_cmd.specs.Words.{files_of, is_name, is_value, are_ports, are_other_ports, files_with, options_of, no_options, once, with_option, options_in, form};
+ghost use Rattle.p4x_cmd.specs.Words.{is_name, is_value, are_ports, are_other_ports, files_with, no_options, once, with_option, options_in, form};
+ghost use Rattle.p4x_cmd.specs.internal.Views.{files_of, options_of};
 
 use crate::names::Names;
 

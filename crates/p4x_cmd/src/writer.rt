@@ -4,7 +4,7 @@ ghost use Rattle.std.specs.Fmt.{decimal};
 ghost use Rattle.std.specs.List.{list_all};
 ghost use Rattle.p416_ast.specs.Words.{is_word, is_id16};
 ghost use Rattle.p4x_cmd.specs.Forms16.{is_one_table16, program16, Reads16, field_tokens16, header_tokens16, note_tokens, action_tokens16, table_tokens16, ingress_tokens16};
-ghost use Rattle.p4x_cmd.specs.Written.{Writes};
+ghost use Rattle.p4x_cmd.specs.internal.Written.{Writes};
 
 use crate::one_table::{Field, OneTable16};
 use p4x_bits::{Octets, OutOfMemory};

@@ -5,7 +5,7 @@ use Rattle.std.proofs.lemmas.List.{drop-append-le, drop-drop}
 use Rattle.p4x_fault.specs.declared.Fault.{Fault}
 use Rattle.pcap_io.specs.declared.head.Head.{Head}
 use Rattle.pcap_io.specs.declared.records.Record.{Record}
-use Rattle.pcap_io.specs.Captures.{head_of, Reading, behind, opened, records_in, reading_of, refusal, refusal_in, link_of, nano_of}
+use Rattle.pcap_io.specs.Captures.{longest_record, head_of, Reading, behind, opened, records_in, reading_of, refusal, refusal_in, link_of, nano_of}
 use Rattle.pcap_io.specs.declared.faults.CaptureFault.{CaptureFault}
 use Rattle.pcap_io.specs.declared.faults.CaptureFault.TheVariants.{Memory, Refused}
 use Rattle.pcap_io.specs.Reader.{taken_from, HasRead, read_on, fed_by, fed, ByMemory}
@@ -123,16 +123,16 @@ nano_read xs taken reader read = ap nano_of read.holds
 
 -- what is held of a file header or a record that isn't whole
 
-opened_left : (xs : List ℕ) (head : Result Head Fault) → length (opened xs head).left ≤ 65550
+opened_left : (xs : List ℕ) (head : Result Head Fault) → length (opened xs head).left < 16 + longest_record
 opened_left xs (Err fault) = omega arith
 opened_left xs (Ok head) = records_left head xs 0
 
-reading_left : (xs : List ℕ) → length (reading_of xs).left ≤ 65550
+reading_left : (xs : List ℕ) → length (reading_of xs).left < 16 + longest_record
 reading_left xs = by_size (nat_lt (length xs) 24) refl
   where
-    by_size : (small : Bool) → nat_lt (length xs) 24 ≡ small → length (reading_of xs).left ≤ 65550
-    by_size true e = let few : length xs < 24 = grind (arith, nat_tests) in let Q : Reading → Type 0 = λ r. length r.left ≤ 65550 in subst Q (sym (unread xs few)) (omega (arith, few))
-    by_size false e = let many : 24 ≤ length xs = grind (arith, nat_tests) in let Q : Reading → Type 0 = λ r. length r.left ≤ 65550 in subst Q (sym (is_opened xs many)) (opened_left (drop 24 xs) (head_of xs))
+    by_size : (small : Bool) → nat_lt (length xs) 24 ≡ small → length (reading_of xs).left < 16 + longest_record
+    by_size true e = let few : length xs < 24 = grind (arith, nat_tests) in let Q : Reading → Type 0 = λ r. length r.left < 16 + longest_record in subst Q (sym (unread xs few)) (omega (arith, few))
+    by_size false e = let many : 24 ≤ length xs = grind (arith, nat_tests) in let Q : Reading → Type 0 = λ r. length r.left < 16 + longest_record in subst Q (sym (is_opened xs many)) (opened_left (drop 24 xs) (head_of xs))
 
-pub left_read : (xs : List ℕ) (taken : ℕ) (reader : Reading) → HasRead xs taken reader → length reader.left ≤ 65550
-left_read xs taken reader read = let Q : Reading → Type 0 = λ r. length r.left ≤ 65550 in subst Q (sym read.holds) (reading_left xs)
+pub left_read : (xs : List ℕ) (taken : ℕ) (reader : Reading) → HasRead xs taken reader → length reader.left < 16 + longest_record
+left_read xs taken reader read = let Q : Reading → Type 0 = λ r. length r.left < 16 + longest_record in subst Q (sym read.holds) (reading_left xs)

@@ -8,7 +8,7 @@ use Rattle.pcap_io.specs.declared.order.Order.{Order}
 use Rattle.pcap_io.specs.declared.order.Order.TheVariants.{Little, Big}
 use Rattle.pcap_io.specs.declared.records.Record.{Record}
 use Rattle.pcap_io.specs.Numbers.{number_in, half_at, word_at}
-use Rattle.pcap_io.specs.Captures.{captured_length, is_too_long, is_whole, record_of, refused, order_of, head_in, head_of, Reading, behind, ending, records_in}
+use Rattle.pcap_io.specs.Captures.{longest_record, captured_length, is_too_long, is_whole, record_of, refused, order_of, head_in, head_of, Reading, behind, ending, records_in}
 use Rattle.pcap_io.proofs.Whole.{by_record, by_whole, whole_within, no_record}
 
 number_first : (order : Order) (size place : ℕ) (xs ys : List ℕ) → place + size ≤ length xs →
@@ -28,11 +28,11 @@ half_first order place xs ys within = number_first order 2 place xs ys within
 
 -- a whole record stays whole, and the same
 
-whole_parts : (order : Order) (xs : List ℕ) → is_whole order xs ≡ true → (16 ≤ length xs) × (captured_length order xs ≤ 65535) × (16 + captured_length order xs ≤ length xs)
+whole_parts : (order : Order) (xs : List ℕ) → is_whole order xs ≡ true → (16 ≤ length xs) × (captured_length order xs ≤ longest_record) × (16 + captured_length order xs ≤ length xs)
 unfolding is_whole
 whole_parts order xs whole = (grind arith, grind arith, grind arith)
 
-pub is_whole_by : (order : Order) (xs : List ℕ) → 16 ≤ length xs → captured_length order xs ≤ 65535 → 16 + captured_length order xs ≤ length xs → is_whole order xs ≡ true
+pub is_whole_by : (order : Order) (xs : List ℕ) → 16 ≤ length xs → captured_length order xs ≤ longest_record → 16 + captured_length order xs ≤ length xs → is_whole order xs ≡ true
 unfolding is_whole
 is_whole_by order xs header small within = grind arith
 
@@ -60,19 +60,19 @@ record_first order xs ys whole =
 
 -- a captured length that is too great stays so
 
-long_parts : (order : Order) (xs : List ℕ) → is_too_long order xs ≡ true → (16 ≤ length xs) × (65535 < captured_length order xs)
+long_parts : (order : Order) (xs : List ℕ) → is_too_long order xs ≡ true → (16 ≤ length xs) × (longest_record < captured_length order xs)
 unfolding is_too_long
 long_parts order xs long = (grind arith, grind arith)
 
-is_long_by : (order : Order) (xs : List ℕ) → 16 ≤ length xs → 65535 < captured_length order xs → is_too_long order xs ≡ true
+is_long_by : (order : Order) (xs : List ℕ) → 16 ≤ length xs → longest_record < captured_length order xs → is_too_long order xs ≡ true
 unfolding is_too_long
 is_long_by order xs header great = grind arith
 
-not_whole_by : (order : Order) (xs : List ℕ) → 65535 < captured_length order xs → is_whole order xs ≡ false
+not_whole_by : (order : Order) (xs : List ℕ) → longest_record < captured_length order xs → is_whole order xs ≡ false
 unfolding is_whole
 not_whole_by order xs great = grind arith
 
-long_captured : (order : Order) (xs ys : List ℕ) → is_too_long order xs ≡ true → 65535 < captured_length order (xs ++ ys)
+long_captured : (order : Order) (xs ys : List ℕ) → is_too_long order xs ≡ true → longest_record < captured_length order (xs ++ ys)
 long_captured order xs ys long =
     let parts = long_parts order xs long in
     let size : captured_length order (xs ++ ys) ≡ captured_length order xs = word_first order 8 xs ys (omega (arith, parts.0)) in
@@ -190,28 +190,28 @@ records_head head (o ∷ xs) zero = record_head head o xs (is_whole head.order (
 
 -- what is left is less than a record
 
-not_whole_short : (order : Order) (xs : List ℕ) → is_whole order xs ≡ false → is_too_long order xs ≡ false → length xs ≤ 65550
+not_whole_short : (order : Order) (xs : List ℕ) → is_whole order xs ≡ false → is_too_long order xs ≡ false → length xs < 16 + longest_record
 unfolding is_whole is_too_long
 not_whole_short order xs short small = grind arith
 
-long_left : (head : Head) (xs : List ℕ) (long : Bool) → is_whole head.order xs ≡ false → is_too_long head.order xs ≡ long → length (by_long head xs long).left ≤ 65550
+long_left : (head : Head) (xs : List ℕ) (long : Bool) → is_whole head.order xs ≡ false → is_too_long head.order xs ≡ long → length (by_long head xs long).left < 16 + longest_record
 unfolding by_long
 long_left head xs true short e = omega arith
 long_left head xs false short e = not_whole_short head.order xs short e
 
-ending_left : (head : Head) (xs : List ℕ) → is_whole head.order xs ≡ false → length (ending head xs).left ≤ 65550
+ending_left : (head : Head) (xs : List ℕ) → is_whole head.order xs ≡ false → length (ending head xs).left < 16 + longest_record
 ending_left head xs short =
     let is = ending_is head xs (is_too_long head.order xs) refl in
-    let P : Reading → Type 0 = λ r. length r.left ≤ 65550 in
+    let P : Reading → Type 0 = λ r. length r.left < 16 + longest_record in
     subst P (sym is) (long_left head xs (is_too_long head.order xs) short refl)
 
 record_left : (head : Head) (o : ℕ) (xs : List ℕ) (whole : Bool) → is_whole head.order (o ∷ xs) ≡ whole →
-    length (records_in head xs (15 + captured_length head.order (o ∷ xs))).left ≤ 65550 → length (by_record head o xs whole).left ≤ 65550
+    length (records_in head xs (15 + captured_length head.order (o ∷ xs))).left < 16 + longest_record → length (by_record head o xs whole).left < 16 + longest_record
 unfolding by_record
 record_left head o xs true e later = later
 record_left head o xs false e later = ending_left head (o ∷ xs) e
 
-pub records_left : (head : Head) (xs : List ℕ) (owed : ℕ) → length (records_in head xs owed).left ≤ 65550
+pub records_left : (head : Head) (xs : List ℕ) (owed : ℕ) → length (records_in head xs owed).left < 16 + longest_record
 unfolding records_in by_record
 records_left head [] owed = omega arith
 records_left head (o ∷ xs) (suc owed) = records_left head xs owed

@@ -5,5 +5,4 @@ pub mod Growing
 pub mod Feeding
 pub mod Arriving
 pub mod Written
-pub mod Dividing
 pub mod Numbered

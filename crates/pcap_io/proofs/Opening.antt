@@ -8,7 +8,7 @@ use Rattle.pcap_io.specs.declared.head.Head.{Head}
 use Rattle.pcap_io.specs.declared.progress.Progress.{Progress}
 use Rattle.pcap_io.specs.declared.records.Record.{Record}
 use Rattle.pcap_io.specs.Captures.{Reading, behind, opened, head_of, records_in, reading_of}
-use Rattle.pcap_io.specs.Held.{held}
+use Rattle.pcap_io.specs.internal.Held.{held}
 
 -- what the octets are read as, by whether they are too few for a file header
 by_header : List ℕ → Bool → Reading

@@ -14,8 +14,8 @@ use Rattle.pcap_io.specs.declared.order.Order.{Order}
 use Rattle.pcap_io.specs.declared.order.Order.TheVariants.{Little, Big}
 use Rattle.pcap_io.specs.declared.records.Record.{Record}
 use Rattle.pcap_io.specs.Numbers.{half_at, word_at}
-use Rattle.pcap_io.specs.Captures.{captured_length, is_whole, record_of, nano_magic, is_magic, order_of, refused, head_in, head_of, Reading, behind, opened, records_in, reading_of, refusal_in, link_of, nano_of, arrivals_of, IsCapture}
-use Rattle.pcap_io.specs.Sent.{magic_of, file_header_of, record_header_of, arrival_bytes, capture_bytes}
+use Rattle.pcap_io.specs.Captures.{longest_record, captured_length, is_whole, record_of, nano_magic, is_magic, order_of, refused, head_in, head_of, Reading, behind, opened, records_in, reading_of, refusal_in, link_of, nano_of, arrivals_of, IsCapture}
+use Rattle.pcap_io.specs.Sent.{magic_of, file_header_of, record_header_of, arrival_bytes}
 use Rattle.pcap_io.proofs.Whole.{first_record}
 use Rattle.pcap_io.proofs.Opening.{is_opened}
 use Rattle.pcap_io.proofs.Growing.{is_whole_by}
@@ -74,7 +74,7 @@ record_for : Arrival → Record
 record_for arrival = record { octets = arrival.octets; seconds = arrival.seconds; fraction = arrival.fraction }
 
 IsShort : Arrival → Type 0
-IsShort arrival = length arrival.octets ≤ 65535
+IsShort arrival = length arrival.octets ≤ longest_record
 
 -- a record and more octets, without brackets
 one_written : (arrival : Arrival) (more : List ℕ) →
@@ -218,6 +218,10 @@ head_written link nano rest small =
 
 -- the whole capture
 
+-- a capture of these packets
+abbrev capture_bytes : ℕ → Bool → List Arrival → List ℕ
+capture_bytes link nano arrivals = file_header_of link nano ++ flat_map arrival_bytes arrivals
+
 reading_written : (link : ℕ) (nano : Bool) (arrivals : List Arrival) → link < 2 ^ 32 → All IsArrival arrivals → All IsShort arrivals →
     reading_of (capture_bytes link nano arrivals) ≡ record { head = Some (head_for link nano); records = map record_for arrivals; left = []; fault = None }
 reading_written link nano arrivals small fits short =
@@ -232,7 +236,7 @@ unfolding record_for
 arrivals_written [] = refl
 arrivals_written (arrival ∷ arrivals) = ap (λ (rest : List Arrival). arrival ∷ rest) (arrivals_written arrivals)
 
-pub capture_written : (link : ℕ) (nano : Bool) (arrivals : List Arrival) → link < 2 ^ 32 → All IsArrival arrivals → All (λ arrival. length arrival.octets ≤ 65535) arrivals →
+pub capture_written : (link : ℕ) (nano : Bool) (arrivals : List Arrival) → link < 2 ^ 32 → All IsArrival arrivals → All (λ arrival. length arrival.octets ≤ longest_record) arrivals →
     IsCapture (capture_bytes link nano arrivals) (map (λ (arrival : Arrival). arrival.port) arrivals) link nano arrivals
 unfolding head_for IsShort
 capture_written link nano arrivals small fits short =

@@ -1,47 +1,40 @@
--- Lists of ports (this project's own).
-use Rattle.std.specs.Prelude.{◌≡◌, ℕ, ◌+◌, ◌-◌, ◌*◌, Bool, true, nat_eq, nat_le, ◌&&◌, if◌then◌else◌, List, [], ◌∷◌, Option, None, Some, Result, Ok, Err}
-use Rattle.std.specs.List.{fold, list_all}
+-- Lists of ports (this project's own). Their lines are std's, their words and numbers those of text_lines.
+use Rattle.std.specs.Prelude.{◌≡◌, ℕ, ◌+◌, if◌then◌else◌, List, [], ◌∷◌, Option, None, Some, Result, Ok, Err}
+use Rattle.std.specs.Str.Lines.{lines}
 use Rattle.p4x_fault.specs.declared.Fault.{Fault}
 use Rattle.p4x_fault.specs.declared.Rule.{Rule}
 use Rattle.p4x_fault.specs.declared.Rule.TheVariants.{P}
+use Rattle.state_store.specs.Ports.{greatest_port}
+use Rattle.text_lines.specs.declared.numbers.Base.TheVariants.{Decimal}
+use Rattle.text_lines.specs.Numbers.{are_digits, decimal_up_to}
+use Rattle.text_lines.specs.Places.{at_line}
+use Rattle.text_lines.specs.Words.{Word, words_of, is_comment}
 use Rattle.pcap_io.specs.declared.faults.PortFault.{PortFault}
 use Rattle.pcap_io.specs.declared.faults.PortFault.TheVariants.{Memory, Refused}
 use Rattle.pcap_io.specs.declared.ports.Ports.{Ports}
-use Rattle.pcap_io.specs.Lines.{lines, words}
 
--- `0` to `9`
-abbrev pub is_digit : ℕ → Bool
-is_digit octet = nat_le 48 octet && nat_le octet 57
+-- P2 is a number over the greatest port.
+abbrev pub port_or_over : Option ℕ → Result (Option ℕ) Rule
+port_or_over (Some port) = Ok (Some port)
+port_or_over None = Err (P 2)
 
-abbrev pub with_digit : ℕ → ℕ → ℕ
-with_digit number digit = 10 * number + (digit - 48)
+-- The port that a word is. P1 is a word that isn't a decimal number.
+abbrev pub port_in : Word → Result (Option ℕ) Rule
+port_in word = if are_digits Decimal word then port_or_over (decimal_up_to greatest_port word) else Err (P 1)
 
--- the number that decimal digits stand for
-unfoldable pub value_of : List ℕ → ℕ
-value_of digits = fold with_digit 0 digits
-
--- A line is skipped whose first word begins with `#`, or that has none.
-abbrev pub is_skipped : List ℕ → Bool
-is_skipped [] = true
-is_skipped (octet ∷ word) = nat_eq octet 35
-
--- The port on a line of one word: P1 is a word that isn't a decimal number, P2 a number over 510.
-abbrev pub port_in : List ℕ → Result (Option ℕ) Rule
-port_in word = if list_all is_digit word then (if nat_le (value_of word) 510 then Ok (Some (value_of word)) else Err (P 2)) else Err (P 1)
-
--- P1 is also more than one word.
-abbrev pub port_alone : List ℕ → List (List ℕ) → Result (Option ℕ) Rule
+-- the port on a line whose first word is this, with others behind it: P1 is also more than one word
+abbrev pub port_alone : Word → List Word → Result (Option ℕ) Rule
 port_alone word [] = port_in word
 port_alone word (another ∷ others) = Err (P 1)
 
--- the port on a line with these words, or none
-abbrev pub port_on : List (List ℕ) → Result (Option ℕ) Rule
+-- The port on a line with these words. A line without a word has none, and a comment has none.
+abbrev pub port_on : List Word → Result (Option ℕ) Rule
 port_on [] = Ok None
-port_on (word ∷ others) = if is_skipped word then Ok None else port_alone word others
+port_on (word ∷ others) = if is_comment word then Ok None else port_alone word others
 
 -- what a line tells, in front of what the lines behind it do
 abbrev pub with_line : ℕ → Result (Option ℕ) Rule → Result (List ℕ) Fault → Result (List ℕ) Fault
-with_line number (Err rule) more = Err (record { rule = rule; place = Some (record { line = number; column = 1 }) })
+with_line number (Err rule) more = Err (at_line rule number)
 with_line number (Ok None) more = more
 with_line number (Ok (Some port)) (Err fault) = Err fault
 with_line number (Ok (Some port)) (Ok ports) = Ok (port ∷ ports)
@@ -49,7 +42,7 @@ with_line number (Ok (Some port)) (Ok ports) = Ok (port ∷ ports)
 -- the ports on lines, of which the first has this number, or the first refusal
 unfoldable pub ports_on : ℕ → List (List ℕ) → Result (List ℕ) Fault
 ports_on number [] = Ok []
-ports_on number (line ∷ others) = with_line number (port_on (words line)) (ports_on (number + 1) others)
+ports_on number (line ∷ others) = with_line number (port_on (words_of line)) (ports_on (number + 1) others)
 
 -- the ports in a text, or the rule that its first bad line breaks; lines are counted from 1
 abbrev pub ports_of : List ℕ → Result (List ℕ) Fault

@@ -10,8 +10,8 @@ use Rattle.pcap_io.specs.Captures.{Reading, reading_of, records_in, behind}
 abbrev pub taken_from : ℕ → Reading → Reading
 taken_from taken reading = record reading { records = drop taken reading.records }
 
--- What a reader holds after these octets were fed to it, in pieces of any size, and so many records were taken from it: what the octets are
--- read as, but for these records.
+-- What a reader holds after these octets were fed to it, in pieces of any size, and so many records were taken from it:
+-- what the octets are read as, but for these records.
 pub record HasRead (octets : List ℕ) (taken : ℕ) (reader : Reading) : Type 0 where
   pub holds : reader ≡ taken_from taken (reading_of octets)
   pub some : taken ≤ length (reading_of octets).records
@@ -21,11 +21,12 @@ abbrev pub read_on : Option Head → List ℕ → Reading
 read_on None octets = reading_of octets
 read_on (Some head) octets = records_in head octets 0
 
--- what a reader holds once a further piece was fed
+-- what a reader with this fault, or without one, holds once a further piece was fed
 abbrev pub fed_by : Option Fault → Reading → List ℕ → Reading
 fed_by (Some fault) reader piece = reader
 fed_by None reader piece = behind reader.records (read_on reader.head (reader.left ++ piece))
 
+-- the same of a reader, which takes no further piece once there is a fault
 abbrev pub fed : Reading → List ℕ → Reading
 fed reader piece = fed_by reader.fault reader piece
 

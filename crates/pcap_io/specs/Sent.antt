@@ -6,6 +6,7 @@ use Rattle.fabric.specs.declared.packets.Arrival.{Arrival}
 use Rattle.fabric.specs.declared.packets.Sent.{Sent}
 use Rattle.pcap_io.specs.Captures.{micro_magic, nano_magic}
 
+-- the magic number of a file with nanoseconds, or with microseconds
 abbrev pub magic_of : Bool → ℕ
 magic_of true = nano_magic
 magic_of false = micro_magic
@@ -25,15 +26,12 @@ record_header_of seconds fraction size =
 abbrev pub arrival_bytes : Arrival → List ℕ
 arrival_bytes arrival = record_header_of arrival.seconds arrival.fraction (length arrival.octets) ++ arrival.octets
 
--- a capture of these packets
-abbrev pub capture_bytes : ℕ → Bool → List Arrival → List ℕ
-capture_bytes link nano arrivals = file_header_of link nano ++ flat_map arrival_bytes arrivals
-
--- the times of a packet, and 0 where there is none
+-- the seconds of a packet, and 0 where there is none
 abbrev pub seconds_of : Option Arrival → ℕ
 seconds_of None = 0
 seconds_of (Some arrival) = arrival.seconds
 
+-- its fraction, and 0 where there is none
 abbrev pub fraction_of : Option Arrival → ℕ
 fraction_of None = 0
 fraction_of (Some arrival) = arrival.fraction
@@ -44,6 +42,7 @@ sent_record arrivals packet =
     let origin = slice_get arrivals packet.arrival in
     record_header_of (seconds_of origin) (fraction_of origin) (length packet.octets % 2 ^ 32) ++ packet.octets
 
--- The file of the packets that were sent, in order: its header tells the link type and the unit of the capture that came in.
+-- The file of the packets that were sent, in order: its header tells the link type and the unit of the capture that
+-- came in.
 abbrev pub sent_bytes_of : ℕ → Bool → List Arrival → List Sent → List ℕ
 sent_bytes_of link nano arrivals sent = file_header_of link nano ++ flat_map (sent_record arrivals) sent

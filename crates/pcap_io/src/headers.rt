@@ -3,7 +3,7 @@ ghost use Rattle.std.specs.Prelude.{◌≡◌, ◌≤◌, List, ◌++◌, length
 ghost use Rattle.std.specs.List.{flat_map};
 ghost use Rattle.fabric.specs.declared.packets.Arrival.{Arrival};
 ghost use Rattle.fabric.specs.Numbers.{IsArrival};
-ghost use Rattle.pcap_io.specs.Captures.{IsCapture};
+ghost use Rattle.pcap_io.specs.Captures.{longest_record, IsCapture};
 ghost use Rattle.pcap_io.specs.Sent.{magic_of, file_header_of, record_header_of, arrival_bytes};
 
 use crate::head::{MICRO_MAGIC, NANO_MAGIC};
@@ -17,13 +17,16 @@ fn magic_of(nano: bool) -> u32
 
 /// The file header of a capture with this link type, and nanoseconds or microseconds. It takes no memory.
 ///
-/// With the records of packets behind it, of at most 65,535 octets each, it is a capture that is read as
+/// With the records of packets behind it, of at most `LONGEST_RECORD` octets each, it is a capture that is read as
 /// exactly these packets (clause `read_back`).
 #[tactic(auto, using(crate::proofs::Written::header_octets))]
 pub fn file_header(link: u32, nano: bool) -> [u8; 24]
     ensures is { result ≡ file_header_of link nano }
-    ensures read_back { (arrivals : List Arrival) → All IsArrival arrivals → All (λ arrival. length arrival.octets ≤ 65535) arrivals
-        → IsCapture (result ++ flat_map arrival_bytes arrivals) (map (λ arrival. arrival.port) arrivals) link nano arrivals }
+    ensures read_back { (arrivals : List Arrival)
+        → All IsArrival arrivals
+        → All (λ arrival. length arrival.octets ≤ longest_record) arrivals
+        → IsCapture (result ++ flat_map arrival_bytes arrivals) (map (λ arrival. arrival.port) arrivals)
+        link nano arrivals }
 {
     let magic = magic_of(nano);
     let [m0, m1, m2, m3] = magic.to_le_bytes();

@@ -8,28 +8,27 @@
 //! - K2: it has another magic number.
 //! - K3: it has another version than 2.4.
 //! - K4: it ends inside a record.
-//! - K5: a record's captured length is over 65,535.
+//! - K5: a record's captured length is over `LONGEST_RECORD`.
 //!
 //! A list of ports is read by `read_ports`, which refuses the first bad line: with P1 where it is no number,
-//! with P2 where the number is over 510.
+//! with P2 where the number is over `state_store::GREATEST_PORT`. `arrive` gives a record the next port.
 #![tactic(auto)]
 
+mod arrivals;
 mod capture;
 mod faults;
 mod head;
 mod headers;
-mod lines;
 mod order;
 mod ports;
 mod progress;
 mod reader;
 mod records;
-#[cfg(test)]
-mod tests;
 
+pub use arrivals::arrive;
 pub use capture::{Capture, read_capture};
 pub use faults::{CaptureFault, PortFault};
 pub use headers::{file_header, record_header};
 pub use ports::{Ports, read_ports};
 pub use reader::CaptureReader;
-pub use records::Record;
+pub use records::{LONGEST_RECORD, Record};

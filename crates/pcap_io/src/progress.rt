@@ -3,7 +3,7 @@ ghost use Rattle.std.specs.Prelude.{◌≡◌, ◌≤◌, List, length, drop, So
 ghost use Rattle.pcap_io.specs.declared.records.Record.{Record};
 ghost use Rattle.pcap_io.specs.Captures.{reading_of, records_in, ending, behind, refusal_by, IsRecord};
 ghost use Rattle.pcap_io.specs.Reader.{read_on};
-ghost use Rattle.pcap_io.specs.Held.{held};
+ghost use Rattle.pcap_io.specs.internal.Held.{held};
 
 use crate::head::{FILE_HEADER, Head, read_head, refused};
 use crate::records::{Record, is_too_long, take_records};
@@ -32,7 +32,8 @@ fn read_records(
     octets: &[u8],
     records: &mut VecDeque<Record>,
 ) -> Result<Progress, OutOfMemory>
-    ensures read { IfOk result (λ p. behind records.old.items (records_in head octets.now 0) ≡ held p records.new.items octets.now) }
+    ensures read { IfOk result (λ p.
+        behind records.old.items (records_in head octets.now 0) ≡ held p records.new.items octets.now) }
     ensures within { IfOk result (λ p. p.used ≤ length octets.now) }
     ensures fits { All IsRecord records.old.items → All IsRecord records.new.items }
     ensures err { OnErr result (records.new.items ≡ records.old.items) }
@@ -50,7 +51,8 @@ fn read_records(
 /// How far octets are read that begin with no whole record at a place.
 fn progress_at(head: Head, octets: &[u8], place: usize) -> Progress
     requires { place ≤ length octets.now }
-    ensures read { (records : List Record) → behind records (ending head (drop place octets.now)) ≡ held result records octets.now }
+    ensures read { (records : List Record)
+        → behind records (ending head (drop place octets.now)) ≡ held result records octets.now }
     ensures within { result.used ≤ length octets.now }
 {
     let (_, rest) = octets.split_at(place);
@@ -77,7 +79,8 @@ pub(crate) fn read_on(
     octets: &[u8],
     records: &mut VecDeque<Record>,
 ) -> Result<Progress, OutOfMemory>
-    ensures read { IfOk result (λ p. behind records.old.items (read_on head octets.now) ≡ held p records.new.items octets.now) }
+    ensures read { IfOk result (λ p.
+        behind records.old.items (read_on head octets.now) ≡ held p records.new.items octets.now) }
     ensures within { IfOk result (λ p. p.used ≤ length octets.now) }
     ensures fits { All IsRecord records.old.items → All IsRecord records.new.items }
     ensures err { OnErr result (records.new.items ≡ records.old.items) }
@@ -94,7 +97,8 @@ fn read_file(
     octets: &[u8],
     records: &mut VecDeque<Record>,
 ) -> Result<Progress, OutOfMemory>
-    ensures read { IfOk result (λ p. behind records.old.items (reading_of octets.now) ≡ held p records.new.items octets.now) }
+    ensures read { IfOk result (λ p.
+        behind records.old.items (reading_of octets.now) ≡ held p records.new.items octets.now) }
     ensures within { IfOk result (λ p. p.used ≤ length octets.now) }
     ensures fits { All IsRecord records.old.items → All IsRecord records.new.items }
     ensures err { OnErr result (records.new.items ≡ records.old.items) }

@@ -2,7 +2,7 @@
 ghost use Rattle.std.specs.Prelude.{◌≡◌, ℕ, ◌+◌, ◌<◌, ◌≤◌, ◌++◌, List, [], length, drop, option_to_list, slice_get, Some, None, Ok, Err, MatchOption, IfSome, All};
 ghost use Rattle.p4x_fault.specs.declared.Fault.{Fault};
 ghost use Rattle.pcap_io.specs.declared.faults.CaptureFault.TheVariants.{Refused};
-ghost use Rattle.pcap_io.specs.Captures.{reading_of, refusal, refusal_in, link_of, nano_of, IsRecord};
+ghost use Rattle.pcap_io.specs.Captures.{longest_record, reading_of, refusal, refusal_in, link_of, nano_of, IsRecord};
 ghost use Rattle.pcap_io.specs.Reader.{HasRead, answer, Answers, ByMemory, fed, taken_from};
 
 use crate::faults::CaptureFault;
@@ -60,16 +60,19 @@ impl CaptureReader {
     /// records before the refused one can still be taken, and every later call answers the same refusal.
     /// For want of memory the reader stays as it was.
     ///
-    /// Beside the records that weren't taken the reader then holds at most 65,550 octets, which belong to
-    /// the file header or to one record (clause `little`).
+    /// Beside the records that weren't taken the reader then holds fewer octets than the longest record
+    /// has with its header, and they belong to the file header or to one record (clause `little`).
     #[tactic(auto, using(crate::proofs::Feeding::fault_more, crate::proofs::Feeding::left_read))]
     pub fn feed(&mut self, piece: &[u8]) -> Result<(), CaptureFault>
-        ensures reads { (octets : List ℕ) (taken : ℕ) → HasRead octets taken self.old → ByMemory result (HasRead octets taken self.new) (HasRead (octets ++ piece.now) taken self.new) }
-        ensures refuses { (octets : List ℕ) (taken : ℕ) → HasRead octets taken self.old → Answers (reading_of (octets ++ piece.now)).fault result }
+        ensures reads { (octets : List ℕ) (taken : ℕ) → HasRead octets taken self.old
+            → ByMemory result (HasRead octets taken self.new) (HasRead (octets ++ piece.now) taken self.new) }
+        ensures refuses { (octets : List ℕ) (taken : ℕ) → HasRead octets taken self.old
+            → Answers (reading_of (octets ++ piece.now)).fault result }
         ensures again { (fault : Fault) → self.old.fault ≡ Some fault → result ≡ Err (Refused fault) }
         ensures same { ByMemory result (self.new ≡ self.old) (self.new ≡ fed self.old piece.now) }
         ensures held { Answers (fed self.old piece.now).fault result }
-        ensures little { (octets : List ℕ) (taken : ℕ) → HasRead octets taken self.new → length self.new.left ≤ 65550 }
+        ensures little { (octets : List ℕ) (taken : ℕ) → HasRead octets taken self.new
+            → length self.new.left < 16 + longest_record }
     {
         self.read_piece(piece)
     }
@@ -105,8 +108,10 @@ impl CaptureReader {
     /// memory.
     #[tactic(auto, using(crate::proofs::Feeding::next_taken, crate::proofs::Feeding::none_taken))]
     pub fn next(&mut self) -> Option<Record>
-        ensures reads { (octets : List ℕ) (taken : ℕ) → HasRead octets taken self.old → MatchOption result (HasRead octets taken self.new) (λ r. HasRead octets (taken + 1) self.new) }
-        ensures gives { (octets : List ℕ) (taken : ℕ) → HasRead octets taken self.old → result ≡ slice_get (reading_of octets).records taken }
+        ensures reads { (octets : List ℕ) (taken : ℕ) → HasRead octets taken self.old
+            → MatchOption result (HasRead octets taken self.new) (λ r. HasRead octets (taken + 1) self.new) }
+        ensures gives { (octets : List ℕ) (taken : ℕ) → HasRead octets taken self.old
+            → result ≡ slice_get (reading_of octets).records taken }
         ensures first { result ≡ slice_get self.old.records 0 }
         ensures rest { self.new ≡ taken_from 1 self.old }
         ensures fits { IfSome result IsRecord }
@@ -120,7 +125,8 @@ impl CaptureReader {
     /// `feed` answered, if it did. It is never `Memory`.
     #[tactic(auto, using(crate::proofs::Feeding::refusal_read))]
     pub fn end(&self) -> Result<(), CaptureFault>
-        ensures refuses { (octets : List ℕ) (taken : ℕ) → HasRead octets taken self.now → result ≡ answer (refusal octets) }
+        ensures refuses { (octets : List ℕ) (taken : ℕ) → HasRead octets taken self.now
+            → result ≡ answer (refusal octets) }
         ensures held { result ≡ answer (refusal_in self.now) }
     {
         match close(self.head, self.fault, &self.left) {
@@ -133,7 +139,8 @@ impl CaptureReader {
     /// holds of them.
     #[tactic(auto, using(crate::proofs::Feeding::link_read))]
     pub fn link(&self) -> Option<u32>
-        ensures tells { (octets : List ℕ) (taken : ℕ) → HasRead octets taken self.now → result ≡ link_of (reading_of octets) }
+        ensures tells { (octets : List ℕ) (taken : ℕ) → HasRead octets taken self.now
+            → result ≡ link_of (reading_of octets) }
         ensures held { result ≡ link_of self.now }
     {
         Some(self.head?.link)
@@ -142,7 +149,8 @@ impl CaptureReader {
     /// Whether fractions are nanoseconds, or None exactly where `link` is.
     #[tactic(auto, using(crate::proofs::Feeding::nano_read))]
     pub fn nano(&self) -> Option<bool>
-        ensures tells { (octets : List ℕ) (taken : ℕ) → HasRead octets taken self.now → result ≡ nano_of (reading_of octets) }
+        ensures tells { (octets : List ℕ) (taken : ℕ) → HasRead octets taken self.now
+            → result ≡ nano_of (reading_of octets) }
         ensures held { result ≡ nano_of self.now }
     {
         Some(self.head?.nano)

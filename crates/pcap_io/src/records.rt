@@ -1,6 +1,6 @@
 // The records of a capture.
 ghost use Rattle.std.specs.Prelude.{◌≡◌, ℕ, ◌+◌, ◌<◌, ◌≤◌, true, false, length, take, drop, All, IfOk, OnErr, IfSome, IfNone};
-ghost use Rattle.pcap_io.specs.Captures.{captured_length, is_too_long, is_whole, record_of, records_in, behind, ending, IsRecord};
+ghost use Rattle.pcap_io.specs.Captures.{longest_record, captured_length, is_too_long, is_whole, record_of, records_in, behind, ending, IsRecord};
 
 use crate::head::Head;
 use crate::order::Order;
@@ -11,13 +11,13 @@ use std::collections::VecDeque;
 /// How many octets a record header has.
 const RECORD_HEADER: usize = 16;
 
-/// The greatest captured length.
-const LONGEST_RECORD: u32 = 65_535;
+/// The greatest captured length of a record. (This project's own.)
+pub const LONGEST_RECORD: u32 = 65_535;
 
 /// A recorded packet.
 #[derive(Debug, Drop)]
 pub struct Record {
-    /// What was captured of it, at most 65,535 octets.
+    /// What was captured of it, at most `LONGEST_RECORD` octets.
     pub octets: Octets,
     /// The seconds of its time.
     pub seconds: u32,
@@ -25,7 +25,7 @@ pub struct Record {
     pub fraction: u32,
 }
 
-/// Whether the octets begin with a record header whose captured length is over 65,535.
+/// Whether the octets begin with a record header whose captured length is over the greatest.
 #[tactic(auto, unfolding(crate::specs::Captures::is_too_long))]
 pub(crate) fn is_too_long(order: Order, octets: &[u8]) -> bool
     ensures { result ≡ is_too_long order octets.now }
@@ -37,9 +37,10 @@ pub(crate) fn is_too_long(order: Order, octets: &[u8]) -> bool
 #[tactic(auto, unfolding(crate::specs::Captures::is_whole))]
 fn first_captured(order: Order, octets: &[u8]) -> Option<&[u8]>
     ensures whole { IfSome result (λ captured. is_whole order octets.now ≡ true) }
-    ensures captured { IfSome result (λ captured. captured.now ≡ take (captured_length order octets.now) (drop 16 octets.now)) }
+    ensures captured { IfSome result (λ captured.
+        captured.now ≡ take (captured_length order octets.now) (drop 16 octets.now)) }
     ensures size { IfSome result (λ captured. length captured.now ≡ captured_length order octets.now) }
-    ensures small { IfSome result (λ captured. length captured.now ≤ 65535) }
+    ensures small { IfSome result (λ captured. length captured.now ≤ longest_record) }
     ensures within { IfSome result (λ captured. 16 + length captured.now ≤ length octets.now) }
     ensures none { IfNone result (is_whole order octets.now ≡ false) }
 {
@@ -62,7 +63,7 @@ fn make_record(
     fraction: u32,
     captured: &[u8],
 ) -> Result<Record, OutOfMemory>
-    requires { length captured.now ≤ 65535 }
+    requires { length captured.now ≤ longest_record }
     ensures value { IfOk result (λ r. r ≡ record { octets = captured.now; seconds = seconds; fraction = fraction }) }
     ensures fits { IfOk result IsRecord }
 {
@@ -81,7 +82,9 @@ pub(crate) fn take_records(
     octets: &[u8],
     records: &mut VecDeque<Record>,
 ) -> Result<usize, OutOfMemory>
-    ensures read { IfOk result (λ place. behind records.old.items (records_in head octets.now 0) ≡ behind records.new.items (ending head (drop place octets.now))) }
+    ensures read { IfOk result (λ place.
+        behind records.old.items (records_in head octets.now 0)
+        ≡ behind records.new.items (ending head (drop place octets.now))) }
     ensures within { IfOk result (λ place. place ≤ length octets.now) }
     ensures fits { All IsRecord records.old.items → All IsRecord records.new.items }
     ensures err { OnErr result (take (length records.old.items) records.new.items ≡ records.old.items) }

@@ -7,6 +7,7 @@ ghost use Rattle.p4x_cmd.specs.Forms14 as forms;
 
 use crate::tokens::{is_digit, is_letter};
 use crate::{Field, OneTable14};
+use state_store::DROP_PORT;
 
 const FORM_WORDS: [&[u8]; 17] = [
     b"header_type",
@@ -179,6 +180,6 @@ pub(crate) fn is_one_table(program: &OneTable14) -> bool
         && are_fields(program.fields.as_slice())
         && is_free_name(program.instance.as_slice())
         && is_free_name(program.action.as_slice())
-        && program.port <= 511
+        && program.port <= u64::from(DROP_PORT)
         && is_free_name(program.table.as_slice())
 }

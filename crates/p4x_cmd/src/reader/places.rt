@@ -1,7 +1,7 @@
 // The program that tokens would be, by their places.
 ghost use Rattle.std.specs.Prelude.{◌≡◌, ◌+◌, ◌<◌, List, [], ◌∷◌, ◌++◌, length, drop, map, Option, Some, None, option_map, IfOk, MatchOption};
-ghost use Rattle.p4x_cmd.specs.Division.{token_of};
-ghost use Rattle.p4x_cmd.specs.Places14 as places;
+ghost use Rattle.p4x_cmd.specs.internal.Views.{token_of};
+ghost use Rattle.p4x_cmd.specs.internal.Places14 as places;
 
 use crate::{Field, OneTable14, Token};
 use p4x_bits::{OutOfMemory, Rows, Text};

@@ -1,8 +1,8 @@
 // Whether tokens are those that a program is written with.
 ghost use Rattle.std.specs.Prelude.{◌≡◌, ◌↔◌, IsTrue, [], ◌∷◌, ◌++◌, map, MatchOption};
-ghost use Rattle.p4x_cmd.specs.Division.{token_of};
+ghost use Rattle.p4x_cmd.specs.internal.Views.{token_of};
 ghost use Rattle.p4x_cmd.specs.Forms14 as forms;
-ghost use Rattle.p4x_cmd.specs.Places14.{NeverBegins, from_table, from_action, from_parser, from_header, from_end, from_fields};
+ghost use Rattle.p4x_cmd.specs.internal.Places14.{NeverBegins, from_table, from_action, from_parser, from_header, from_end, from_fields};
 
 use crate::Token::{Mark, Number, Run};
 use crate::{Field, OneTable14, Token};

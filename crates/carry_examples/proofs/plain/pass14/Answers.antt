@@ -1,4 +1,5 @@
 use Rattle.std.proofs.Common.{◌≡◌, ℕ, ◌-◌, ◌*◌, ◌/◌, ◌<◌, ◌≤◌, Bool, List, ◌++◌, length, sum, take, drop, ap, ◌∙◌, arith, take_all, length-drop}
+use Rattle.state_store.specs.Ports.{drop_port}
 use Rattle.p4x_bits.specs.BitLists.{octet_bits}
 use Rattle.p4x_bits.proofs.BitLists.{length-octet_bits}
 use Rattle.p4x_cmd.specs.Headers.{numbers_in, bits_in}
@@ -17,7 +18,7 @@ returns c =
     let pushed : c.push_octets.new.self ≡ octet_bits octets = c.in_ok-push_octets.ensures.ok ∙ ap (λ (l : List Bool). l ++ octet_bits octets) c.new-packet.ensures in
     let bits : c.header_bits-bits.result ≡ sum widths = c.header_bits-bits.ensures in
     let whole : sum widths ≤ 8 * length octets = omega arith in
-    let small : c.args.port < 511 = omega arith in
+    let small : c.args.port < drop_port = omega arith in
     let size = c.header_bits-bits.result / 8 in
     let rest : take (length octets - size) (drop size octets) ≡ drop size octets = take_all (length octets - size) (drop size octets) (omega (arith, length-drop size octets)) in
     leaving_is widths octets c.as_octets.result.now c.extend_from_slice.new.self _ c.args.port c.requires.widths whole small

@@ -1,5 +1,5 @@
 use Rattle.std.proofs.Common.{ℕ, List, ◌++◌, Option, sym, ap, ◌∙◌, subst, arith, append-nil}
-use Rattle.carry_examples.specs.Plain.{IsPass14}
+use Rattle.carry_examples.specs.internal.Passes.{IsPass14}
 use Rattle.carry_examples.proofs.Sending.{all_more, all_ends, leaving_from}
 use Rattle.carry_examples.proofs.plain.run14.Goals.{in-Some+in_ok-push, in_default}
 use Rattle.carry_examples.proofs.plain.run14.Goals as goal

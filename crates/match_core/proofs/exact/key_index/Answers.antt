@@ -1,6 +1,6 @@
 use Rattle.std.proofs.Common.{◌≡◌, map, sym, subst, arith}
 use Rattle.match_core.specs.declared.entries.Entry.{Entry}
-use Rattle.match_core.specs.Index.{value_of}
+use Rattle.match_core.specs.internal.Index.{value_of}
 use Rattle.match_core.proofs.Indexes.{key_index_turn}
 use Rattle.match_core.proofs.exact.key_index.Goals as goal
 

@@ -1,5 +1,5 @@
 use Rattle.std.proofs.Common.{◌≡◌, vec_len}
-use Rattle.match_core.specs.Prefixes.{AreEmpty}
+use Rattle.match_core.specs.internal.Prefixes.{AreEmpty}
 use Rattle.match_core.proofs.prefix.empty_maps.Given as goal
 
 abbrev pub invariant-loop : goal.invariant-loop

@@ -1,6 +1,6 @@
 use Rattle.std.proofs.Common.{◌≡◌, ℕ, Some, None, ◌-◌, subst, inl, inr, arith}
 use Rattle.std.proofs.lemmas.Bool.{cases_eq}
-use Rattle.match_core.specs.Prefixes.{found_at}
+use Rattle.match_core.specs.internal.Prefixes.{found_at}
 use Rattle.match_core.proofs.Prefixed.{found-here}
 use Rattle.match_core.proofs.prefix.longest.Goals as goal
 

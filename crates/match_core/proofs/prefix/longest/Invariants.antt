@@ -1,5 +1,5 @@
 use Rattle.std.proofs.Common.{◌≡◌, ℕ, ◌+◌, ◌≤◌, None}
-use Rattle.match_core.specs.Prefixes.{found_at}
+use Rattle.match_core.specs.internal.Prefixes.{found_at}
 use Rattle.match_core.proofs.prefix.longest.Given as goal
 
 abbrev pub invariant-loop-left : goal.invariant-loop-left

@@ -1,4 +1,4 @@
-use Rattle.match_core.specs.Prefixes.{IsPrefixIndex}
+use Rattle.match_core.specs.internal.Prefixes.{IsPrefixIndex}
 use Rattle.match_core.proofs.prefix.prefix_index.Given as goal
 
 abbrev pub invariant-loop-i : goal.invariant-loop-i

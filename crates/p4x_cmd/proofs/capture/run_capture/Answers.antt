@@ -3,12 +3,13 @@ use Rattle.std.proofs.lemmas.Result.{err_from_is_err_and}
 use Rattle.pcap_io.specs.Reader.{taken_from}
 use Rattle.p4x_cmd.specs.declared.one_table.OneTable16.{OneTable16}
 use Rattle.p4x_cmd.specs.declared.stream.Plain.{Plain}
-use Rattle.p4x_cmd.specs.Carry.{capture_limit, capture_reports, Delivers}
+use Rattle.p4x_cmd.specs.Carry.{capture_limit, capture_reports}
+use Rattle.p4x_cmd.specs.internal.Phases.{Delivers}
 use Rattle.p4x_cmd.specs.Forms16.{program16}
-use Rattle.p4x_cmd.specs.Outcomes.{line_view}
-use Rattle.p4x_cmd.specs.Plain.{plain_pass, IsSized}
+use Rattle.p4x_cmd.specs.internal.Phases.{line_view}
+use Rattle.p4x_cmd.specs.internal.Plain.{plain_pass, IsSized}
 use Rattle.std.proofs.lemmas.Bool.Decides.{nat_tests}
-use Rattle.p4x_cmd.specs.Streams.{View, Agrees}
+use Rattle.p4x_cmd.specs.internal.Streams.{View, Agrees}
 use Rattle.std.specs.List.{sum_by}
 use Rattle.p4x_cmd.proofs.Delivering.{ends_from, pieces_stopped, pieces_refused, pieces_reported}
 use Rattle.p4x_cmd.proofs.Pieces.{nothing}

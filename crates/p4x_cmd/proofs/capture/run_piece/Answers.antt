@@ -1,6 +1,6 @@
 use Rattle.std.proofs.Common.{inl, inr, refl, sym, ◌∙◌}
 use Rattle.std.proofs.lemmas.Result.{err_from_is_err_and}
-use Rattle.p4x_cmd.specs.Streams.{view_of}
+use Rattle.p4x_cmd.specs.internal.Streams.{view_of}
 use Rattle.p4x_cmd.proofs.Pieces.{piece_unread, piece_cut, piece_refused, piece_run}
 use Rattle.p4x_cmd.proofs.capture.run_piece.Goals as goal
 

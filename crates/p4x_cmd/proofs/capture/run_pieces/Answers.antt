@@ -3,7 +3,7 @@ use Rattle.std.proofs.lemmas.List.{length-take}
 use Rattle.std.proofs.lemmas.Result.{err_from_is_err_and}
 use Rattle.p4x_io.proofs.Desks.{moves_none, moves_on, moves_within, grown_there}
 use Rattle.p4x_io.proofs.Reading.{front_none, front_more, front_end, reads_at}
-use Rattle.p4x_cmd.specs.Plain.{plain_pass}
+use Rattle.p4x_cmd.specs.internal.Plain.{plain_pass}
 use Rattle.p4x_cmd.proofs.Pieces.{unbroken_start, streamed_start, streamed_still, pieces_cut, pieces_end, pieces_all, pieces_stop}
 use Rattle.p4x_cmd.proofs.capture.run_pieces.Goals as goal
 

@@ -2,7 +2,7 @@ use Rattle.std.proofs.Common.{inr, [], option_to_list, ◌∙◌}
 use Rattle.std.proofs.lemmas.Result.{err_from_is_err_and}
 use Rattle.p4x_io.proofs.Desks.{moves_on}
 use Rattle.p4x_cmd.specs.Carry.{HasProgram}
-use Rattle.p4x_cmd.specs.Words.{files_of}
+use Rattle.p4x_cmd.specs.internal.Views.{files_of}
 use Rattle.p4x_cmd.proofs.Phases.{tells_on, reads_since, blames_as, stops_at_ports}
 use Rattle.p4x_cmd.proofs.carry.prepare.Goals as goal
 

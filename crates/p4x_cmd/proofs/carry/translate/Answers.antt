@@ -1,7 +1,7 @@
 use Rattle.std.proofs.Common.{sym, ◌∙◌, ap, subst}
 use Rattle.p4x_cmd.specs.declared.one_table.OneTable16.{OneTable16}
 use Rattle.p4x_cmd.specs.Forms16.{is_one_table16}
-use Rattle.p4x_cmd.specs.Plain.{IsSized}
+use Rattle.p4x_cmd.specs.internal.Plain.{IsSized}
 use Rattle.p4x_cmd.proofs.Reading16.{lowered_is_one_table16}
 use Rattle.p4x_cmd.proofs.Sizes.{lowered_sized}
 use Rattle.p4x_cmd.proofs.carry.translate.Goals as goal

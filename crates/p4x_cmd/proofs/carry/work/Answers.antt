@@ -2,10 +2,12 @@ use Rattle.std.proofs.Common.{◌≡◌, ℕ, List, [], Some, sym, ◌∙◌, ap
 use Rattle.std.proofs.lemmas.Result.{err_from_is_err_and}
 use Rattle.p4x_io.specs.Desk.{put}
 use Rattle.p4x_cmd.specs.declared.stop.Stop.TheVariants.{Fault}
-use Rattle.p4x_cmd.specs.Carry.{Delivers, capture_reports}
+use Rattle.p4x_cmd.specs.Carry.{capture_reports}
+use Rattle.p4x_cmd.specs.internal.Phases.{Delivers}
 use Rattle.p4x_cmd.specs.Forms16.{program16}
-use Rattle.p4x_cmd.specs.Outcomes.{IsPart, line_view}
-use Rattle.p4x_cmd.specs.Words.{files_of}
+use Rattle.p4x_cmd.specs.Outcomes.{IsPart}
+use Rattle.p4x_cmd.specs.internal.Phases.{line_view}
+use Rattle.p4x_cmd.specs.internal.Views.{files_of}
 use Rattle.p4x_cmd.proofs.Left.{left_early, left_begin, left_run}
 use Rattle.p4x_cmd.proofs.Writing.{written_is}
 use Rattle.p4x_cmd.proofs.carry.work.Goals as goal

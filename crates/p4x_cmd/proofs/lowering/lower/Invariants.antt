@@ -1,5 +1,5 @@
 use Rattle.std.proofs.Common.{◌≡◌, map, take}
-use Rattle.p4x_cmd.specs.Forms16.{lowered_field}
+use Rattle.p4x_cmd.specs.internal.Lowering.{lowered_field}
 use Rattle.p4x_cmd.proofs.lowering.lower.Given as goal
 
 abbrev pub invariant-loop-field : goal.invariant-loop-field

@@ -1,6 +1,6 @@
 -- A text of a program has its tokens, and the candidate of those is that program: so what differs from the candidate, or is none, no program reads as.
 use Rattle.std.proofs.Common.{map}
-use Rattle.p4x_cmd.specs.Division.{token_of}
+use Rattle.p4x_cmd.specs.internal.Views.{token_of}
 use Rattle.p4x_cmd.proofs.Reading14.{not_spelled, not_formed}
 use Rattle.p4x_cmd.proofs.reader.read14.Goals as goal
 use Rattle.p4x_cmd.proofs.reader.read14.Goals.{else-is_spelled-via-then-is_spelled+else-is_one_table, else-is_spelled-via-else-is_spelled}

@@ -1,5 +1,6 @@
 use Rattle.std.proofs.Common.{◌≡◌, ◌++◌, map, length}
-use Rattle.p4x_cmd.specs.Division.{token_of, tokens_of}
+use Rattle.p4x_cmd.specs.Division.{tokens_of}
+use Rattle.p4x_cmd.specs.internal.Views.{token_of}
 use Rattle.p4x_cmd.proofs.tokens.tokens.Given as goal
 
 abbrev pub invariant-loop-token : goal.invariant-loop-token

@@ -1,5 +1,6 @@
 use Rattle.std.proofs.Common.{◌≡◌, map, string_bytes, length}
-use Rattle.p4x_cmd.specs.Words.{options_of, no_options, options_in}
+use Rattle.p4x_cmd.specs.Words.{no_options, options_in}
+use Rattle.p4x_cmd.specs.internal.Views.{options_of}
 use Rattle.p4x_cmd.proofs.words.read_options.Given as goal
 
 abbrev pub invariant-loop-rest : goal.invariant-loop-rest

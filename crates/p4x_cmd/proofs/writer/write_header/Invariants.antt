@@ -1,6 +1,6 @@
 use Rattle.std.proofs.Common.{take}
 use Rattle.p4x_cmd.specs.Forms16.{field_tokens16}
-use Rattle.p4x_cmd.specs.Written.{Writes}
+use Rattle.p4x_cmd.specs.internal.Written.{Writes}
 use Rattle.p4x_cmd.proofs.writer.write_header.Given as goal
 
 abbrev pub invariant-loop-field : goal.invariant-loop-field

@@ -1,6 +1,6 @@
 use Rattle.std.proofs.Common.{◌≡◌, ◌++◌, map, length}
-use Rattle.p4x_cmd.specs.Division.{token_of}
-use Rattle.p4x_cmd.specs.Places14 as places
+use Rattle.p4x_cmd.specs.internal.Views.{token_of}
+use Rattle.p4x_cmd.specs.internal.Places14 as places
 use Rattle.p4x_cmd.proofs.reader.places.fields_in.Given as goal
 
 abbrev pub invariant-loop-left : goal.invariant-loop-left

@@ -1,5 +1,5 @@
 use Rattle.std.proofs.Common.{◌≡◌, ◌++◌, map, take}
-use Rattle.p4x_cmd.specs.Division.{token_of}
+use Rattle.p4x_cmd.specs.internal.Views.{token_of}
 use Rattle.p4x_cmd.proofs.reader.spelling.behind.Given as goal
 
 abbrev pub invariant-loop-token : goal.invariant-loop-token

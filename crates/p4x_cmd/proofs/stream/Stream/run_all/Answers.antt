@@ -1,5 +1,5 @@
 use Rattle.std.proofs.Common.{sym, ◌∙◌}
-use Rattle.p4x_cmd.specs.Plain.{plain_pass}
+use Rattle.p4x_cmd.specs.internal.Plain.{plain_pass}
 use Rattle.p4x_cmd.proofs.Streams.{turn_ran, turn_rest, turn_known, none_left}
 use Rattle.p4x_cmd.proofs.stream.Stream.run_all.Goals as goal
 

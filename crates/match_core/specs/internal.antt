@@ -1,0 +1,7 @@
+pub mod Maps
+pub mod Order
+pub mod Prefixes
+pub mod Index
+pub mod Sizes
+pub mod Levels
+pub mod Codes

@@ -1,0 +1,27 @@
+-- Maps by prefix length.
+use Rattle.std.specs.Prelude.{◌≡◌, ℕ, ◌<◌, ◌==◌, ◌&&◌, List, [], ◌∷◌, Option, Some, None, unwrap_or, if◌then◌else◌}
+use Rattle.std.specs.Ordering.{is_eq}
+use Rattle.std.specs.declared.cmp.Ordering.{Ordering}
+use Rattle.std.specs.BTreeMap.{get}
+use Rattle.match_core.specs.declared.levels.Level.{Level}
+
+-- each level has fewer bits than that
+abbrev pub AllUnder : {K : Type 0} → ℕ → List (Level K) → Type 0
+AllUnder bits [] = Unit {0}
+AllUnder bits (level ∷ levels) = (level.bits < bits) × AllUnder bits levels
+
+-- the levels with more bits stand before those with fewer
+abbrev pub AreLevels : {K : Type 0} → List (Level K) → Type 0
+AreLevels [] = Unit {0}
+AreLevels (level ∷ levels) = AllUnder level.bits levels × AreLevels levels
+
+-- what the level of so many bits has at a key
+abbrev pub found_in : {K : Type 0} → (K → K → Ordering) → List (Level K) → ℕ → K → Option ℕ
+found_in cmp [] bits key = None
+found_in cmp (level ∷ levels) bits key = if level.bits == bits then get cmp level.map key else found_in cmp levels bits key
+
+-- the new levels have the number at the key of so many bits, where the old ones had none, and else what the old ones had
+abbrev pub IsLevelPut : {K : Type 0} → (K → K → Ordering) → List (Level K) → List (Level K) → ℕ → K → ℕ → Type 0
+IsLevelPut {K} cmp old new bits key i =
+    (many : ℕ) (other : K) →
+    found_in cmp new many other ≡ (if (bits == many) && is_eq (cmp key other) then Some (unwrap_or (found_in cmp old bits key) i) else found_in cmp old many other)
