@@ -19,7 +19,7 @@ fn report(what: &str, count: usize, start: Instant, sum: u64) {
     println!("{what} rust {count} {} {sum}", start.elapsed().as_nanos());
 }
 
-fn look_up(what: &str, keys: &[u128], rounds: usize, find: impl Fn(u128) -> u32) {
+fn look_up<K: Copy>(what: &str, keys: &[K], rounds: usize, find: impl Fn(K) -> u32) {
     let start = Instant::now();
     let mut sum = 0u64;
     for _ in 0..rounds {
@@ -54,12 +54,32 @@ fn lpm(count: u32, rounds: usize) {
             .or_insert(number);
         keys.push(u128::from(value ^ random.next() >> bits));
     }
+    let used: Vec<_> = (0..=32).rev().filter(|bits| !maps[*bits].is_empty()).collect();
     let find = |key: u128| {
-        (0..=32)
-            .rev()
-            .find_map(|bits| maps[bits].get(&(key >> (32 - bits))))
+        used.iter()
+            .find_map(|&bits| maps[bits].get(&(key >> (32 - bits))))
     };
     look_up("lpm", &keys, rounds, |key| find(key).copied().unwrap_or(0));
+}
+
+fn pair(count: u32, rounds: usize) {
+    let mut random = Random(14);
+    let (mut maps, mut keys) = (vec![BTreeMap::new(); 33], Vec::new());
+    for number in 0..count {
+        let group = u128::from(random.next() % 256);
+        let value = random.next();
+        let bits = 8 + random.next() % 24;
+        maps[bits as usize]
+            .entry((group, u128::from(value >> (32 - bits))))
+            .or_insert(number);
+        keys.push((group, u128::from(value ^ random.next() >> bits)));
+    }
+    let used: Vec<_> = (0..=32).rev().filter(|bits| !maps[*bits].is_empty()).collect();
+    let find = |(group, key): (u128, u128)| {
+        used.iter()
+            .find_map(|&bits| maps[bits].get(&(group, key >> (32 - bits))))
+    };
+    look_up("pair", &keys, rounds, |key| find(key).copied().unwrap_or(0));
 }
 
 fn calculate(what: &str, rounds: u32, calculation: impl Fn(&[u8]) -> u32) {
@@ -110,6 +130,7 @@ fn csum16(list: &[u8]) -> u32 {
 fn main() {
     exact(65536, 40);
     lpm(10000, 40);
+    pair(65536, 20);
     calculate("crc32", 100, crc32);
     calculate("csum16", 100, csum16);
 }

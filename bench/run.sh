@@ -6,7 +6,7 @@ set -eu
 top=$(cd "$(dirname "$0")/.." && pwd)
 work=$(mktemp -d)
 trap 'rm -rf "$work"' EXIT
-mkdir -p "$work/crates/bench_tables/src" "$work/crates/bench_tables/proofs/fill"
+mkdir -p "$work/crates/bench_tables/src" "$work/crates/bench_tables/proofs/fill" "$work/crates/bench_tables/proofs/fill_pairs"
 for crate in p4x_bits state_store match_core calc_core; do
     mkdir "$work/crates/$crate"
     for part in src specs proofs; do cp -r "$top/crates/$crate/$part" "$work/crates/$crate"; done
@@ -17,6 +17,7 @@ sed -i 's/^pub use table::/pub use scan::scan as plain_scan;\n&/' "$work/crates/
 echo 'bench_tables: p4x_bits match_core calc_core anyhow' >>"$work/crates.txt"
 cp "$top/bench/tables.rattle" "$work/crates/bench_tables/src/main.rt"
 cp "$top/bench/fill.rattle" "$work/crates/bench_tables/proofs/fill/Invariants.antt"
+cp "$top/bench/fill_pairs.rattle" "$work/crates/bench_tables/proofs/fill_pairs/Invariants.antt"
 cd "$work/crates/bench_tables"
 rt run >"$work/log" 2>&1 || { cat "$work/log"; exit 1; }
 rustc --edition 2024 -O -C target-cpu=x86-64-v2 -o "$work/baseline" "$top/bench/baseline.rs"
@@ -30,6 +31,7 @@ for _ in 1 2 3; do out/bench_tables; "$work/baseline"; done | awk '
     END {
         printf "%-22s %-11s %12s %12s %12s\n", "", "a second", "p4x", "its scan", "plain Rust"
         row("exact", "exact, 65,536 entries", "look-ups"); row("lpm", "lpm, 10,000 prefixes", "look-ups")
+        row("pair", "exact and lpm, 65,536", "look-ups")
         row("crc32", "crc32, 1 MiB lists", "octets"); row("csum16", "csum16, 1 MiB lists", "octets")
         exit wrong
     }'

@@ -8,7 +8,8 @@ use Rattle.std.proofs.lemmas.List.{length-map, append-nil, drop_all}
 use Rattle.entries_file.specs.declared.arguments.ArgumentRead.{ArgumentRead}
 use Rattle.entries_file.specs.declared.arguments.ArgumentRead.TheVariants.{NoNumber, TooWide, Argument}
 use Rattle.entries_file.specs.Numbers.{number_of, fits, number_up_to}
-use Rattle.entries_file.specs.Rules.{argument_as, is_wide_argument, has_wide_argument, is_no_number, is_no_colour, has_wrong_arguments, arguments_of}
+use Rattle.entries_file.specs.Rules.{is_wide_argument, has_wide_argument, is_no_number, is_no_colour, has_wrong_arguments, arguments_of}
+use Rattle.entries_file.specs.internal.Kept.{argument_as}
 use Rattle.entries_file.proofs.KeyLaws.{seen_at, item_at, or_middle, or_nothing}
 
 no_number_by : (b : Bool) (n : ℕ) → NoNumber ≡ cond b (Argument n) TooWide → ⊥

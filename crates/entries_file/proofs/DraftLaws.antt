@@ -14,12 +14,9 @@ use Rattle.match_core.specs.declared.signatures.Signature.{Signature}
 use Rattle.match_core.specs.declared.entries.Entry.{Entry}
 use Rattle.match_core.specs.declared.entries.TableFill.{TableFill}
 use Rattle.match_core.specs.declared.signatures.KeySpec.{KeySpec}
-use Rattle.match_core.specs.declared.entries.KeyMatch.{KeyMatch}
-use Rattle.entries_file.specs.KeyForms.{counted, counted_all}
 use Rattle.entries_file.specs.Filling.{empty_fill, entry_put, table_at}
-use Rattle.entries_file.specs.Rules.{identity, has_same, is_full}
-use Rattle.entries_file.proofs.KeyLaws.{item_at}
-use Rattle.entries_file.proofs.ArgumentLaws.{min_cases}
+use Rattle.match_core.specs.Identity.{identity}
+use Rattle.entries_file.specs.Rules.{has_same, is_full}
 
 not_not : (b : Bool) → not (not b) ≡ b
 not_not true = refl
@@ -27,29 +24,6 @@ not_not false = refl
 
 not_eqb : (a b : ℕ) → (a ≡ b → ⊥) → nat_eq a b ≡ false
 not_eqb a b apart = grind (arith, nat_tests)
-
--- one more key is counted
-pub counted_turn : (specs : List KeySpec) (ones : List KeyMatch) (i : ℕ) (d : KeySpec) (e : KeyMatch) (all key : List ℕ) (first second : ℕ) → i < min (length specs) (length ones) → counted (get_or specs i d).width (get_or ones i e) ≡ first ∷ second ∷ []
-    → all ≡ key ++ counted_all (drop i specs) (drop i ones) → all ≡ ((key ++ first ∷ []) ++ second ∷ []) ++ counted_all (drop (i + 1) specs) (drop (i + 1) ones)
-counted_turn specs ones i d e all key first second lt is so_far =
-    let spec : drop i specs ≡ get_or specs i d ∷ drop (i + 1) specs = item_at specs i d (omega arith) in
-    let one : drop i ones ≡ get_or ones i e ∷ drop (i + 1) ones = item_at ones i e (omega arith) in
-    so_far ∙ (rw (spec, one, is) (sym (rw (append_assoc (key ++ first ∷ []) (second ∷ []) _, append_assoc key (first ∷ []) _) refl)))
-
-no_keys : (specs : List KeySpec) → counted_all specs [] ≡ []
-no_keys [] = refl
-no_keys (spec ∷ specs) = refl
-
-nothing_counted : (specs : List KeySpec) (ones : List KeyMatch) (i : ℕ) → min (length specs) (length ones) ≤ i → counted_all (drop i specs) (drop i ones) ≡ []
-nothing_counted specs ones i le =
-    elim (min_cases (length specs) (length ones) i le) [
-      | inl few ↦ let none : drop i specs ≡ [] = drop_all i specs few in rw none refl
-      | inr short ↦ let none : drop i ones ≡ [] = drop_all i ones short in rw none (no_keys (drop i specs))
-    ]
-
--- all keys are counted
-pub counted_end : (specs : List KeySpec) (ones : List KeyMatch) (i : ℕ) (all key : List ℕ) → min (length specs) (length ones) ≤ i → all ≡ key ++ counted_all (drop i specs) (drop i ones) → all ≡ key
-counted_end specs ones i all key le so_far = so_far ∙ (rw (nothing_counted specs ones i le) (append-nil key))
 
 either_way : (a b : Bool) → cond b true a ≡ (a || (b || false))
 either_way true true = refl

@@ -82,6 +82,14 @@ priority_by : (b : Bool) (o : Option (List ℕ)) → is_none (cond b (option_and
 priority_by true o some = word_priority o some
 priority_by false o some = omega arith
 
+none_by : (b : Bool) (o : Option ℕ) → b ≡ false → unwrap_or (cond b o (Some 0)) 0 ≡ 0
+none_by true o is = absurd (cc)
+none_by false o is = refl
+
+-- no priority is 0
+pub no_priority : (specs : List KeySpec) (n : ℕ) (words : List (List ℕ)) → by_priority specs ≡ false → unwrap_or (priority_of specs n words) 0 ≡ 0
+no_priority specs n words is = none_by (by_priority specs) (option_and_then (number_up_to 2147483647) (slice_get words n)) is
+
 pub priority_fits : (specs : List KeySpec) (n : ℕ) (words : List (List ℕ)) → lacks_priority (priority_of specs n words) ≡ false → unwrap_or (priority_of specs n words) 0 < 2 ^ 31
 priority_fits specs n words some =
     let most : unwrap_or (priority_of specs n words) 0 ≤ 2147483647 = priority_by (by_priority specs) (slice_get words n) some in

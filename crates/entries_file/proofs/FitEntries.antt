@@ -9,14 +9,16 @@ use Rattle.std.proofs.lemmas.List.Folds.{list_any_at}
 use Rattle.std.proofs.lemmas.List.Quantifiers.{position-Some}
 use Rattle.state_store.specs.declared.shapes.Shape.{Shape}
 use Rattle.state_store.specs.declared.shapes.Shape.TheVariants.{Counter, Direct, Register, Meter}
-use Rattle.state_store.specs.declared.shapes.Session.{Session}
+use Rattle.state_store.specs.declared.ports.Session.{Session}
 use Rattle.match_core.specs.declared.signatures.TableSig.{TableSig}
 use Rattle.match_core.specs.declared.signatures.ObjectSig.{ObjectSig}
 use Rattle.match_core.specs.declared.signatures.Signature.{Signature}
 use Rattle.match_core.specs.declared.entries.Entry.{Entry}
 use Rattle.match_core.specs.declared.entries.DefaultCall.{DefaultCall}
 use Rattle.match_core.specs.declared.entries.Entries.{Entries}
-use Rattle.match_core.specs.Fits.{Fits, FitsFill, FitsEntry, FitsCall, FitsSession, FitsColours, AreDistinct}
+use Rattle.state_store.specs.Ports.{IsSession, AreDistinct}
+use Rattle.match_core.specs.declared.signatures.KeySpec.{KeySpec}
+use Rattle.match_core.specs.Fits.{Fits, FitsFill, FitsEntry, FitsCall, FitsColours}
 use Rattle.entries_file.specs.Numbers.{number_of, up_to, number_up_to}
 use Rattle.entries_file.specs.Filling.{empty_fill, nothing, table_at, fill_at, colours_at, with_entry, with_default, with_session, with_colours}
 use Rattle.entries_file.specs.Rules.{has_session, is_full, named_meter, meter_name, meter_of, has_name}
@@ -39,7 +41,7 @@ zip_replicate R [] y each = tt
 zip_replicate R (x ∷ xs) y each = (each x, zip_replicate R xs y each)
 
 empty_fits : (table : TableSig) → FitsFill table empty_fill
-empty_fits table = record { size = omega arith; entries = All-nil (FitsEntry table); call = tt }
+empty_fits table = record { size = omega arith; no_keys = λ none. refl; entries = All-nil (FitsEntry table); call = tt }
 
 no_colours_fit : (shape : Shape) → FitsColours shape []
 no_colours_fit (Counter kind cells) = refl
@@ -51,28 +53,32 @@ no_colours_fit (Meter cells) = All-nil (λ colour. colour ≤ 2)
 pub nothing_fits : (g : Signature) → Fits (nothing g) g
 nothing_fits g = record {
   tables = zip_replicate FitsFill g.tables empty_fill empty_fits;
-  sessions = All-nil FitsSession;
-  distinct = λ i j d lt lt' same. absurd (omega arith);
+  sessions = record { each = All-nil IsSession; distinct = λ i j d lt lt' same. absurd (omega arith) };
   colours = zip_replicate (λ (object : ObjectSig). FitsColours object.shape) g.objects [] (λ object. no_colours_fit object.shape);
 }
 
 room : (size count : ℕ) → leb size count ≡ false → count + 1 ≤ size
 room size count is = grind (arith, nat_tests)
 
+keyless : (specs : List KeySpec) → specs ≡ [] → 0 < length specs → ⊥
+keyless [] none some = omega arith
+keyless (spec ∷ specs) none some = cc
+
 -- one more entry
-pub entry_fits : (g : Signature) (read : Entries) (table : ℕ) (entry : Entry) → Fits read g → table < length g.tables → is_full (table_at g table) (fill_at read table) ≡ false → FitsEntry (table_at g table) entry → Fits (with_entry read table entry) g
-entry_fits g read table entry fits within open_ here =
+pub entry_fits : (g : Signature) (read : Entries) (table : ℕ) (entry : Entry) → Fits read g → table < length g.tables → is_full (table_at g table) (fill_at read table) ≡ false
+    → 0 < length (table_at g table).keys → FitsEntry (table_at g table) entry → Fits (with_entry read table entry) g
+entry_fits g read table entry fits within open_ keys here =
     let fill : FitsFill (table_at g table) (fill_at read table) = zip_get FitsFill g.tables read.tables table _ empty_fill fits.tables within in
     let count : length ((fill_at read table).entries ++ entry ∷ []) ≡ length (fill_at read table).entries + 1 = length-append (fill_at read table).entries (entry ∷ []) in
     record {
       tables = zip_set FitsFill g.tables read.tables table _ _ fits.tables within
           (record {
             size = rw count (room (table_at g table).size (length (fill_at read table).entries) open_);
+            no_keys = λ none. absurd (keyless (table_at g table).keys none keys);
             entries = All-push (FitsEntry (table_at g table)) (fill_at read table).entries entry fill.entries here;
             call = fill.call;
           });
       sessions = fits.sessions;
-      distinct = fits.distinct;
       colours = fits.colours;
     }
 
@@ -81,9 +87,8 @@ pub default_fits : (g : Signature) (read : Entries) (table : ℕ) (call : Defaul
 default_fits g read table call fits within here =
     let fill : FitsFill (table_at g table) (fill_at read table) = zip_get FitsFill g.tables read.tables table _ empty_fill fits.tables within in
     record {
-      tables = zip_set FitsFill g.tables read.tables table _ _ fits.tables within (record { size = fill.size; entries = fill.entries; call = here });
+      tables = zip_set FitsFill g.tables read.tables table _ _ fits.tables within (record { size = fill.size; no_keys = fill.no_keys; entries = fill.entries; call = here });
       sessions = fits.sessions;
-      distinct = fits.distinct;
       colours = fits.colours;
     }
 
@@ -115,11 +120,13 @@ distinct_push sessions session distinct new i j d within within' same =
     ]
 
 -- one more session
-pub session_fits : (g : Signature) (read : Entries) (session : Session) → Fits read g → has_session read.sessions session.number ≡ false → FitsSession session → Fits (with_session read session) g
+pub session_fits : (g : Signature) (read : Entries) (session : Session) → Fits read g → has_session read.sessions session.number ≡ false → IsSession session → Fits (with_session read session) g
 session_fits g read session fits new here = record {
   tables = fits.tables;
-  sessions = All-push FitsSession read.sessions session fits.sessions here;
-  distinct = distinct_push read.sessions session fits.distinct new;
+  sessions = record {
+    each = All-push IsSession read.sessions session fits.sessions.each here;
+    distinct = distinct_push read.sessions session fits.sessions.distinct new;
+  };
   colours = fits.colours;
 }
 
@@ -178,7 +185,6 @@ colours_fit g read meter words fits within is =
     record {
       tables = fits.tables;
       sessions = fits.sessions;
-      distinct = fits.distinct;
       colours = zip_set (λ (object : ObjectSig). FitsColours object.shape) g.objects read.colours meter _ _ fits.colours within
           (colours_push (object_at g meter).shape (colours_at read meter) (filter_map (number_up_to 2) words) is old (colours_small words));
     }

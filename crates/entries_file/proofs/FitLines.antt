@@ -1,5 +1,5 @@
 -- What an accepted text says fits.
-use Rattle.std.proofs.Common.{◌≡◌, ℕ, ◌+◌, Bool, true, false, not, cond, nat_eq, leb, List, [], ◌∷◌, length, refl, subst, arith, Option, Some, None, is_none, unwrap_or, Result, Ok, Err}
+use Rattle.std.proofs.Common.{◌≡◌, ℕ, ◌+◌, ◌<◌, Bool, true, false, not, cond, nat_eq, leb, List, [], ◌∷◌, length, refl, subst, arith, Option, Some, None, is_none, unwrap_or, Result, Ok, Err}
 use Rattle.std.specs.Prelude.{◌||◌}
 use Rattle.std.specs.Option.{option_map_or}
 use Rattle.std.specs.List.{list_any, filter_map}
@@ -7,20 +7,21 @@ use Rattle.std.specs.Str.Lines.{lines}
 use Rattle.std.proofs.lemmas.Bool.{or_parts}
 use Rattle.std.proofs.lemmas.Bool.Decides.{nat_tests}
 use Rattle.p4x_fault.specs.declared.Fault.{Fault}
-use Rattle.state_store.specs.declared.shapes.Session.{Session}
+use Rattle.state_store.specs.declared.ports.Session.{Session}
+use Rattle.state_store.specs.Ports.{greatest_port, greatest_session}
 use Rattle.match_core.specs.declared.signatures.KeySpec.{KeySpec}
 use Rattle.match_core.specs.declared.signatures.Signature.{Signature}
 use Rattle.match_core.specs.declared.entries.Entries.{Entries}
 use Rattle.match_core.specs.Fits.{Fits}
 use Rattle.entries_file.specs.declared.calls.Call.{Call}
-use Rattle.entries_file.specs.Lines.{words_of}
+use Rattle.text_lines.specs.Words.{words_of, is_comment}
 use Rattle.entries_file.specs.Numbers.{number_of, up_to, number_up_to}
-use Rattle.entries_file.specs.Forms.{Form, AddEntry, SetDefault, AddSession, AddColours, form_of, is_remark}
+use Rattle.entries_file.specs.Forms.{Form, AddEntry, SetDefault, AddSession, AddColours, form_of}
 use Rattle.entries_file.specs.Filling.{nothing, table_at, fill_at, with_entry, with_default, with_session, with_colours}
 use Rattle.entries_file.specs.Rules.{Tests, least_broken, entry_tests, default_tests, session_tests, colours_tests, has_wrong_keys, has_misformed, has_wide_key, has_wide_argument, has_wrong_arguments, priority_words, stands_twice, priority_of, lacks_priority, is_full, is_no_colour, has_session, is_wrong_session, arguments_of, entry_of, widths_of, meter_of, call_of}
 use Rattle.entries_file.specs.Reading.{Judgement, judged, judged_by, judge_call, judge_entry, judge_default, judge_session, judge_colours, judge_form, judge_words, judge_line, read_on, read_lines, entries_of}
 use Rattle.entries_file.proofs.FitKeys.{keys_fit}
-use Rattle.entries_file.proofs.FitCalls.{Called, called, call_fits, priority_fits, at_most}
+use Rattle.entries_file.proofs.FitCalls.{Called, called, call_fits, priority_fits, no_priority, at_most}
 use Rattle.entries_file.proofs.FitEntries.{nothing_fits, entry_fits, default_fits, session_fits, meter_is, colours_fit}
 
 -- the first rule isn't broken, and none of the others is
@@ -47,6 +48,11 @@ right_count : (specs : List KeySpec) (words : List (List ℕ)) → has_wrong_key
 right_count specs words right =
     let parts = or_parts (nat_eq (length specs) 0) (not (nat_eq (length words) (length specs))) right in
     equal (length words) (length specs) (right_count_by _ parts.1)
+
+-- a table without keys has no entries
+some_keys : (specs : List KeySpec) (words : List (List ℕ)) → has_wrong_keys specs words ≡ false → 0 < length specs
+some_keys [] words right = absurd (cc)
+some_keys (spec ∷ specs) words right = omega arith
 
 -- no rule of an entry is broken
 record Passes (count formed narrow fitting right new ranked open_ : Bool) : Type 0 where
@@ -84,10 +90,11 @@ entry_line_fits g read next keys behind call fits named is =
     let pass = passes (has_wrong_keys table.keys keys) (has_misformed table.keys keys) (has_wide_key table.keys keys) (has_wide_argument widths behind) (has_wrong_arguments widths (priority_words table.keys) behind)
     (stands_twice table.keys (fill_at read call.table) keys (priority_of table.keys (length widths) behind)) (lacks_priority (priority_of table.keys (length widths) behind)) (is_full table (fill_at read call.table)) whole.0 in
     subst (λ (e : Entries). Fits e g) whole.1
-    (entry_fits g read call.table (entry_of table.keys widths call.action keys behind) fits named.table pass.is_open
+    (entry_fits g read call.table (entry_of table.keys widths call.action keys behind) fits named.table pass.is_open (some_keys table.keys keys pass.right_count)
     (record {
       keys = keys_fit table.keys keys (right_count table.keys keys pass.right_count) pass.is_formed pass.is_narrow;
       priority = priority_fits table.keys (length widths) behind pass.is_ranked;
+      no_priority = no_priority table.keys (length widths) behind;
       call = call_fits g call (priority_words table.keys) behind named pass.is_fitting pass.is_right;
     }))
 
@@ -104,19 +111,19 @@ session_by sessions n true rest is = ((or_parts (has_session sessions n) rest is
 session_by sessions n false rest is = absurd (cc)
 
 -- the session that a line gives
-session_given : (sessions : List Session) (o : Option ℕ) (rest : Bool) → (option_map_or (has_session sessions) (up_to 32767 o) true || rest) ≡ false → (has_session sessions (unwrap_or (up_to 32767 o) 0) ≡ false) × (is_none (up_to 32767 o) ≡ false)
+session_given : (sessions : List Session) (o : Option ℕ) (rest : Bool) → (option_map_or (has_session sessions) (up_to greatest_session o) true || rest) ≡ false → (has_session sessions (unwrap_or (up_to greatest_session o) 0) ≡ false) × (is_none (up_to greatest_session o) ≡ false)
 session_given sessions None rest is = absurd (cc)
-session_given sessions (Some n) rest is = session_by sessions n (leb n 32767) rest is
+session_given sessions (Some n) rest is = session_by sessions n (leb n greatest_session) rest is
 
 session_line_fits : (g : Signature) (read next : Entries) (session port : List ℕ) → Fits read g → judge_session read session port ≡ Ok next → Fits next g
 session_line_fits g read next session port fits is =
-    let whole = accepted (session_tests read.sessions session port) (with_session read (record { number = unwrap_or (number_up_to 32767 session) 0; port = unwrap_or (number_up_to 510 port) 0 })) next is in
+    let whole = accepted (session_tests read.sessions session port) (with_session read (record { number = unwrap_or (number_up_to greatest_session session) 0; port = unwrap_or (number_up_to greatest_port port) 0 })) next is in
     let pass = unbroken_by 10 (is_wrong_session read.sessions session port) None whole.0 in
-    let given = session_given read.sessions (number_of session) (is_none (number_up_to 510 port)) pass.0 in
-    let parts = or_parts (option_map_or (has_session read.sessions) (number_up_to 32767 session) true) (is_none (number_up_to 510 port)) pass.0 in
+    let given = session_given read.sessions (number_of session) (is_none (number_up_to greatest_port port)) pass.0 in
+    let parts = or_parts (option_map_or (has_session read.sessions) (number_up_to greatest_session session) true) (is_none (number_up_to greatest_port port)) pass.0 in
     subst (λ (e : Entries). Fits e g) whole.1
-    (session_fits g read (record { number = unwrap_or (number_up_to 32767 session) 0; port = unwrap_or (number_up_to 510 port) 0 }) fits given.0
-    (at_most 32767 (number_of session) given.1, at_most 510 (number_of port) parts.1))
+    (session_fits g read (record { number = unwrap_or (number_up_to greatest_session session) 0; port = unwrap_or (number_up_to greatest_port port) 0 }) fits given.0
+    (record { number = at_most greatest_session (number_of session) given.1; port = at_most greatest_port (number_of port) parts.1 }))
 
 meter_given : (g : Signature) (read next : Entries) (word : List ℕ) (words : List (List ℕ)) (o : Option ℕ) → Fits read g → meter_of g word ≡ o → is_none o ≡ false → with_colours read (unwrap_or o 0) (filter_map (number_up_to 2) words) ≡ next → Fits next g
 meter_given g read next word words None fits found some is = absurd (cc)
@@ -154,7 +161,7 @@ remark_fits g read next false form fits is = form_fits g read next form fits is
 
 words_fit : (g : Signature) (read next : Entries) (words : List (List ℕ)) → Fits read g → judge_words g read words ≡ Ok next → Fits next g
 words_fit g read next [] fits is = kept_fits g read next fits is
-words_fit g read next (first ∷ words) fits is = remark_fits g read next (is_remark first) (form_of first words) fits is
+words_fit g read next (first ∷ words) fits is = remark_fits g read next (is_comment first) (form_of first words) fits is
 
 line_fits : (g : Signature) (read next : Entries) (line : List ℕ) → Fits read g → judge_line g read line ≡ Ok next → Fits next g
 unfolding judge_line

@@ -7,7 +7,8 @@ use Rattle.match_core.specs.declared.signatures.KeySpec.{KeySpec}
 use Rattle.match_core.specs.declared.entries.KeyMatch.{KeyMatch}
 use Rattle.entries_file.specs.declared.key_forms.KeyRead.{KeyRead}
 use Rattle.entries_file.specs.declared.key_forms.KeyRead.TheVariants.{Misformed, TooWide, Key}
-use Rattle.entries_file.specs.KeyForms.{key_fits, key_of, keys_of, read_as}
+use Rattle.entries_file.specs.KeyForms.{key_fits, key_of, keys_of}
+use Rattle.entries_file.specs.internal.Kept.{read_as}
 use Rattle.entries_file.specs.Rules.{has_misformed, is_wide_key, has_wide_key}
 
 -- a key that is read

@@ -1,6 +1,5 @@
 pub mod Digits
-pub mod Cuts
-pub mod Limbs
+pub mod CutLaws
 pub mod KeyLaws
 pub mod ArgumentLaws
 pub mod NameLaws

@@ -13,9 +13,9 @@ use Rattle.std.proofs.lemmas.List.Folds.{position_or_len_push}
 use Rattle.std.proofs.lemmas.List.Sums.{prefix_len-le-length}
 use Rattle.std.proofs.lemmas.List.Quantifiers.{position-Some}
 use Rattle.std.proofs.lemmas.Map.Lookups.{exact_bytes}
-use Rattle.match_core.specs.Index.{IsPut}
+use Rattle.entries_file.specs.internal.Drafts.{IsPut}
 use Rattle.entries_file.specs.Rules.{has_name, place_of}
-use Rattle.entries_file.specs.Drafts.{name_found, IsNameIndex}
+use Rattle.entries_file.specs.internal.Drafts.{name_found, IsNameIndex}
 
 -- the first of two that is there
 abbrev pub first_of : Option ℕ → Option ℕ → Option ℕ

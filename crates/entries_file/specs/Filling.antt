@@ -1,6 +1,6 @@
 -- What was read so far, and what a line adds to it.
 use Rattle.std.specs.Prelude.{ℕ, ◌++◌, List, [], ◌∷◌, length, replicate, slice_index_or, slice_set, Some, None}
-use Rattle.state_store.specs.declared.shapes.Session.{Session}
+use Rattle.state_store.specs.declared.ports.Session.{Session}
 use Rattle.match_core.specs.declared.signatures.TableSig.{TableSig}
 use Rattle.match_core.specs.declared.signatures.Signature.{Signature}
 use Rattle.match_core.specs.declared.entries.Entry.{Entry}

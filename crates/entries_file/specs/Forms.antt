@@ -1,8 +1,7 @@
 -- The forms of the lines of an entries file (this project's own).
 use Rattle.std.specs.Prelude.{ℕ, ◌+◌, Bool, List, [], ◌∷◌, take, drop, position, codes, nat_eq, if◌then◌else◌, Option, Some, None}
-use Rattle.std.specs.List.{starts_with}
 use Rattle.std.specs.Str.{bytes_eq}
-use Rattle.entries_file.specs.Lines.{Word}
+use Rattle.text_lines.specs.Words.{Word}
 
 -- what a line says
 pub data Form : Type 0 where
@@ -51,7 +50,3 @@ form_of first words =
     else (if bytes_eq first (codes "mirroring_add") then session_form words
     else (if bytes_eq first (codes "meter_colours") then colours_form words
     else None)))
-
--- a line whose first word begins with `#` says nothing
-abbrev pub is_remark : Word → Bool
-is_remark first = starts_with nat_eq first (codes "#")

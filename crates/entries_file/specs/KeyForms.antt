@@ -7,9 +7,8 @@ use Rattle.match_core.specs.declared.signatures.KeyKind.TheVariants as kind
 use Rattle.match_core.specs.declared.signatures.KeySpec.{KeySpec}
 use Rattle.match_core.specs.declared.entries.KeyMatch.{KeyMatch}
 use Rattle.match_core.specs.declared.entries.KeyMatch.TheVariants.{Exact, Ternary, Lpm, Range}
-use Rattle.entries_file.specs.declared.key_forms.KeyRead.{KeyRead}
-use Rattle.entries_file.specs.declared.key_forms.KeyRead.TheVariants.{Misformed, TooWide, Key}
-use Rattle.entries_file.specs.Lines.{Word, cut}
+use Rattle.text_lines.specs.Words.{Word}
+use Rattle.entries_file.specs.Cuts.{cut}
 use Rattle.entries_file.specs.Numbers.{number_of, decimal_of, fits}
 
 -- the number of a key of one bit that is written as a truth value
@@ -52,25 +51,8 @@ key_fits width (Ternary value mask) = fits width value && fits width mask
 key_fits width (Lpm value bits) = fits width value && nat_le bits width
 key_fits width (Range low high) = fits width low && fits width high
 
--- what a key is: of no form of its kind, too wide, or this key
-abbrev pub read_as : ℕ → Option KeyMatch → KeyRead
-read_as width None = Misformed
-read_as width (Some key) = if key_fits width key then Key key else TooWide
-
 -- the keys that words are
 abbrev pub keys_of : List KeySpec → List Word → List KeyMatch
 keys_of [] words = []
 keys_of (spec ∷ specs) [] = []
 keys_of (spec ∷ specs) (word ∷ words) = option_to_list (key_of spec word) ++ keys_of specs words
-
--- What counts of a key when two are compared: a value on its mask, and the mask; a prefix, and its length.
-abbrev pub counted : ℕ → KeyMatch → List ℕ
-counted width (Exact value) = value ∷ 0 ∷ []
-counted width (Ternary value mask) = bit_and value mask ∷ mask ∷ []
-counted width (Lpm value bits) = value / 2 ^ (width - bits) ∷ bits ∷ []
-counted width (Range low high) = low ∷ high ∷ []
-
-abbrev pub counted_all : List KeySpec → List KeyMatch → List ℕ
-counted_all [] keys = []
-counted_all (spec ∷ specs) [] = []
-counted_all (spec ∷ specs) (key ∷ keys) = counted spec.width key ++ counted_all specs keys

@@ -3,14 +3,16 @@ use Rattle.std.specs.Prelude.{◌≡◌, ℕ, ◌+◌, List, [], ◌∷◌, filt
 use Rattle.std.specs.Str.Lines.{lines}
 use Rattle.p4x_fault.specs.declared.Rule.TheVariants.{E}
 use Rattle.p4x_fault.specs.declared.Fault.{Fault}
+use Rattle.state_store.specs.Ports.{greatest_port, greatest_session}
 use Rattle.match_core.specs.declared.signatures.Signature.{Signature}
 use Rattle.match_core.specs.declared.entries.Entries.{Entries}
 use Rattle.entries_file.specs.declared.calls.Call.{Call}
 use Rattle.entries_file.specs.declared.fault.EntryFault.{EntryFault}
 use Rattle.entries_file.specs.declared.fault.EntryFault.TheVariants.{Memory, Refused}
-use Rattle.entries_file.specs.Lines.{Word, words_of}
+use Rattle.text_lines.specs.Words.{Word, words_of, is_comment}
+use Rattle.text_lines.specs.Places.{at_line}
 use Rattle.entries_file.specs.Numbers.{number_up_to}
-use Rattle.entries_file.specs.Forms.{Form, AddEntry, SetDefault, AddSession, AddColours, form_of, is_remark}
+use Rattle.entries_file.specs.Forms.{Form, AddEntry, SetDefault, AddSession, AddColours, form_of}
 use Rattle.entries_file.specs.Filling.{nothing, table_at, fill_at, with_entry, with_default, with_session, with_colours}
 use Rattle.entries_file.specs.Rules.{Tests, least_broken, call_of, meter_of, widths_of, entry_tests, default_tests, session_tests, colours_tests, arguments_of, entry_of}
 
@@ -43,7 +45,7 @@ judge_default g read arguments call =
 abbrev pub judge_session : Entries → Word → Word → Judgement
 judge_session read session port =
     judged_by (session_tests read.sessions session port)
-    (with_session read (record { number = unwrap_or (number_up_to 32767 session) 0; port = unwrap_or (number_up_to 510 port) 0 }))
+    (with_session read (record { number = unwrap_or (number_up_to greatest_session session) 0; port = unwrap_or (number_up_to greatest_port port) 0 }))
 
 abbrev pub judge_colours : Signature → Entries → Word → List Word → Judgement
 judge_colours g read meter colours =
@@ -58,17 +60,17 @@ judge_form g read (Some (SetDefault table action arguments)) = judge_call (call_
 judge_form g read (Some (AddSession session port)) = judge_session read session port
 judge_form g read (Some (AddColours meter colours)) = judge_colours g read meter colours
 
--- a line without words, and one that begins with `#`, says nothing
+-- a line without words says nothing, and neither does a comment
 abbrev pub judge_words : Signature → Entries → List Word → Judgement
 judge_words g read [] = Ok read
-judge_words g read (first ∷ words) = if is_remark first then Ok read else judge_form g read (form_of first words)
+judge_words g read (first ∷ words) = if is_comment first then Ok read else judge_form g read (form_of first words)
 
 unfoldable pub judge_line : Signature → Entries → List ℕ → Judgement
 judge_line g read line = judge_words g read (words_of line)
 
 -- a broken rule by its number, and the line that breaks it
 abbrev pub fault_at : ℕ → ℕ → Fault
-fault_at line rule = record { rule = E rule; place = Some (record { line = line; column = 1 }) }
+fault_at line rule = at_line (E rule) line
 
 abbrev pub read_on : ℕ → Judgement → (Entries → Result Entries Fault) → Result Entries Fault
 read_on line (Ok next) rest = rest next

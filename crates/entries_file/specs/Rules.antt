@@ -6,7 +6,8 @@ use Rattle.std.specs.List.{list_any, filter_map}
 use Rattle.std.specs.Str.{bytes_eq}
 use Rattle.state_store.specs.declared.shapes.Shape.{Shape}
 use Rattle.state_store.specs.declared.shapes.Shape.TheVariants.{Counter, Direct, Register, Meter}
-use Rattle.state_store.specs.declared.shapes.Session.{Session}
+use Rattle.state_store.specs.declared.ports.Session.{Session}
+use Rattle.state_store.specs.Ports.{greatest_port, greatest_session}
 use Rattle.match_core.specs.declared.signatures.KeySpec.{KeySpec}
 use Rattle.match_core.specs.declared.signatures.ActionSig.{ActionSig}
 use Rattle.match_core.specs.declared.signatures.TableSig.{TableSig}
@@ -16,12 +17,11 @@ use Rattle.match_core.specs.declared.entries.Entry.{Entry}
 use Rattle.match_core.specs.declared.entries.TableFill.{TableFill}
 use Rattle.match_core.specs.Matching.{by_priority}
 use Rattle.match_core.specs.Fits.{action_at}
-use Rattle.entries_file.specs.declared.arguments.ArgumentRead.{ArgumentRead}
-use Rattle.entries_file.specs.declared.arguments.ArgumentRead.TheVariants.{NoNumber, TooWide, Argument}
+use Rattle.match_core.specs.Identity.{counted_all, identity}
 use Rattle.entries_file.specs.declared.calls.Call.{Call}
-use Rattle.entries_file.specs.Lines.{Word}
+use Rattle.text_lines.specs.Words.{Word}
 use Rattle.entries_file.specs.Numbers.{number_of, number_up_to, fits}
-use Rattle.entries_file.specs.KeyForms.{key_of, key_fits, keys_of, counted_all}
+use Rattle.entries_file.specs.KeyForms.{key_of, key_fits, keys_of}
 use Rattle.entries_file.specs.Filling.{table_at}
 
 -- names
@@ -94,11 +94,6 @@ has_wide_argument [] words = false
 has_wide_argument (width ∷ widths) [] = false
 has_wide_argument (width ∷ widths) (word ∷ words) = is_wide_argument width word || has_wide_argument widths words
 
--- what a word is as an argument: no number, too wide, or this number
-abbrev pub argument_as : ℕ → Option ℕ → ArgumentRead
-argument_as width None = NoNumber
-argument_as width (Some number) = if fits width number then Argument number else TooWide
-
 -- E7: there are fewer words than arguments, or more than these and so many others, or an argument is no
 -- number
 abbrev pub is_no_number : Word → Bool
@@ -118,9 +113,6 @@ priority_of specs arguments words = if by_priority specs then option_and_then (n
 
 -- E8: an entry of the table has the same priority and the same keys, where a value counts on its mask or
 -- its prefix
-abbrev pub identity : List KeySpec → Entry → List ℕ
-identity specs entry = entry.priority ∷ counted_all specs entry.keys
-
 abbrev pub has_same : List KeySpec → TableFill → List ℕ → Bool
 has_same specs fill same = list_any (λ (entry : Entry). bytes_eq (identity specs entry) same) fill.entries
 
@@ -136,13 +128,13 @@ lacks_priority priority = is_none priority
 abbrev pub is_full : TableSig → TableFill → Bool
 is_full table fill = nat_le table.size (length fill.entries)
 
--- E10: the session isn't a number up to 32,767 or was given before, or its port isn't one up to 510
+-- E10: the session isn't a number up to the greatest or was given before, or its port isn't one up to the greatest
 abbrev pub has_session : List Session → ℕ → Bool
 has_session sessions number = list_any (λ (session : Session). session.number == number) sessions
 
 abbrev pub is_wrong_session : List Session → Word → Word → Bool
 is_wrong_session sessions session port =
-    option_map_or (has_session sessions) (number_up_to 32767 session) true || is_none (number_up_to 510 port)
+    option_map_or (has_session sessions) (number_up_to greatest_session session) true || is_none (number_up_to greatest_port port)
 
 -- E11: the program has no meter of that name, or a colour isn't 0, 1 or 2
 abbrev pub is_no_colour : Word → Bool
@@ -163,15 +155,6 @@ key_tests specs keys = (5, has_misformed specs keys) ∷ (6, has_wide_key specs 
 
 abbrev pub argument_tests : List ℕ → ℕ → List Word → Tests
 argument_tests widths others words = (6, has_wide_argument widths words) ∷ (7, has_wrong_arguments widths others words) ∷ []
-
--- the rules of an entry that don't ask for those before it
-abbrev pub form_tests : List KeySpec → List ℕ → List Word → List Word → Tests
-form_tests specs widths keys behind =
-    (4, has_wrong_keys specs keys)
-    ∷ key_tests specs keys
-    ++ argument_tests widths (priority_words specs) behind
-    ++ (9, lacks_priority (priority_of specs (length widths) behind))
-    ∷ []
 
 -- the rules of a `table_add` whose table and action are known, in order
 abbrev pub entry_tests : TableSig → List ℕ → TableFill → List Word → List Word → Tests

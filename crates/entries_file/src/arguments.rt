@@ -1,35 +1,19 @@
 // The words behind the keys of an entry: arguments and a priority.
 ghost use Rattle.std.specs.Prelude.{◌≡◌, ◌∷◌, ◌+◌, [], map, nat_lt, ◌||◌};
 ghost use Rattle.std.specs.List.{list_any, filter_map};
-ghost use Rattle.match_core.specs.Matching as matching;
 ghost use Rattle.entries_file.specs.Numbers as numbers;
 ghost use Rattle.entries_file.specs.Rules as rules;
-ghost use Rattle.entries_file.specs.Staged.{Stage};
+ghost use Rattle.entries_file.specs.internal.Kept as kept;
+ghost use Rattle.entries_file.specs.internal.Staged.{Stage};
 
 use crate::fault::Stop;
 use crate::numerals::{fitted, number_up_to, read_number};
-use match_core::{KeyKind, KeySpec};
+use match_core::{KeySpec, by_priority};
 use p4x_bits::Numbers;
 use std::alloc::Global;
 
 /// The greatest priority.
 const MOST_PRIORITY: u128 = 2147483647;
-
-fn has_priority(kind: KeyKind) -> bool
-    ensures { result ≡ matching.has_priority kind }
-{
-    match kind {
-        KeyKind::Exact | KeyKind::Lpm => false,
-        KeyKind::Ternary | KeyKind::Range => true,
-    }
-}
-
-/// Whether the entries of a table have priorities.
-fn by_priority(specs: &[KeySpec]) -> bool
-    ensures { result ≡ matching.by_priority specs.now }
-{
-    specs.iter().any(|spec| has_priority(spec.kind))
-}
 
 /// How many words may stand behind the arguments of an entry.
 pub fn priority_words(specs: &[KeySpec]) -> usize
@@ -50,7 +34,7 @@ pub enum ArgumentRead {
 }
 
 fn read_argument(width: u128, word: &[u8]) -> ArgumentRead
-    ensures { result ≡ rules.argument_as width (numbers.number_of word.now) }
+    ensures { result ≡ kept.argument_as width (numbers.number_of word.now) }
 {
     match read_number(word) {
         None => ArgumentRead::NoNumber,

@@ -2,7 +2,7 @@
 ghost use Rattle.std.specs.Prelude.{◌≡◌, ◌<◌, length, map, IfOk, IfSome};
 ghost use Rattle.entries_file.specs.Rules as rules;
 ghost use Rattle.entries_file.specs.Filling.{table_at};
-ghost use Rattle.entries_file.specs.Drafts.{IsNameIndex, AreActionIndexes, IsNames};
+ghost use Rattle.entries_file.specs.internal.Drafts.{IsNameIndex, AreActionIndexes, IsNames};
 
 use crate::name_index::{NameIndex, index_of};
 use match_core::{Signature, TableSig};

@@ -1,16 +1,17 @@
 // What was read so far.
 ghost use Rattle.std.specs.Prelude.{◌≡◌, ◌+◌, ◌-◌, ◌/◌, ◌^◌, ◌<◌, [], ◌∷◌, length, replicate, map, IfOk, OnOk, Some, None};
-ghost use Rattle.entries_file.specs.KeyForms as forms;
+ghost use Rattle.match_core.specs.Identity.{identity};
 ghost use Rattle.entries_file.specs.Rules as rules;
 ghost use Rattle.entries_file.specs.Filling as filling;
-ghost use Rattle.entries_file.specs.Staged.{Stage};
-ghost use Rattle.entries_file.specs.Drafts.{drafted, IsDraft, IsDraftOf};
+ghost use Rattle.entries_file.specs.internal.Staged.{Stage};
+ghost use Rattle.entries_file.specs.internal.Drafts.{drafted, IsDraft, IsDraftOf};
 
 use crate::fault::Stop;
 use match_core::{
-    DefaultCall, Entries, Entry, Key, KeyMatch, KeySpec, Session, Signature, TableFill,
+    DefaultCall, Entries, Entry, Key, KeySpec, Signature, TableFill, push_identity,
 };
 use p4x_bits::{Numbers, OutOfMemory, Rows};
+use state_store::Session;
 use std::alloc::Global;
 use std::collections::BTreeSet;
 
@@ -46,28 +47,6 @@ fn no_colours(alloc: Global, count: usize) -> Result<Vec<Numbers>, OutOfMemory>
     Ok(lists)
 }
 
-/// A number without so many of its low bits.
-fn high_bits(value: u128, low: u8) -> u128
-    ensures { result ≡ value / 2 ^ low }
-{
-    if low < 128 { value >> low } else { 0 }
-}
-
-/// What counts of a key: a value on its mask, and the mask; a prefix, and its length.
-fn counted(width: u8, key: KeyMatch) -> (u128, u128)
-    ensures { forms.counted width key ≡ result.0 ∷ result.1 ∷ [] }
-{
-    match key {
-        KeyMatch::Exact(value) => (value, 0),
-        KeyMatch::Ternary { value, mask } => (value & mask, mask),
-        KeyMatch::Lpm { value, length } => {
-            let low = width.saturating_sub(length);
-            (high_bits(value, low), u128::from(length))
-        }
-        KeyMatch::Range { low, high } => (low, high),
-    }
-}
-
 /// What tells an entry of a table from every other entry of the program.
 fn identity(
     alloc: Global,
@@ -75,17 +54,11 @@ fn identity(
     specs: &[KeySpec],
     entry: &Entry,
 ) -> Result<Key, OutOfMemory>
-    ensures { IfOk result (λ key. key ≡ table ∷ rules.identity specs.now entry.now) }
+    ensures { IfOk result (λ key. key ≡ table ∷ identity specs.now entry.now) }
 {
     let mut key = Key::new(alloc);
     key.push(table as u128)?;
-    key.push(u128::from(entry.priority))?;
-    let ones = entry.keys.as_slice();
-    for i in 0..specs.len().min(ones.len()) {
-        let (first, second) = counted(specs[i].width, ones[i]);
-        key.push(first)?;
-        key.push(second)?;
-    }
+    push_identity(&mut key, specs, entry)?;
     Ok(key)
 }
 
@@ -134,7 +107,7 @@ impl Draft {
         requires draft { IsDraft signature.now self.old }
         ensures { let sig = filling.table_at signature.now table in
             let fill = filling.fill_at (drafted self.old) table in
-            Stage ((8, rules.has_same sig.keys fill (rules.identity sig.keys entry)) ∷ (12, rules.is_full sig fill) ∷ [])
+            Stage ((8, rules.has_same sig.keys fill (identity sig.keys entry)) ∷ (12, rules.is_full sig fill) ∷ [])
             (λ _. IsDraftOf signature.now (filling.with_entry (drafted self.old) table entry) self.new) result }
     {
         let sig = &signature.tables.as_slice()[table];

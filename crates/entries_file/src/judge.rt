@@ -6,8 +6,8 @@ ghost use Rattle.entries_file.specs.Forms as forms;
 ghost use Rattle.entries_file.specs.Filling as filling;
 ghost use Rattle.entries_file.specs.Rules as rules;
 ghost use Rattle.entries_file.specs.Reading as reading;
-ghost use Rattle.entries_file.specs.Staged.{Stage};
-ghost use Rattle.entries_file.specs.Drafts.{drafted, IsDraft, IsJudged, IsNames};
+ghost use Rattle.entries_file.specs.internal.Staged.{Stage, form_tests};
+ghost use Rattle.entries_file.specs.internal.Drafts.{drafted, IsDraft, IsJudged, IsNames};
 
 use crate::arguments::{priority_of, priority_words, read_arguments, read_colours};
 use crate::calls::{Call, Names};
@@ -15,9 +15,10 @@ use crate::draft::Draft;
 use crate::fault::Stop;
 use crate::key_forms::read_keys;
 use crate::numerals::number_up_to;
-use crate::words::words;
-use match_core::{DefaultCall, Entry, Session, Signature, TableSig};
+use match_core::{DefaultCall, Entry, Signature, TableSig};
+use state_store::{GREATEST_PORT, GREATEST_SESSION, Session};
 use std::alloc::Global;
+use text_lines::{is_comment, words};
 
 /// What a line of each form begins with.
 const TABLE_ADD: &[u8] = b"table_add";
@@ -44,13 +45,6 @@ fn arrow(words: &[&[u8]]) -> Option<usize>
     None
 }
 
-/// Whether a line whose first word this is says nothing.
-fn is_remark(first: &[u8]) -> bool
-    ensures { result ≡ forms.is_remark first.now }
-{
-    first.starts_with(b"#")
-}
-
 /// The number of an action as entries keep it.
 fn action_number(action: usize) -> Result<u32, Stop>
     ensures same { IfOk result (λ number. number ≡ action) }
@@ -75,7 +69,7 @@ fn entry_of(
         let widths = (action_at table.now action).widths in
         let keys = map (λ word. word.now) keys.now in
         let words = map (λ word. word.now) behind.now in
-        Stage (rules.form_tests specs widths keys words) (λ entry. entry ≡ rules.entry_of specs widths action keys words) result }
+        Stage (form_tests specs widths keys words) (λ entry. entry ≡ rules.entry_of specs widths action keys words) result }
 {
     let specs = table.keys.as_slice();
     let widths = table.actions.as_slice()[action].widths.as_slice();
@@ -126,7 +120,7 @@ fn judge_words(
     match words {
         [] => Ok(()),
         [first, rest @ ..] => {
-            if is_remark(first) {
+            if is_comment(first) {
                 return Ok(());
             }
             judge_form(alloc, signature, names, draft, first, rest)
@@ -263,10 +257,10 @@ fn judge_session(
     requires draft { IsDraft signature.now draft.old }
     ensures { IsJudged signature.now (reading.judge_session (drafted draft.old) session.now port.now) draft.new result }
 {
-    let Some(number) = number_up_to(32767, session) else {
+    let Some(number) = number_up_to(u128::from(GREATEST_SESSION), session) else {
         return Err(Stop::Broken(10));
     };
-    let Some(port) = number_up_to(510, port) else {
+    let Some(port) = number_up_to(u128::from(GREATEST_PORT), port) else {
         return Err(Stop::Broken(10));
     };
     let number = number as u32;

@@ -3,12 +3,12 @@ ghost use Rattle.std.specs.Prelude.{◌≡◌, ℕ, length, map, nat_lt, false, 
 ghost use Rattle.entries_file.specs.Numbers as numbers;
 ghost use Rattle.entries_file.specs.KeyForms as forms;
 ghost use Rattle.entries_file.specs.Rules as rules;
-ghost use Rattle.entries_file.specs.Staged.{Stage};
+ghost use Rattle.entries_file.specs.internal.Kept as kept;
+ghost use Rattle.entries_file.specs.internal.Staged.{Stage};
 
 use crate::fault::Stop;
-use crate::numerals::{Number, fitted, read_decimal, read_number};
-use crate::wide::is_over;
-use crate::words::cut;
+use crate::cuts::cut;
+use crate::numerals::{Number, fitted, is_over, read_decimal, read_number};
 use match_core::{KeyKind, KeyMatch, KeySpec};
 use p4x_bits::{OutOfMemory, Rows};
 use std::alloc::Global;
@@ -42,7 +42,7 @@ fn truth(width: u8, word: &[u8]) -> Option<u128>
 }
 
 fn read_exact(width: u8, word: &[u8]) -> KeyRead
-    ensures { result ≡ forms.read_as width (forms.key_by KeyKind.Exact width word.now) }
+    ensures { result ≡ kept.read_as width (forms.key_by KeyKind.Exact width word.now) }
 {
     match read_number(word) {
         Some(value) => match fitted(u128::from(width), value) {
@@ -57,7 +57,7 @@ fn read_exact(width: u8, word: &[u8]) -> KeyRead
 }
 
 fn read_ternary(width: u8, word: &[u8]) -> KeyRead
-    ensures { result ≡ forms.read_as width (forms.key_by KeyKind.Ternary width word.now) }
+    ensures { result ≡ kept.read_as width (forms.key_by KeyKind.Ternary width word.now) }
 {
     let Some((value, mask)) = cut(b"&&&", word) else {
         return KeyRead::Misformed;
@@ -76,7 +76,7 @@ fn read_ternary(width: u8, word: &[u8]) -> KeyRead
 
 /// The length of a prefix, if it isn't over the width.
 fn prefix_length(width: u8, length: Number) -> Option<u8>
-    ensures { (written : ℕ) → length ≡ numbers.kept written → result ≡ numbers.up_to width (Some written) }
+    ensures { (written : ℕ) → length ≡ kept.kept written → result ≡ numbers.up_to width (Some written) }
 {
     match length {
         Number::Small(length) if length <= u128::from(width) => Some(length as u8),
@@ -85,7 +85,7 @@ fn prefix_length(width: u8, length: Number) -> Option<u8>
 }
 
 fn read_lpm(width: u8, word: &[u8]) -> KeyRead
-    ensures { result ≡ forms.read_as width (forms.key_by KeyKind.Lpm width word.now) }
+    ensures { result ≡ kept.read_as width (forms.key_by KeyKind.Lpm width word.now) }
 {
     let Some((value, length)) = cut(b"/", word) else {
         return KeyRead::Misformed;
@@ -103,7 +103,7 @@ fn read_lpm(width: u8, word: &[u8]) -> KeyRead
 }
 
 fn read_range(alloc: Global, width: u8, word: &[u8]) -> Result<KeyRead, OutOfMemory>
-    ensures { IfOk result (λ read. read ≡ forms.read_as width (forms.key_by KeyKind.Range width word.now)) }
+    ensures { IfOk result (λ read. read ≡ kept.read_as width (forms.key_by KeyKind.Range width word.now)) }
 {
     let Some((low, high)) = cut(b"->", word) else {
         return Ok(KeyRead::Misformed);
@@ -119,7 +119,7 @@ fn read_range(alloc: Global, width: u8, word: &[u8]) -> Result<KeyRead, OutOfMem
 
 /// A range of two numbers, the first of which isn't over the second.
 fn range(width: u8, low: Number, high: Number) -> KeyRead
-    ensures { (a b : ℕ) → low ≡ numbers.kept a → high ≡ numbers.kept b → nat_lt b a ≡ false → result ≡ forms.read_as width (forms.range_of a b) }
+    ensures { (a b : ℕ) → low ≡ kept.kept a → high ≡ kept.kept b → nat_lt b a ≡ false → result ≡ kept.read_as width (forms.range_of a b) }
 {
     match (
         fitted(u128::from(width), low),
@@ -132,7 +132,7 @@ fn range(width: u8, low: Number, high: Number) -> KeyRead
 
 /// What a word is as a key.
 fn read_key(alloc: Global, spec: KeySpec, word: &[u8]) -> Result<KeyRead, OutOfMemory>
-    ensures { IfOk result (λ read. read ≡ forms.read_as spec.width (forms.key_of spec word.now)) }
+    ensures { IfOk result (λ read. read ≡ kept.read_as spec.width (forms.key_of spec word.now)) }
 {
     match spec.kind {
         KeyKind::Exact => Ok(read_exact(spec.width, word)),

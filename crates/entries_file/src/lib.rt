@@ -4,6 +4,7 @@
 
 mod arguments;
 mod calls;
+mod cuts;
 mod draft;
 mod fault;
 mod judge;
@@ -11,11 +12,6 @@ mod key_forms;
 mod name_index;
 mod numerals;
 mod reader;
-mod wide;
-mod words;
 
 pub use fault::EntryFault;
 pub use reader::read_entries;
-
-#[cfg(test)]
-mod tests;

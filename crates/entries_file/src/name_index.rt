@@ -1,9 +1,9 @@
 // Names are found in a map.
 ghost use Rattle.std.specs.Prelude.{◌≡◌, ℕ, List, Option, map, IfOk, OnOk};
 ghost use Rattle.std.specs.Option.{option_map};
-ghost use Rattle.match_core.specs.Index.{IsPut};
+ghost use Rattle.entries_file.specs.internal.Drafts.{IsPut};
 ghost use Rattle.entries_file.specs.Rules.{place_of};
-ghost use Rattle.entries_file.specs.Drafts.{IsNameIndex};
+ghost use Rattle.entries_file.specs.internal.Drafts.{IsNameIndex};
 
 use match_core::{ActionSig, ObjectSig, TableSig};
 use p4x_bits::OutOfMemory;

@@ -1,19 +1,14 @@
 // Numbers.
-ghost use Rattle.std.specs.Prelude.{◌≡◌, ◌<◌, ◌≤◌, ◌^◌, ◌*◌, ◌+◌, ◌-◌, ℕ, length, drop, IfSome, Some};
+ghost use Rattle.std.specs.Prelude.{◌≡◌, ◌<◌, ◌≤◌, ℕ, length, drop, nat_lt, IfOk, IfSome, IsTrue, Some};
 ghost use Rattle.std.specs.Option.{option_map};
-ghost use Rattle.std.specs.List.{list_all};
+ghost use Rattle.text_lines.specs.Numbers.{are_digits, value_of};
 ghost use Rattle.entries_file.specs.Numbers as numbers;
-ghost use Rattle.entries_file.specs.Numbers.{FitsIn128};
+ghost use Rattle.entries_file.specs.internal.Kept as kept;
 
-use crate::words::{cut, is_some_word};
-
-/// The base that a number is written in.
-#[derive(Clone, Copy, Debug, PartialEq, Eq)]
-pub enum Base {
-    Binary,
-    Decimal,
-    Hexadecimal,
-}
+use crate::cuts::cut;
+use p4x_bits::OutOfMemory;
+use std::alloc::Global;
+use text_lines::{Base, are_digits};
 
 /// What is kept of a whole number.
 #[derive(Clone, Copy, Debug, PartialEq, Eq)]
@@ -24,56 +19,11 @@ pub enum Number {
     Large,
 }
 
-fn radix(base: Base) -> u128
-    ensures { result ≡ numbers.radix base }
-{
-    match base {
-        Base::Binary => 2,
-        Base::Decimal => 10,
-        Base::Hexadecimal => 16,
-    }
-}
-
-fn is_digit(base: Base, octet: u8) -> bool
-    ensures { result ≡ numbers.is_digit base octet }
-{
-    match base {
-        Base::Binary => matches!(octet, b'0'..=b'1'),
-        Base::Decimal => matches!(octet, b'0'..=b'9'),
-        Base::Hexadecimal => matches!(octet, b'0'..=b'9')
-            || matches!(octet, b'A'..=b'F' | b'a'..=b'f'),
-    }
-}
-
-/// What a digit stands for.
-pub fn digit_value(digit: u8) -> u8
-    ensures { result ≡ numbers.digit_value digit }
-{
-    if digit >= b'a' {
-        digit - b'a' + 10
-    } else if digit >= b'A' {
-        digit - b'A' + 10
-    } else {
-        digit.saturating_sub(b'0')
-    }
-}
-
-fn only_digits(base: Base, word: &[u8]) -> bool
-    ensures { result ≡ list_all (numbers.is_digit base) word.now }
-{
-    word.iter().all(|octet| is_digit(base, *octet))
-}
-
-fn are_digits(base: Base, word: &[u8]) -> bool
-    ensures { result ≡ numbers.are_digits base word.now }
-{
-    is_some_word(word) && only_digits(base, word)
-}
-
 /// The base of a word that is a number in digits.
-pub fn base_of(word: &[u8]) -> Option<Base>
+fn base_of(word: &[u8]) -> Option<Base>
     ensures is { result ≡ numbers.base_of word.now }
     ensures within { IfSome result (λ base. numbers.prefix_size base ≤ length word.now) }
+    ensures digits { IfSome result (λ base. IsTrue (are_digits base (drop (numbers.prefix_size base) word.now))) }
 {
     if are_digits(Base::Decimal, word) {
         Some(Base::Decimal)
@@ -87,7 +37,7 @@ pub fn base_of(word: &[u8]) -> Option<Base>
 }
 
 /// The digits of a number of this base.
-pub fn digits_of(base: Base, word: &[u8]) -> &[u8]
+fn digits_of(base: Base, word: &[u8]) -> &[u8]
     requires { numbers.prefix_size base ≤ length word.now }
     ensures { result.now ≡ drop (numbers.prefix_size base) word.now }
 {
@@ -97,31 +47,12 @@ pub fn digits_of(base: Base, word: &[u8]) -> &[u8]
     }
 }
 
-/// The value of digits and one more behind them, or none over 128 bits.
-fn with_digit(base: Base, value: Option<u128>, digit: u8) -> Option<u128>
-    ensures { (number : ℕ) → FitsIn128 number value → FitsIn128 (numbers.with_digit base number digit) result }
+/// What is kept of the number that digits stand for.
+fn kept(base: Base, digits: &[u8]) -> Number
+    requires { IsTrue (are_digits base digits.now) }
+    ensures { result ≡ kept.kept (value_of base digits.now) }
 {
-    value?
-        .checked_mul(radix(base))?
-        .checked_add(u128::from(digit_value(digit)))
-}
-
-/// What digits stand for, the highest first, or none over 128 bits.
-fn value_of(base: Base, digits: &[u8]) -> Option<u128>
-    ensures { FitsIn128 (numbers.value_of base digits.now) result }
-{
-    let mut value = Some(0);
-    for digit in digits {
-        value = with_digit(base, value, *digit);
-    }
-    value
-}
-
-/// A number of at most 128 bits, or what is kept of one of more.
-fn kept(value: Option<u128>) -> Number
-    ensures { (number : ℕ) → FitsIn128 number value → result ≡ numbers.kept number }
-{
-    match value {
+    match text_lines::number_up_to(base, digits, u128::MAX) {
         Some(value) => Number::Small(value),
         None => Number::Large,
     }
@@ -129,10 +60,10 @@ fn kept(value: Option<u128>) -> Number
 
 /// A number of decimal digits.
 pub fn read_decimal(word: &[u8]) -> Option<Number>
-    ensures { result ≡ option_map numbers.kept (numbers.decimal_of word.now) }
+    ensures { result ≡ option_map kept.kept (numbers.decimal_of word.now) }
 {
     if are_digits(Base::Decimal, word) {
-        Some(kept(value_of(Base::Decimal, word)))
+        Some(kept(Base::Decimal, word))
     } else {
         None
     }
@@ -140,10 +71,10 @@ pub fn read_decimal(word: &[u8]) -> Option<Number>
 
 /// A number in digits.
 fn numeral(word: &[u8]) -> Option<Number>
-    ensures { result ≡ option_map numbers.kept (numbers.numeral_of word.now) }
+    ensures { result ≡ option_map kept.kept (numbers.numeral_of word.now) }
 {
     let base = base_of(word)?;
-    Some(kept(value_of(base, digits_of(base, word))))
+    Some(kept(base, digits_of(base, word)))
 }
 
 fn has_part_size(base: Base, part: &[u8]) -> bool
@@ -156,17 +87,6 @@ fn has_part_size(base: Base, part: &[u8]) -> bool
     }
 }
 
-/// A number up to 255.
-fn eight_bits(value: Option<u128>) -> Option<u8>
-    ensures is { (number : ℕ) → FitsIn128 number value → result ≡ numbers.up_to 255 (Some number) }
-    ensures small { IfSome result (λ part. part ≤ 255) }
-{
-    match value {
-        Some(value) if value <= 255 => Some(value as u8),
-        _ => None,
-    }
-}
-
 /// A part of a dotted quad or of six pairs.
 fn part_of(base: Base, part: &[u8]) -> Option<u8>
     ensures is { result ≡ numbers.part_of base part.now }
@@ -175,10 +95,8 @@ fn part_of(base: Base, part: &[u8]) -> Option<u8>
     if !has_part_size(base, part) {
         return None;
     }
-    if !are_digits(base, part) {
-        return None;
-    }
-    eight_bits(value_of(base, part))
+    let value = text_lines::number_up_to(base, part, 255)?;
+    Some(value as u8)
 }
 
 /// The number that so many parts with a separator behind them make, and one more.
@@ -199,7 +117,7 @@ fn parts_value(base: Base, separator: &[u8], more: u32, word: &[u8]) -> Option<u
 
 /// Four decimal numbers up to 255 with dots between them.
 fn quad(word: &[u8]) -> Option<Number>
-    ensures { result ≡ option_map numbers.kept (numbers.quad_of word.now) }
+    ensures { result ≡ option_map kept.kept (numbers.quad_of word.now) }
 {
     let value = parts_value(Base::Decimal, b".", 3, word)?;
     Some(Number::Small(u128::from(value)))
@@ -207,7 +125,7 @@ fn quad(word: &[u8]) -> Option<Number>
 
 /// Six pairs of hexadecimal digits with colons between them.
 fn pairs(word: &[u8]) -> Option<Number>
-    ensures { result ≡ option_map numbers.kept (numbers.pairs_of word.now) }
+    ensures { result ≡ option_map kept.kept (numbers.pairs_of word.now) }
 {
     let value = parts_value(Base::Hexadecimal, b":", 5, word)?;
     Some(Number::Small(u128::from(value)))
@@ -216,7 +134,7 @@ fn pairs(word: &[u8]) -> Option<Number>
 /// The number that a word is: one in digits, a dotted quad or six pairs.
 #[tactic(auto, unfolding(crate::specs::Numbers::number_of))]
 pub fn read_number(word: &[u8]) -> Option<Number>
-    ensures { result ≡ option_map numbers.kept (numbers.number_of word.now) }
+    ensures { result ≡ option_map kept.kept (numbers.number_of word.now) }
 {
     match numeral(word) {
         Some(number) => Some(number),
@@ -246,10 +164,45 @@ fn fits(width: u128, value: u128) -> bool
 
 /// The number where it fits a width.
 pub fn fitted(width: u128, number: Number) -> Option<u128>
-    ensures { (written : ℕ) → number ≡ numbers.kept written → result ≡ numbers.fitted width written }
+    ensures { (written : ℕ) → number ≡ kept.kept written → result ≡ kept.fitted width written }
 {
     match number {
         Number::Small(value) if fits(width, value) => Some(value),
         _ => None,
+    }
+}
+
+/// Whether the number in digits that the first word is, is over that of the second.
+fn is_numeral_over(alloc: Global, low: &[u8], high: &[u8]) -> Result<bool, OutOfMemory>
+    ensures { IfOk result (λ over. (a b : ℕ) → numbers.numeral_of low.now ≡ Some a → numbers.numeral_of high.now ≡ Some b
+        → over ≡ nat_lt b a) }
+{
+    match (base_of(low), base_of(high)) {
+        (Some(base), Some(other)) => {
+            let low = digits_of(base, low);
+            let high = digits_of(other, high);
+            whole_numbers::is_over(alloc, base, low, other, high)
+        }
+        _ => Ok(false),
+    }
+}
+
+/// Whether the number that the first word is, is over that of the second. `first` and `second` are what is
+/// kept of them.
+pub fn is_over(
+    alloc: Global,
+    low: &[u8],
+    high: &[u8],
+    first: Number,
+    second: Number,
+) -> Result<bool, OutOfMemory>
+    ensures { IfOk result (λ over. (a b : ℕ) → numbers.number_of low.now ≡ Some a → numbers.number_of high.now ≡ Some b
+        → first ≡ kept.kept a → second ≡ kept.kept b → over ≡ nat_lt b a) }
+{
+    match (first, second) {
+        (Number::Small(a), Number::Small(b)) => Ok(a > b),
+        (Number::Large, Number::Small(_)) => Ok(true),
+        (Number::Small(_), Number::Large) => Ok(false),
+        (Number::Large, Number::Large) => is_numeral_over(alloc, low, high),
     }
 }

@@ -1,52 +1,19 @@
 // An entries file, line by line.
-ghost use Rattle.std.specs.Prelude.{◌≡◌, ◌∷◌, ◌<◌, ◌≤◌, length, IfNone, IfOk, IfSome};
-ghost use Rattle.std.specs.List.{position_or_len};
-ghost use Rattle.std.specs.Str.Lines.{lines, strip_carriage_return};
+ghost use Rattle.std.specs.Prelude.{◌≡◌, IfOk};
+ghost use Rattle.std.specs.Str.Lines.{lines};
 ghost use Rattle.match_core.specs.Fits.{Fits};
-ghost use Rattle.entries_file.specs.Lines.{is_line_feed, last_line};
 ghost use Rattle.entries_file.specs.Reading as reading;
 ghost use Rattle.entries_file.specs.Reading.{EntriesText};
-ghost use Rattle.entries_file.specs.Drafts.{drafted, fault_of, IsDraft, IsNames, IsRead};
+ghost use Rattle.entries_file.specs.internal.Drafts.{drafted, fault_of, IsDraft, IsNames, IsRead};
 
 use crate::calls::{Names, names_of};
 use crate::draft::Draft;
 use crate::fault::{EntryFault, Stop};
 use crate::judge::judge_line;
 use match_core::{Entries, Signature};
-use p4x_fault::{Fault, Place, Rule};
+use p4x_fault::Rule;
 use std::alloc::Global;
-
-/// How many octets of the text stand before its first line feed.
-fn line_size(text: &[u8]) -> usize
-    ensures is { result ≡ position_or_len is_line_feed text.now }
-    ensures within { result ≤ length text.now }
-{
-    text.iter().take_while(|octet| **octet != b'\n').count()
-}
-
-/// A line without the carriage return in front of the line feed that ends it.
-fn without_return(line: &[u8]) -> &[u8]
-    ensures { result.now ≡ strip_carriage_return line.now }
-{
-    match line {
-        [front @ .., b'\r'] => front,
-        _ => line,
-    }
-}
-
-/// The first line of a text and what stands behind it, unless the line is the last one.
-fn next_line(text: &[u8]) -> Option<(&[u8], &[u8])>
-    ensures next { IfSome result (λ parts. lines text.now ≡ parts.0.now ∷ lines parts.1.now) }
-    ensures shorter { IfSome result (λ parts. length parts.1.now < length text.now) }
-    ensures last { IfNone result (lines text.now ≡ last_line text.now) }
-{
-    let size = line_size(text);
-    if size == text.len() {
-        return None;
-    }
-    let (one, more) = text.split_at(size);
-    Some((without_return(one), more.split_at(1).1))
-}
+use text_lines::{at_line, next_line};
 
 /// The fault of a line that isn't taken.
 fn fault_of(line: u64, stop: Stop) -> EntryFault
@@ -54,11 +21,7 @@ fn fault_of(line: u64, stop: Stop) -> EntryFault
 {
     match stop {
         Stop::Memory => EntryFault::Memory,
-        Stop::Broken(rule) => {
-            let rule = Rule::E(rule);
-            let place = Some(Place { line, column: 1 });
-            EntryFault::Refused(Fault { rule, place })
-        }
+        Stop::Broken(rule) => EntryFault::Refused(at_line(Rule::E(rule), line)),
     }
 }
 
@@ -83,10 +46,7 @@ fn read_lines(
         rest = more;
         line += 1;
     }
-    match judge_line(alloc, signature, names, draft, rest) {
-        Ok(()) => Ok(()),
-        Err(stop) => Err(fault_of(line, stop)),
-    }
+    Ok(())
 }
 
 /// What an entries file says for the tables and objects of a signature.
@@ -117,8 +77,8 @@ fn read_lines(
 /// - E12: the table would have more entries than its size.
 ///
 /// The only other error is want of memory. The entries that are given fit the signature. The text is gone
-/// over once, in time linear in its length but for a logarithm. Two numbers over 128 bits at the ends of one
-/// range are compared in time that goes with the square of their length.
+/// over once, in time linear in its length but for a logarithm, and but for ranges between a decimal number
+/// over 128 bits and one of another base: see `whole_numbers`.
 ///
 /// The format is this project's own; P4_14 1.0.5 and P4_16 1.2 leave the control plane open.
 pub fn read_entries(

@@ -4,7 +4,7 @@ use Rattle.std.specs.Ordering.{is_eq}
 use Rattle.std.specs.declared.cmp.Ordering.{Ordering}
 use Rattle.std.specs.BTreeMap.{BTreeMap, get}
 use Rattle.std.proofs.lemmas.Bool.{eq-eqb, ne_eqb, eqb-true}
-use Rattle.std.proofs.lemmas.List.{length-append, length-take-le, get_or_at}
+use Rattle.std.proofs.lemmas.List.{length-append, length-take-le, get_or_at, get_or_default}
 use Rattle.match_core.specs.declared.levels.Level.{Level}
 use Rattle.match_core.specs.internal.Maps.{IsPut}
 use Rattle.match_core.specs.internal.Levels.{AllUnder, AreLevels, found_in, IsLevelPut}
@@ -123,6 +123,19 @@ module _ {K : Type 0} (cmp : K → K → Ordering) where
       none_by (x.bits == many) (get cmp x.map (f many)) (found_in cmp levels many (f many))
       (λ is. subst (λ (n : ℕ). get cmp x.map (f n) ≡ None) (eqb-true x.bits many is) (none 0 x (omega arith) (omega arith)))
       (none_longer levels f i many are.1 (λ k d lt within. none (suc k) d (omega arith) (omega arith)) (λ d lt. fewer d (omega arith)))
+
+  -- the first level that has its key has it for the longest prefix
+  pub record FoundLevel (levels : List (Level K)) (f : ℕ → K) (n : ℕ) : Type 0 where
+    pub bits : ℕ
+    pub is : found_in cmp levels bits (f bits) ≡ Some n
+    pub longest : (longer : ℕ) → bits < longer → found_in cmp levels longer (f longer) ≡ None
+
+  pub level_found : (levels : List (Level K)) (f : ℕ → K) (i : ℕ) (level : Level K) (n : ℕ) → AreLevels levels → i < length levels → ((k : ℕ) (d : Level K) → k < i → k < length levels → get cmp (get_or levels k d).map (f (get_or levels k d).bits) ≡ None) → level ≡ get_or levels i level → Some n ≡ get cmp level.map (f level.bits) → FoundLevel levels f n
+  level_found levels f i level n are within none level_is has = record {
+    bits = level.bits;
+    is = subst (λ (l : Level K). found_in cmp levels l.bits (f level.bits) ≡ get cmp l.map (f level.bits)) (sym level_is) (found_at levels i level (f level.bits) are within) ∙ sym has;
+    longest = λ longer lt. none_longer levels f i longer are none (λ e below. subst (λ (l : Level K). l.bits < longer) (level_is ∙ get_or_default levels i level e within) lt);
+  }
 
   -- a level that was made
   pub record Made (levels new : List (Level K)) (p bits : ℕ) : Type 0 where

@@ -20,13 +20,13 @@ use Rattle.match_core.specs.Fits.{FitsKey, FitsKeys}
 use Rattle.match_core.specs.internal.Index.{is_exact, are_exact, value_of}
 use Rattle.match_core.proofs.Leaders.{first_leads, leader_stays, pass_is}
 
-equal_of : (o : Ordering) → is_eq o ≡ true → o ≡ Equal
+pub equal_of : (o : Ordering) → is_eq o ≡ true → o ≡ Equal
 equal_of Less is = cc
 equal_of Equal is = refl
 equal_of Greater is = cc
 
 -- a number put where none stood leads, and one that stood there stays, where all have one rank
-put_here : (test : ℕ → Bool) (rank : ℕ → ℕ) (i : ℕ) (found : Option ℕ) → IsLeader test rank i found → test i ≡ true → ((j : ℕ) → j < i → rank j ≤ rank i) → IsLeader test rank (suc i) (Some (unwrap_or found i))
+pub put_here : (test : ℕ → Bool) (rank : ℕ → ℕ) (i : ℕ) (found : Option ℕ) → IsLeader test rank i found → test i ≡ true → ((j : ℕ) → j < i → rank j ≤ rank i) → IsLeader test rank (suc i) (Some (unwrap_or found i))
 put_here test rank i None none passed ranks = first_leads test rank i none passed
 put_here test rank i (Some n) leads passed ranks = leader_stays test rank i n leads (λ _. ranks n leads.within)
 

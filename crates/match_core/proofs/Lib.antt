@@ -2,10 +2,10 @@ pub mod Leaders
 pub mod Matches
 pub mod Ordered
 pub mod Indexes
-pub mod Prefixed
 pub mod InPairs
 pub mod Sizing
 pub mod Building
 pub mod Colouring
 pub mod CountedKeys
 pub mod InLevels
+pub mod Coded

@@ -1,6 +1,5 @@
 pub mod Maps
 pub mod Order
-pub mod Prefixes
 pub mod Index
 pub mod Sizes
 pub mod Levels

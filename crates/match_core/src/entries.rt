@@ -51,11 +51,52 @@ pub struct DefaultCall {
     pub arguments: Numbers,
 }
 
+impl DefaultCall {
+    /// An equal call, or want of memory.
+    pub fn copy(&self, alloc: Global) -> Result<DefaultCall, OutOfMemory>
+        ensures { IfOk result (λ copied. copied ≡ self.now) }
+    {
+        Ok(DefaultCall {
+            action: self.action,
+            arguments: Numbers::from_slice(alloc, self.arguments.as_slice())?,
+        })
+    }
+}
+
 /// What fills one table: its entries, the first first, and the call on a miss where one was set.
 #[derive(Debug, Drop)]
 pub struct TableFill {
     pub entries: Rows<Entry>,
     pub default: Option<DefaultCall>,
+}
+
+/// An equal call where there is one, or want of memory.
+fn copy_default(
+    alloc: Global,
+    default: &Option<DefaultCall>,
+) -> Result<Option<DefaultCall>, OutOfMemory>
+    ensures { IfOk result (λ copied. copied ≡ default.now) }
+{
+    match default {
+        Some(call) => Ok(Some(call.copy(alloc)?)),
+        None => Ok(None),
+    }
+}
+
+impl TableFill {
+    /// An equal fill, or want of memory.
+    pub fn copy(&self, alloc: Global) -> Result<TableFill, OutOfMemory>
+        ensures { IfOk result (λ copied. copied ≡ self.now) }
+    {
+        let mut entries = Rows::new(alloc);
+        for entry in self.entries.as_slice() {
+            entries.push(entry.copy(alloc)?)?;
+        }
+        Ok(TableFill {
+            entries,
+            default: copy_default(alloc, &self.default)?,
+        })
+    }
 }
 
 /// What fills a program's tables, in the order of its signature, with the clone sessions and, for each
@@ -65,4 +106,39 @@ pub struct Entries {
     pub tables: Rows<TableFill>,
     pub sessions: Rows<Session>,
     pub colours: Rows<Numbers>,
+}
+
+/// Equal fills, or want of memory.
+fn copy_tables(alloc: Global, tables: &[TableFill]) -> Result<Rows<TableFill>, OutOfMemory>
+    ensures { IfOk result (λ copied. copied ≡ tables.now) }
+{
+    let mut copied = Rows::new(alloc);
+    for fill in tables {
+        copied.push(fill.copy(alloc)?)?;
+    }
+    Ok(copied)
+}
+
+/// Equal colours, or want of memory.
+fn copy_colours(alloc: Global, colours: &[Numbers]) -> Result<Rows<Numbers>, OutOfMemory>
+    ensures { IfOk result (λ copied. copied ≡ colours.now) }
+{
+    let mut copied = Rows::new(alloc);
+    for one in colours {
+        copied.push(Numbers::from_slice(alloc, one.as_slice())?)?;
+    }
+    Ok(copied)
+}
+
+impl Entries {
+    /// Equal entries, or want of memory.
+    pub fn copy(&self, alloc: Global) -> Result<Entries, OutOfMemory>
+        ensures { IfOk result (λ copied. copied ≡ self.now) }
+    {
+        Ok(Entries {
+            tables: copy_tables(alloc, self.tables.as_slice())?,
+            sessions: Rows::from_slice(alloc, self.sessions.as_slice())?,
+            colours: copy_colours(alloc, self.colours.as_slice())?,
+        })
+    }
 }

@@ -3,15 +3,15 @@ ghost use Rattle.std.specs.Prelude.{◌≡◌, ℕ, ◌^◌, ◌<◌, length, Al
 ghost use Rattle.match_core.specs.Best.{Filled, IsBest};
 ghost use Rattle.match_core.specs.Fits.{FitsKeys};
 ghost use Rattle.match_core.specs.Signatures.{AreSpecs};
-ghost use Rattle.match_core.specs.internal.Index.{IsIndex, IsLpmIndex};
+ghost use Rattle.match_core.specs.internal.Index.{IsIndex, IsNumberIndex, IsCodedIndex};
 
 use crate::entries::Entry;
 use crate::exact::{are_exact, key_index};
 use crate::key::Key;
+use crate::levels::Level;
 use crate::order::{first, order_of};
-use crate::prefix::{longest, prefix_index};
+use crate::plain::{are_plain, find_code, find_number, key_levels, number_levels};
 use crate::signatures::KeySpec;
-use crate::well_formed::is_lpm;
 use p4x_bits::OutOfMemory;
 use std::alloc::Global;
 use std::collections::BTreeMap;
@@ -19,10 +19,13 @@ use std::collections::BTreeMap;
 /// How a table finds the best entry of a key.
 #[derive(Drop)]
 pub enum Index {
-    /// All keys are exact: a map from a key to its best entry.
+    /// The one key is exact or lpm: for each length that the prefixes of entries have, the longest first, a map from a
+    /// number to its first entry. Exact keys are all of one length.
+    Numbers(Vec<Level<u128>>),
+    /// All keys are exact: a map from a key to its first entry.
     Keys(BTreeMap<Key, u32>),
-    /// The one key is lpm: for each prefix length a map from a prefix to its first entry.
-    Prefixes(Vec<BTreeMap<u128, u32>>),
+    /// One of eight keys at most is lpm, and the others are exact: as for one key, with a map from the numbers of all.
+    Codes(Vec<Level<Key>>),
     /// The entries are asked one by one, in the order in which they count.
     Order(Vec<u64>),
 }
@@ -34,45 +37,76 @@ pub fn index_of(alloc: Global, specs: &[KeySpec], entries: &[Entry]) -> Result<I
     requires fits { All (FitsKeys specs.now) entries.now }
     ensures { IfOk result (IsIndex (record { specs = specs.now; entries = entries.now })) }
 {
+    if !are_plain(specs) {
+        return Ok(Index::Order(order_of(alloc, specs, entries)?));
+    }
+    if let [spec] = specs {
+        return Ok(Index::Numbers(number_levels(alloc, *spec, entries)?));
+    }
     if are_exact(specs) {
         return Ok(Index::Keys(key_index(alloc, specs, entries)?));
     }
-    match specs {
-        [spec] if is_lpm(spec.kind) => Ok(Index::Prefixes(prefix_index(alloc, *spec, entries)?)),
-        _ => Ok(Index::Order(order_of(alloc, specs, entries)?)),
+    if specs.len() <= 8 {
+        return Ok(Index::Codes(key_levels(alloc, specs, entries)?));
     }
+    Ok(Index::Order(order_of(alloc, specs, entries)?))
 }
 
 /// The number of the best entry of a key.
-pub fn find(index: &Index, specs: &[KeySpec], entries: &[Entry], key: &Key) -> Option<u32>
+pub fn find(
+    alloc: Global,
+    index: &Index,
+    specs: &[KeySpec],
+    entries: &[Entry],
+    key: &Key,
+) -> Option<u32>
     requires few { length entries.now < 2 ^ 32 }
     requires fits { All (FitsKeys specs.now) entries.now }
     requires index { IsIndex (record { specs = specs.now; entries = entries.now }) index.now }
     ensures { IsBest (record { specs = specs.now; entries = entries.now }) key.now result }
 {
     match index {
+        Index::Numbers(levels) => find_one(levels, specs, entries, key.as_slice()),
         Index::Keys(keys) => keys.get(key).copied(),
-        Index::Prefixes(maps) => find_prefix(maps, specs, entries, key.as_slice()),
+        Index::Codes(levels) => find_several(alloc, levels, specs, entries, key.as_slice()),
         Index::Order(order) => first(order, specs, entries, key.as_slice()),
     }
 }
 
-/// The number of the entry with the longest prefix that a key of one value has.
-fn find_prefix(
-    maps: &[BTreeMap<u128, u32>],
+/// The number of the best entry of a key of one value.
+fn find_one(
+    levels: &[Level<u128>],
     specs: &[KeySpec],
     entries: &[Entry],
     key: &[u128],
 ) -> Option<u32>
     requires fits { All (FitsKeys specs.now) entries.now }
-    requires index { IsLpmIndex specs.now entries.now maps.now }
+    requires index { IsNumberIndex specs.now entries.now levels.now }
     ensures { IsBest (record { specs = specs.now; entries = entries.now }) key.now result }
 {
     if key.len() != 1 {
         return None;
     }
     match specs {
-        [spec] => longest(maps, spec.width, key[0]),
+        [spec] => find_number(levels, *spec, key[0]),
         _ => None,
     }
+}
+
+/// The number of the best entry of a key of as many values as the table has keys.
+fn find_several(
+    alloc: Global,
+    levels: &[Level<Key>],
+    specs: &[KeySpec],
+    entries: &[Entry],
+    key: &[u128],
+) -> Option<u32>
+    requires fits { All (FitsKeys specs.now) entries.now }
+    requires index { IsCodedIndex specs.now entries.now levels.now }
+    ensures { IsBest (record { specs = specs.now; entries = entries.now }) key.now result }
+{
+    if key.len() != specs.len() {
+        return None;
+    }
+    find_code(alloc, levels, specs, key)
 }

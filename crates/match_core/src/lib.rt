@@ -8,7 +8,7 @@ mod index;
 mod key;
 mod levels;
 mod order;
-mod prefix;
+mod plain;
 mod scan;
 mod signatures;
 mod stores;
@@ -23,7 +23,4 @@ pub use signatures::{ActionSig, KeyKind, KeySpec, ObjectSig, Signature, TableSig
 pub use state_store::Session;
 pub use stores::first_store;
 pub use table::{Table, build_tables};
-pub use well_formed::MOST_KEYS;
-
-#[cfg(test)]
-mod tests;
+pub use well_formed::{MOST_KEYS, are_specs};

@@ -70,7 +70,7 @@ fn prefix_of(one: KeyMatch) -> u8
 }
 
 /// By how much an entry's prefixes fall short of 128 bits.
-fn prefix_rank(ones: &[KeyMatch]) -> u32
+pub fn prefix_rank(ones: &[KeyMatch]) -> u32
     ensures { result ≡ 128 - prefix_length ones.now }
 {
     let mut left = 128u32;

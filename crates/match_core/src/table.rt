@@ -8,6 +8,7 @@ ghost use Rattle.match_core.specs.Tables.{tables_of};
 use crate::entries::{Entries, Entry};
 use crate::index::{Index, find, index_of};
 use crate::key::Key;
+use crate::scan::scan;
 use crate::signatures::{KeySpec, Signature};
 use p4x_bits::{OutOfMemory, Rows};
 use std::alloc::Global;
@@ -16,6 +17,7 @@ use std::marker::Model;
 /// A table with its entries, ready for look-ups.
 #[derive(Drop)]
 pub struct Table {
+    alloc: Global,
     specs: Vec<KeySpec>,
     entries: Vec<Entry>,
     index: Index,
@@ -48,6 +50,7 @@ impl Table {
         }
         let index = index_of(alloc, keys, entries)?;
         Ok(Table {
+            alloc,
             specs: Vec::from_slice(alloc, keys)?,
             entries: copies,
             index,
@@ -60,7 +63,14 @@ impl Table {
         ensures best { IsBest self.now key.now result }
         ensures scan { result ≡ best self.now key.now }
     {
-        find(&self.index, &self.specs, &self.entries, key)
+        find(self.alloc, &self.index, &self.specs, &self.entries, key)
+    }
+
+    /// The same as `lookup`, by asking each entry.
+    pub fn scan(&self, key: &Key) -> Option<u32>
+        ensures { result ≡ best self.now key.now }
+    {
+        scan(&self.specs, &self.entries, key.as_slice())
     }
 }
 

@@ -100,8 +100,8 @@ fn have_widths(specs: &[KeySpec]) -> bool
     specs.iter().all(|spec| is_width(u128::from(spec.width)))
 }
 
-/// Whether a table can have these keys.
-fn are_specs(specs: &[KeySpec]) -> bool
+/// Whether a table can have these keys: each has 1 to 128 bits, and one at most is lpm.
+pub fn are_specs(specs: &[KeySpec]) -> bool
     ensures { IsTrue result ↔ AreSpecs specs.now }
 {
     let prefixes = specs.iter().filter(|spec| is_lpm(spec.kind)).count();

@@ -6,9 +6,10 @@ use Rattle.p4x_cmd.specs.declared.one_table.OneTable14.{OneTable14}
 use Rattle.p4x_cmd.specs.declared.stop.Stop.{Stop}
 use Rattle.p4x_cmd.specs.declared.stop.Stop.TheVariants.{Fault, Usage, Program, Entries, Refused, Limit, Memory}
 use Rattle.p4x_cmd.specs.Calls.{Outcome, WorksFor, OwnRose, IsDue, Carried, ComesWhere, Accepts, RefusesProgram, RefusesEntries, RefusesPorts, RefusesCapture, OverPorts, OverCapture, Prints, Translated, Fronts}
+use Rattle.match_core.specs.Signatures.{IsSignature}
 use Rattle.p4x_cmd.specs.Meaning16.{signature16}
 use Rattle.p4x_cmd.specs.Runs.{this_run}
-use Rattle.p4x_cmd.proofs.Filling.{no_entries_fit}
+use Rattle.p4x_cmd.proofs.Filling.{no_entries_fit, signature_is}
 use Rattle.p4x_cmd.specs.Carry.{CarryDue, ProgramIs, Begins, StopsBefore, capture_reports, delivered}
 use Rattle.p4x_cmd.specs.Forms14.{Reads14}
 use Rattle.p4x_cmd.specs.Outcomes.{Due, Leaves, Tells, AllExact, AllPart, AllKept, IsExact, IsPart}
@@ -101,6 +102,7 @@ module _ (f : Files) (files : List ℕ → Option (List ℕ)) (old new : DeskVie
         fits = run.fits;
         whole = run.whole;
         text_is = files_are.0;
+        formed = subst IsSignature went.5.carries.signatures (signature_is went.0);
         given = no_entries_fit (signature16 went.3);
         ran = this_run went.3 run.arrivals;
         runs = refl;

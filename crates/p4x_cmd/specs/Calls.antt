@@ -7,6 +7,7 @@ use Rattle.p4x_io.specs.Files.{Says}
 use Rattle.fabric.specs.declared.packets.Arrival.{Arrival}
 use Rattle.pcap_io.specs.Captures.{IsCapture, refused, refusal}
 use Rattle.pcap_io.specs.Sent.{sent_bytes_of}
+use Rattle.match_core.specs.Signatures.{IsSignature}
 use Rattle.match_core.specs.Fits.{Fits}
 use Rattle.p4x_cmd.specs.declared.one_table.OneTable14.{OneTable14}
 use Rattle.p4x_cmd.specs.declared.stop.Limited.TheVariants as limited
@@ -50,7 +51,8 @@ pub record IsDue (f : Files) (files : Held) (old new : DeskView) (before after :
 -- The program was carried. It is the one program that its file reads as. The text that stands in its file reads as one
 -- well-typed program of P4_16 which does with every packet, on all entries and under every bound, what the program of
 -- P4_14 does. The capture is a whole one, with these packets on the ports that were named; and the sent file, the
--- report and the line that was printed are those of the written program's run over them, with entries that fit.
+-- report and the line that was printed are those of the written program's run over them, with entries that fit its
+-- signature, which is well formed.
 pub record Carried (f : Files) (files : Held) (old new : DeskView) (before after : SinkView) : Type 0 where
   pub source : OneTable14
   pub ports : List ℕ
@@ -66,6 +68,7 @@ pub record Carried (f : Files) (files : Held) (old new : DeskView) (before after
   pub capture : files f.capture ≡ Some octets
   pub fits : length octets ≤ capture_limit
   pub whole : IsCapture octets ports link nano arrivals
+  pub formed : IsSignature (signature16 program)
   pub given : Fits (no_entries (signature16 program)) (signature16 program)
   pub ran : Ran
   pub runs : ran ≡ this_run program arrivals

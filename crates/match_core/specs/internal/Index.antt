@@ -1,5 +1,5 @@
 -- What the index of a table says.
-use Rattle.std.specs.Prelude.{◌≡◌, ℕ, ◌≤◌, length, Bool, true, false, List, [], ◌∷◌}
+use Rattle.std.specs.Prelude.{◌≡◌, ℕ, ◌≤◌, length, Bool, true, false, List, [], ◌∷◌, Option}
 use Rattle.std.specs.List.{list_all}
 use Rattle.std.specs.Ordering.{nat_cmp}
 use Rattle.std.specs.Cmp.Lexicographic.{slice_cmp}
@@ -7,14 +7,17 @@ use Rattle.std.specs.BTreeMap.{BTreeMap, get}
 use Rattle.match_core.specs.declared.signatures.KeyKind.{KeyKind}
 use Rattle.match_core.specs.declared.signatures.KeyKind.TheVariants as kind
 use Rattle.match_core.specs.declared.signatures.KeySpec.{KeySpec}
+use Rattle.match_core.specs.declared.entries.Entry.{Entry}
 use Rattle.match_core.specs.declared.entries.KeyMatch.{KeyMatch}
 use Rattle.match_core.specs.declared.entries.KeyMatch.TheVariants.{Exact, Ternary, Lpm, Range}
+use Rattle.match_core.specs.declared.levels.Level.{Level}
 use Rattle.match_core.specs.declared.index.Index.{Index}
-use Rattle.match_core.specs.declared.index.Index.TheVariants.{Keys, Prefixes, Order}
-use Rattle.match_core.specs.declared.entries.Entry.{Entry}
+use Rattle.match_core.specs.declared.index.Index.TheVariants.{Numbers, Keys, Codes, Order}
+use Rattle.match_core.specs.Signatures.{AreSpecs}
 use Rattle.match_core.specs.Best.{Filled, IsBest}
+use Rattle.match_core.specs.internal.Levels.{AreLevels}
+use Rattle.match_core.specs.internal.Codes.{are_plain, IsCodeIndex, number_found, key_found}
 use Rattle.match_core.specs.internal.Order.{IsOrder}
-use Rattle.match_core.specs.internal.Prefixes.{IsPrefixIndex}
 
 abbrev pub is_exact : KeyKind → Bool
 is_exact kind.Exact = true
@@ -37,14 +40,27 @@ value_of (Ternary value mask) = 0
 value_of (Lpm value length) = 0
 value_of (Range low high) = 0
 
--- the one key of the table is lpm, and the maps are the index of its entries by prefix
-abbrev pub IsLpmIndex : List KeySpec → List Entry → List (BTreeMap ℕ ℕ) → Type 0
-IsLpmIndex [] entries maps = ⊥
-IsLpmIndex (spec ∷ []) entries maps = (spec.kind ≡ kind.Lpm) × (spec.width ≤ 128) × IsPrefixIndex spec entries (length entries) maps
-IsLpmIndex (spec ∷ _) entries maps = ⊥
+-- levels that have the first entry of each length and code
+pub record IsLevelIndex {K : Type 0} (specs : List KeySpec) (entries : List Entry) (found : ℕ → List ℕ → Option ℕ) (levels : List (Level K)) : Type 0 where
+  pub plain : are_plain specs ≡ true
+  pub specs_are : AreSpecs specs
+  pub are : AreLevels levels
+  pub index : IsCodeIndex specs entries (length entries) found
+
+-- the same, of the one key of a table
+abbrev pub IsNumberIndex : List KeySpec → List Entry → List (Level ℕ) → Type 0
+IsNumberIndex [] entries levels = ⊥
+IsNumberIndex (spec ∷ []) entries levels = IsLevelIndex (spec ∷ []) entries (number_found levels) levels
+IsNumberIndex (spec ∷ _) entries levels = ⊥
+
+-- the same, of eight keys at most
+pub record IsCodedIndex (specs : List KeySpec) (entries : List Entry) (levels : List (Level (List ℕ))) : Type 0 where
+  pub few : length specs ≤ 8
+  pub levels_are : IsLevelIndex specs entries (key_found levels) levels
 
 -- what the index of a table says
 abbrev pub IsIndex : Filled → Index → Type 0
+IsIndex table (Numbers levels) = IsNumberIndex table.specs table.entries levels.items
 IsIndex table (Keys map) = IsKeyIndex table map
-IsIndex table (Prefixes maps) = IsLpmIndex table.specs table.entries maps.items
+IsIndex table (Codes levels) = IsCodedIndex table.specs table.entries levels.items
 IsIndex table (Order places) = IsOrder table places.items

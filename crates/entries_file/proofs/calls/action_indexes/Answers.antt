@@ -4,7 +4,7 @@ use Rattle.match_core.specs.declared.signatures.TableSig.{TableSig}
 use Rattle.match_core.specs.declared.signatures.ActionSig.{ActionSig}
 use Rattle.entries_file.specs.declared.name_index.NameIndex.{NameIndex}
 use Rattle.entries_file.specs.Rules.{action_name}
-use Rattle.entries_file.specs.Drafts.{IsNameIndex}
+use Rattle.entries_file.specs.internal.Drafts.{IsNameIndex}
 use Rattle.entries_file.proofs.Pairs.{each_more}
 use Rattle.entries_file.proofs.calls.action_indexes.Goals as goal
 

@@ -2,7 +2,7 @@ use Rattle.std.proofs.Common.{◌≡◌, ◌<◌, ℕ, length, map, get_or}
 use Rattle.match_core.specs.declared.signatures.TableSig.{TableSig}
 use Rattle.entries_file.specs.declared.name_index.NameIndex.{NameIndex}
 use Rattle.entries_file.specs.Rules.{action_name}
-use Rattle.entries_file.specs.Drafts.{IsNameIndex}
+use Rattle.entries_file.specs.internal.Drafts.{IsNameIndex}
 use Rattle.entries_file.proofs.calls.action_indexes.Given as goal
 
 abbrev pub invariant-loop-table : goal.invariant-loop-table

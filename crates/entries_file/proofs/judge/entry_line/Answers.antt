@@ -1,7 +1,7 @@
 use Rattle.std.proofs.Common.{◌≡◌, ◌∙◌, ◌-◌, sym, ap, subst, refl, map, take, drop, length}
 use Rattle.entries_file.specs.Reading.{Judgement, judge_form, judge_call, judge_entry}
 use Rattle.entries_file.specs.Forms.{entry_form}
-use Rattle.entries_file.specs.Drafts.{drafted, IsJudged}
+use Rattle.entries_file.specs.internal.Drafts.{drafted, IsJudged}
 use Rattle.entries_file.proofs.WordLaws.{entry_short, entry_at}
 use Rattle.entries_file.proofs.judge.entry_line.Goals as goal
 

@@ -1,7 +1,7 @@
 use Rattle.std.proofs.Common.{◌≡◌, ◌∙◌, ap, subst, map, List, ℕ}
-use Rattle.entries_file.specs.Lines.{words_of}
+use Rattle.text_lines.specs.Words.{words_of}
 use Rattle.entries_file.specs.Reading.{judge_line, judge_words}
-use Rattle.entries_file.specs.Drafts.{drafted, IsJudged}
+use Rattle.entries_file.specs.internal.Drafts.{drafted, IsJudged}
 use Rattle.entries_file.proofs.judge.judge_line.Goals as goal
 
 pub returns : goal.returns

@@ -1,6 +1,7 @@
 use Rattle.std.proofs.Common.{◌≡◌, ◌∙◌, sym, ap, subst, IfOk}
 use Rattle.match_core.specs.declared.signatures.KeyKind.{KeyKind}
-use Rattle.entries_file.specs.KeyForms.{read_as, key_by, key_of}
+use Rattle.entries_file.specs.KeyForms.{key_by, key_of}
+use Rattle.entries_file.specs.internal.Kept.{read_as}
 use Rattle.entries_file.proofs.key_forms.read_key.Goals as goal
 
 pub returns-in-Exact : goal.returns-in-Exact

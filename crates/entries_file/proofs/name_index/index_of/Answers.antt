@@ -1,5 +1,5 @@
 use Rattle.std.proofs.Common.{◌≡◌, ◌∙◌, ◌+◌, sym, ap, subst, refl, map, take, get_or, List, [], ◌∷◌, ◌++◌, ℕ, arith, Option, Some, None}
-use Rattle.entries_file.specs.Drafts.{IsNameIndex}
+use Rattle.entries_file.specs.internal.Drafts.{IsNameIndex}
 use Rattle.entries_file.proofs.NameLaws.{index_put, index_pass, names_more, names_count}
 use Rattle.entries_file.proofs.name_index.index_of.Goals as goal
 use Rattle.entries_file.proofs.name_index.index_of.Goals.{in-Some+in_ok-put_first, in_default}

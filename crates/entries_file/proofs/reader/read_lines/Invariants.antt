@@ -1,7 +1,7 @@
 use Rattle.std.proofs.Common.{◌≡◌, ◌+◌, ◌≤◌, length}
 use Rattle.std.specs.Str.Lines.{lines}
 use Rattle.entries_file.specs.Reading.{read_lines}
-use Rattle.entries_file.specs.Drafts.{drafted, IsDraft}
+use Rattle.entries_file.specs.internal.Drafts.{drafted, IsDraft}
 use Rattle.entries_file.proofs.reader.read_lines.Given as goal
 
 abbrev pub invariant-loop-one : goal.invariant-loop-one

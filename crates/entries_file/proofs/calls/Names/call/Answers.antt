@@ -2,7 +2,7 @@ use Rattle.std.proofs.Common.{◌∙◌, ◌<◌, sym, ap, map, subst, Some, ari
 use Rattle.entries_file.specs.declared.name_index.NameIndex.{NameIndex}
 use Rattle.entries_file.specs.Filling.{table_at}
 use Rattle.entries_file.specs.Rules.{table_name, action_name, table_call, listed_call}
-use Rattle.entries_file.specs.Drafts.{IsNameIndex}
+use Rattle.entries_file.specs.internal.Drafts.{IsNameIndex}
 use Rattle.entries_file.proofs.NameLaws.{place_within}
 use Rattle.entries_file.proofs.calls.Names.call.Goals as goal
 

@@ -4,8 +4,9 @@ use Rattle.match_core.specs.declared.signatures.KeySpec.{KeySpec}
 use Rattle.match_core.specs.declared.signatures.TableSig.{TableSig}
 use Rattle.match_core.specs.declared.entries.TableFill.{TableFill}
 use Rattle.entries_file.specs.Filling.{table_at, empty_fill, entry_put}
-use Rattle.entries_file.specs.Rules.{identity, has_same, is_full}
-use Rattle.entries_file.specs.Drafts.{drafted}
+use Rattle.match_core.specs.Identity.{identity}
+use Rattle.entries_file.specs.Rules.{has_same, is_full}
+use Rattle.entries_file.specs.internal.Drafts.{drafted}
 use Rattle.entries_file.proofs.DraftLaws.{KeysFound, keys_put, key_new, not_full}
 use Rattle.entries_file.proofs.draft.Draft.add_entry.Goals as goal
 

@@ -1,7 +1,0 @@
-use Rattle.std.proofs.Common.{◌≡◌, take, drop}
-use Rattle.entries_file.specs.Lines.{cut}
-use Rattle.entries_file.proofs.Cuts.{fronted}
-use Rattle.entries_file.proofs.words.cut.Given as goal
-
-abbrev pub invariant-loop-at : goal.invariant-loop-at
-invariant-loop-at l = cut l.mark l.word ≡ fronted (take l.at l.word) (cut l.mark (drop l.at l.word))
