@@ -5,7 +5,7 @@ use Rattle.std.specs.Int.Bits.{xor_block, xor_zero_r}
 use Rattle.p4x_bits.specs.BitLists.{bit, num}
 use Rattle.p4x_bits.proofs.BitLists.{num-append, num_below}
 use Rattle.calc_core.specs.Calculations.{differs, plus, remainder, crc}
-use Rattle.calc_core.specs.Tables.{is_odd, times}
+use Rattle.calc_core.specs.internal.Tables.{is_odd, times}
 
 differs_assoc : (a b c : Bool) → differs (differs a b) c ≡ differs a (differs b c)
 differs_assoc false b c = refl

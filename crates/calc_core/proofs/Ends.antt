@@ -4,7 +4,7 @@ use Rattle.std.proofs.lemmas.List.Sums.{fold-append}
 use Rattle.std.proofs.lemmas.Nat.{shl_whole, shl_below, or_shifted}
 use Rattle.p4x_bits.specs.BitLists.{num, bits, octet_bits, IsOctets}
 use Rattle.calc_core.specs.Calculations.{crc, reflected}
-use Rattle.calc_core.specs.Tables.{divided_octet}
+use Rattle.calc_core.specs.internal.Tables.{divided_octet}
 use Rattle.calc_core.proofs.Division.{number, step, crc_is}
 use Rattle.calc_core.proofs.Registers.{octet_steps, octets_steps}
 use Rattle.calc_core.proofs.Words.{reflected_whole, reflected_filled}

@@ -7,7 +7,7 @@ use Rattle.std.specs.Int.Bits.{xor_assoc, xor_self, xor_zero_l, xor_zero_r, xor_
 use Rattle.p4x_bits.specs.BitLists.{bits, IsOctets}
 use Rattle.p4x_bits.proofs.BitLists.{bits-add}
 use Rattle.calc_core.specs.Calculations.{differs}
-use Rattle.calc_core.specs.Tables.{is_odd, times, divided_once, divided, divided_octet, is_table_from}
+use Rattle.calc_core.specs.internal.Tables.{is_odd, times, divided_once, divided, divided_octet, is_table_from}
 use Rattle.calc_core.proofs.Division.{step}
 
 xor_right_comm : (a b c : ℕ) → bit_xor (bit_xor a b) c ≡ bit_xor (bit_xor a c) b

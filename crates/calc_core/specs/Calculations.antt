@@ -1,5 +1,6 @@
--- The algorithms of a field list calculation (P4_14 1.0.5, "Checksums and Hash-value Generators"; v1model's HashAlgorithm). How a list is filled, and the parameters of the two CRCs, are this project's own.
-use Rattle.std.specs.Prelude.{ℕ, zero, suc, ◌+◌, ◌-◌, ◌/◌, ◌%◌, Bool, true, false, if◌then◌else◌, List, [], ◌∷◌, ◌++◌, length, take, drop, replicate, map, reverse, fold, flat_map, bit_xor}
+-- The algorithms of a field list calculation (P4_14 1.0.5, "Checksums and Hash-value Generators"; v1model's
+-- HashAlgorithm). How a list is filled, and the parameters of the two CRCs, are this project's own.
+use Rattle.std.specs.Prelude.{ℕ, zero, suc, ◌+◌, ◌-◌, ◌/◌, ◌%◌, ◌^◌, Bool, true, false, if◌then◌else◌, List, [], ◌∷◌, ◌++◌, length, take, drop, replicate, map, reverse, fold, flat_map, bit_xor}
 use Rattle.p4x_bits.specs.BitLists.{num, bits}
 
 -- a list cut into so many parts of a width
@@ -13,11 +14,11 @@ words width list = parts ((length list + (width - 1)) / width) width (list ++ re
 
 -- the ones' complement sum of two words of 16 bits: what is carried out is added at the low end
 abbrev pub ones_sum : ℕ → ℕ → ℕ
-ones_sum a b = (a + b) % 65536 + (a + b) / 65536
+ones_sum a b = (a + b) % 2 ^ 16 + (a + b) / 2 ^ 16
 
 -- the complement of the ones' complement sum of the words of 16 bits
 abbrev pub csum16 : List Bool → ℕ
-csum16 list = 65535 - fold ones_sum 0 (map num (words 16 list))
+csum16 list = 2 ^ 16 - 1 - fold ones_sum 0 (map num (words 16 list))
 
 -- the sum of two coefficients, over the field of two elements
 abbrev pub differs : Bool → Bool → Bool
@@ -31,7 +32,8 @@ plus [] ys = []
 plus (x ∷ xs) [] = x ∷ xs
 plus (x ∷ xs) (y ∷ ys) = differs x y ∷ plus xs ys
 
--- what a polynomial leaves when so many of its coefficients are divided away, where the divisor has the highest coefficient 1 and these behind it
+-- what a polynomial leaves when so many of its coefficients are divided away, where the divisor has the highest
+-- coefficient 1 and these behind it
 abbrev pub remainder : ℕ → List Bool → List Bool → List Bool
 remainder zero divisor list = list
 remainder (suc count) divisor [] = []
@@ -41,9 +43,11 @@ remainder (suc count) divisor (b ∷ rest) = remainder count divisor (if b then 
 abbrev pub reflected : List Bool → List Bool
 reflected list = flat_map reverse (words 8 list)
 
--- A reflected CRC of n coefficients: zeros are put behind the message, the initial value is added at its front, and it is divided. The remainder's first coefficient is its number's least significant bit.
+-- A reflected CRC of n coefficients: zeros are put behind the message, the initial value is added at its front, and it
+-- is divided. The remainder's first coefficient is its number's least significant bit.
 abbrev pub crc : List Bool → List Bool → List Bool → ℕ
-crc divisor initial message = num (reverse (remainder (length message) divisor (plus (message ++ replicate (length divisor) false) initial)))
+crc divisor initial message =
+    num (reverse (remainder (length message) divisor (plus (message ++ replicate (length divisor) false) initial)))
 
 -- polynomial 0x8005, reflected, initial and final value 0
 abbrev pub crc16 : List Bool → ℕ

@@ -2,7 +2,7 @@
 ghost use Rattle.std.specs.Prelude.{◌≡◌, ℕ, ◌<◌, Bool, List, length, reverse, fold, IsTrue};
 ghost use Rattle.p4x_bits.specs.BitLists.{num, IsOctets};
 ghost use Rattle.calc_core.specs.Calculations.{crc, crc16, crc32, reflected};
-ghost use Rattle.calc_core.specs.Tables.{divided_octet, is_table_from};
+ghost use Rattle.calc_core.specs.internal.Tables.{divided_octet, is_table_from};
 
 use crate::tables::{CRC16_TABLE, CRC32_TABLE};
 use p4x_bits::Bits;

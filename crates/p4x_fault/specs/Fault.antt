@@ -1,5 +1,5 @@
 -- The line that tells of a refusal (this project's own).
-use Rattle.std.specs.Prelude.{◌≡◌, ℕ, length, drop, List, [], ◌++◌, Option, Some, None, codes, decimal}
+use Rattle.std.specs.Prelude.{ℕ, List, [], ◌++◌, Option, Some, None, codes, decimal}
 use Rattle.p4x_fault.specs.declared.Rule.{Rule}
 use Rattle.p4x_fault.specs.declared.Rule.TheVariants.{L, S, C, T, E, K, P, G, X}
 use Rattle.p4x_fault.specs.declared.Place.{Place}
@@ -45,9 +45,5 @@ place_text (Some place) = codes " at " ++ decimal place.line ++ codes ":" ++ dec
 
 -- `refused RULE`, and the place where one is told, ended by a line feed
 abbrev pub refusal_line : Fault → List ℕ
-refusal_line fault = codes "refused " ++ rule_name fault.rule ++ place_text (told_place fault.rule fault.place) ++ codes "\n"
-
--- where a buffer began with a line of length `at` and is otherwise as it was, it begins afterwards
--- with the line and the octets behind it, and is otherwise as it was
-abbrev pub Adds : List ℕ → ℕ → List ℕ → List ℕ → Type 0
-Adds octets at old new = (line first : List ℕ) → length line ≡ at → old ≡ line ++ drop (length line) first → new ≡ (line ++ octets) ++ drop (length (line ++ octets)) first
+refusal_line fault =
+    codes "refused " ++ rule_name fault.rule ++ place_text (told_place fault.rule fault.place) ++ codes "\n"

@@ -3,7 +3,8 @@
 #![tactic(auto)]
 
 ghost use Rattle.std.specs.Prelude.{◌≡◌, ◌≤◌, ◌+◌, ◌++◌, ◌∷◌, length, drop, decimal};
-ghost use Rattle.p4x_fault.specs.Fault.{refusal_line, rule_name, told_place, line_start_of, place_text, Adds};
+ghost use Rattle.p4x_fault.specs.Fault.{refusal_line, rule_name, told_place, line_start_of, place_text};
+ghost use Rattle.p4x_fault.specs.internal.Buffers.{Adds};
 
 use itoa::Buffer;
 

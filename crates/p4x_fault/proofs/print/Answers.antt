@@ -1,6 +1,7 @@
 -- The line as far as it is written, from call to call.
 use Rattle.std.proofs.Common.{◌≡◌, [], ◌++◌, codes, length, length-append, refl, sym, ap, subst, arith}
-use Rattle.p4x_fault.specs.Fault.{rule_name, told_place, place_text, Adds}
+use Rattle.p4x_fault.specs.Fault.{rule_name, told_place, place_text}
+use Rattle.p4x_fault.specs.internal.Buffers.{Adds}
 use Rattle.p4x_fault.proofs.print.Goals as goal
 
 pub returns-clause-line : goal.returns-clause-line

@@ -2,7 +2,7 @@
 use Rattle.std.proofs.Common.{◌≡◌, ◌<◌, false, replicate, refl, arith}
 use Rattle.p4x_bits.specs.BitLists.{num, bits}
 use Rattle.calc_core.specs.Calculations.{crc, reflected}
-use Rattle.calc_core.specs.Tables.{divided, is_table_from}
+use Rattle.calc_core.specs.internal.Tables.{divided, is_table_from}
 use Rattle.calc_core.proofs.Division.{crc_below}
 use Rattle.calc_core.proofs.crcs.crc16.Goals as goal
 

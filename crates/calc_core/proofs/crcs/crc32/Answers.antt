@@ -1,7 +1,7 @@
 -- The table is that of the polynomial.
 use Rattle.std.proofs.Common.{true, replicate, bit_xor, ap, ℕ, refl, arith}
 use Rattle.p4x_bits.specs.BitLists.{num, bits}
-use Rattle.calc_core.specs.Tables.{divided, is_table_from}
+use Rattle.calc_core.specs.internal.Tables.{divided, is_table_from}
 use Rattle.calc_core.proofs.crcs.crc32.Goals as goal
 
 pub returns : goal.returns

@@ -1,6 +1,6 @@
 -- The octets that were divided away so far.
 use Rattle.std.proofs.Common.{◌≡◌, ℕ, take, fold, IsTrue}
-use Rattle.calc_core.specs.Tables.{divided_octet, is_table_from}
+use Rattle.calc_core.specs.internal.Tables.{divided_octet, is_table_from}
 use Rattle.calc_core.proofs.crcs.divide_octets.Given as goal
 
 abbrev pub invariant-loop-octet : goal.invariant-loop-octet

@@ -2,7 +2,7 @@
 use Rattle.std.proofs.Common.{◌≡◌, ℕ, ◌-◌, ◌*◌, ◌/◌, ◌%◌, ◌^◌, ◌<◌, length, take, drop, fold, sym, ap, ◌∙◌, subst, arith}
 use Rattle.p4x_bits.specs.BitLists.{num}
 use Rattle.p4x_bits.proofs.BitLists.{num_of_take_below}
-use Rattle.calc_core.specs.Tables.{divided_octet}
+use Rattle.calc_core.specs.internal.Tables.{divided_octet}
 use Rattle.calc_core.proofs.Division.{number}
 use Rattle.calc_core.proofs.Ends.{tail_is, filled_is, filled_below, crc_whole, crc_filled}
 use Rattle.calc_core.proofs.crcs.remainder.Goals as goal

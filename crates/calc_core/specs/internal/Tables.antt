@@ -1,9 +1,12 @@
--- What the tables of the CRCs hold: remainders as numbers, whose least significant bit is the coefficient of the highest power.
+-- What the tables of the CRCs hold: remainders as numbers, whose least significant bit is the coefficient of the
+-- highest power (this project's own).
 use Rattle.std.specs.Prelude.{ℕ, zero, suc, ◌/◌, ◌%◌, Bool, true, false, if◌then◌else◌, nat_eq, List, [], ◌∷◌, bit_xor}
 
+-- the least significant bit is 1
 abbrev pub is_odd : ℕ → Bool
 is_odd n = nat_eq (n % 2) 1
 
+-- the number, or 0
 abbrev pub times : Bool → ℕ → ℕ
 times false n = 0
 times true n = n
@@ -24,4 +27,5 @@ divided_octet divisor n octet = divided 8 divisor (bit_xor n octet)
 -- each entry, from a number on, is that number with eight coefficients divided away
 unfoldable pub is_table_from : ℕ → ℕ → List ℕ → Bool
 is_table_from divisor i [] = true
-is_table_from divisor i (entry ∷ table) = if nat_eq entry (divided 8 divisor i) then is_table_from divisor (suc i) table else false
+is_table_from divisor i (entry ∷ table) =
+    if nat_eq entry (divided 8 divisor i) then is_table_from divisor (suc i) table else false
