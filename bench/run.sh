@@ -12,8 +12,6 @@ for crate in p4x_bits state_store match_core calc_core; do
     for part in src specs proofs; do cp -r "$top/crates/$crate/$part" "$work/crates/$crate"; done
     grep "^$crate:" "$top/crates.txt" >>"$work/crates.txt"
 done
-# The scan is no public call of match_core. The copy makes it one.
-sed -i 's/^pub use table::/pub use scan::scan as plain_scan;\n&/' "$work/crates/match_core/src/lib.rt"
 echo 'bench_tables: p4x_bits match_core calc_core anyhow' >>"$work/crates.txt"
 cp "$top/bench/tables.rattle" "$work/crates/bench_tables/src/main.rt"
 cp "$top/bench/fill.rattle" "$work/crates/bench_tables/proofs/fill/Invariants.antt"

@@ -14,15 +14,22 @@ empty_fill = record { entries = []; default = None }
 
 -- before the first line: one empty fill for each table, and no colours for each object
 abbrev pub nothing : Signature → Entries
-nothing g = record { tables = replicate (length g.tables) empty_fill; sessions = []; colours = replicate (length g.objects) [] }
+nothing g = record {
+  tables = replicate (length g.tables) empty_fill;
+  sessions = [];
+  colours = replicate (length g.objects) [];
+}
 
 -- the table with this number, and what was read for it
 abbrev pub table_at : Signature → ℕ → TableSig
-table_at g table = slice_index_or g.tables table (record { name = []; keys = []; actions = []; size = 0; direct = None })
+table_at g table =
+    slice_index_or g.tables table (record { name = []; keys = []; actions = []; size = 0; direct = None })
 
+-- what was read for the table with this number
 abbrev pub fill_at : Entries → ℕ → TableFill
 fill_at read table = slice_index_or read.tables table empty_fill
 
+-- the colours that were read for the object with this number
 abbrev pub colours_at : Entries → ℕ → List ℕ
 colours_at read object = slice_index_or read.colours object []
 
@@ -32,6 +39,7 @@ entry_put fills table entry =
     let fill = slice_index_or fills table empty_fill in
     slice_set fills table (record { entries = fill.entries ++ entry ∷ []; default = fill.default })
 
+-- what was read, with one more entry of a table
 abbrev pub with_entry : Entries → ℕ → Entry → Entries
 with_entry read table entry = record read { tables = entry_put read.tables table entry }
 
@@ -41,9 +49,11 @@ default_put fills table call =
     let fill = slice_index_or fills table empty_fill in
     slice_set fills table (record { entries = fill.entries; default = Some call })
 
+-- what was read, with the default of a table
 abbrev pub with_default : Entries → ℕ → DefaultCall → Entries
 with_default read table call = record read { tables = default_put read.tables table call }
 
+-- what was read, with one more session
 abbrev pub with_session : Entries → Session → Entries
 with_session read session = record read { sessions = read.sessions ++ session ∷ [] }
 

@@ -1,5 +1,5 @@
 -- The forms of the lines of an entries file (this project's own).
-use Rattle.std.specs.Prelude.{ℕ, ◌+◌, Bool, List, [], ◌∷◌, take, drop, position, codes, nat_eq, if◌then◌else◌, Option, Some, None}
+use Rattle.std.specs.Prelude.{ℕ, ◌+◌, Bool, List, [], ◌∷◌, take, drop, position, codes, if◌then◌else◌, Option, Some, None}
 use Rattle.std.specs.Str.{bytes_eq}
 use Rattle.text_lines.specs.Words.{Word}
 
@@ -14,6 +14,7 @@ pub data Form : Type 0 where
   -- `meter_colours METER COLOUR*`
   AddColours : (meter : Word) (colours : List Word) → Form
 
+-- `=>`
 abbrev pub is_arrow : Word → Bool
 is_arrow word = bytes_eq word (codes "=>")
 

@@ -1,5 +1,5 @@
 -- How the keys of an entry are written (this project's own).
-use Rattle.std.specs.Prelude.{ℕ, ◌-◌, ◌/◌, ◌^◌, Bool, ◌&&◌, ◌==◌, nat_lt, nat_le, if◌then◌else◌, List, [], ◌∷◌, ◌++◌, codes, bit_and, Option, Some, None}
+use Rattle.std.specs.Prelude.{ℕ, Bool, ◌&&◌, ◌==◌, nat_lt, nat_le, if◌then◌else◌, List, [], ◌∷◌, ◌++◌, codes, Option, Some, None}
 use Rattle.std.specs.Option.{option_map, option_and_then, option_to_list}
 use Rattle.std.specs.Str.{bytes_eq}
 use Rattle.match_core.specs.declared.signatures.KeyKind.{KeyKind}
@@ -18,6 +18,7 @@ truth_of width word =
     else (if width == 1 && bytes_eq word (codes "false") then Some 0
     else None)
 
+-- a key of one number, or a truth value where the word is no number
 abbrev pub exact_of : ℕ → Word → Option ℕ → Option KeyMatch
 exact_of width word None = option_map Exact (truth_of width word)
 exact_of width word (Some value) = Some (Exact value)
@@ -35,12 +36,17 @@ range_of low high = if nat_lt high low then None else Some (Range low high)
 abbrev pub key_by : KeyKind → ℕ → Word → Option KeyMatch
 key_by kind.Exact width word = exact_of width word (number_of word)
 key_by kind.Ternary width word =
-    option_and_then (λ parts. pair_of (λ value mask. Some (Ternary value mask)) (number_of parts.0) (number_of parts.1)) (cut (codes "&&&") word)
+    option_and_then
+    (λ parts. pair_of (λ value mask. Some (Ternary value mask)) (number_of parts.0) (number_of parts.1))
+    (cut (codes "&&&") word)
 key_by kind.Lpm width word =
-    option_and_then (λ parts. pair_of (λ value bits. Some (Lpm value bits)) (number_of parts.0) (decimal_of parts.1)) (cut (codes "/") word)
+    option_and_then
+    (λ parts. pair_of (λ value bits. Some (Lpm value bits)) (number_of parts.0) (decimal_of parts.1))
+    (cut (codes "/") word)
 key_by kind.Range width word =
     option_and_then (λ parts. pair_of range_of (number_of parts.0) (number_of parts.1)) (cut (codes "->") word)
 
+-- the key that a word is, by what the table's key is
 unfoldable pub key_of : KeySpec → Word → Option KeyMatch
 key_of spec word = key_by spec.kind spec.width word
 

@@ -20,6 +20,7 @@ use Rattle.entries_file.specs.Rules.{Tests, least_broken, call_of, meter_of, wid
 abbrev pub Judgement : Type 0
 Judgement = Result Entries ℕ
 
+-- a line that breaks no rule adds what it says
 abbrev pub judged : Option ℕ → Entries → Judgement
 judged None next = Ok next
 judged (Some rule) next = Err rule
@@ -28,25 +29,34 @@ judged (Some rule) next = Err rule
 abbrev pub judged_by : Tests → Entries → Judgement
 judged_by tests next = judged (least_broken tests) next
 
+-- a line whose table and action are known is judged further
 abbrev pub judge_call : Result Call ℕ → (Call → Judgement) → Judgement
 judge_call (Ok call) next = next call
 judge_call (Err rule) next = Err rule
 
+-- `table_add`: one more entry of the table
 abbrev pub judge_entry : Signature → Entries → List Word → List Word → Call → Judgement
 judge_entry g read keys behind call =
     judged_by (entry_tests (table_at g call.table) (widths_of g call) (fill_at read call.table) keys behind)
     (with_entry read call.table (entry_of (table_at g call.table).keys (widths_of g call) call.action keys behind))
 
+-- `table_set_default`: the table's default, in place of one before
 abbrev pub judge_default : Signature → Entries → List Word → Call → Judgement
 judge_default g read arguments call =
     judged_by (default_tests (widths_of g call) arguments)
-    (with_default read call.table (record { action = call.action; arguments = arguments_of (widths_of g call) arguments }))
+    (with_default read call.table
+    (record { action = call.action; arguments = arguments_of (widths_of g call) arguments }))
 
+-- `mirroring_add`: one more session
 abbrev pub judge_session : Entries → Word → Word → Judgement
 judge_session read session port =
     judged_by (session_tests read.sessions session port)
-    (with_session read (record { number = unwrap_or (number_up_to greatest_session session) 0; port = unwrap_or (number_up_to greatest_port port) 0 }))
+    (with_session read (record {
+      number = unwrap_or (number_up_to greatest_session session) 0;
+      port = unwrap_or (number_up_to greatest_port port) 0;
+    }))
 
+-- `meter_colours`: more colours of the meter
 abbrev pub judge_colours : Signature → Entries → Word → List Word → Judgement
 judge_colours g read meter colours =
     judged_by (colours_tests (meter_of g meter) colours)
@@ -55,8 +65,10 @@ judge_colours g read meter colours =
 -- E1: the line is of none of the four forms. Each other rule is asked of the lines of its form.
 abbrev pub judge_form : Signature → Entries → Option Form → Judgement
 judge_form g read None = Err 1
-judge_form g read (Some (AddEntry table action keys behind)) = judge_call (call_of g table action) (judge_entry g read keys behind)
-judge_form g read (Some (SetDefault table action arguments)) = judge_call (call_of g table action) (judge_default g read arguments)
+judge_form g read (Some (AddEntry table action keys behind)) =
+    judge_call (call_of g table action) (judge_entry g read keys behind)
+judge_form g read (Some (SetDefault table action arguments)) =
+    judge_call (call_of g table action) (judge_default g read arguments)
 judge_form g read (Some (AddSession session port)) = judge_session read session port
 judge_form g read (Some (AddColours meter colours)) = judge_colours g read meter colours
 
@@ -65,6 +77,7 @@ abbrev pub judge_words : Signature → Entries → List Word → Judgement
 judge_words g read [] = Ok read
 judge_words g read (first ∷ words) = if is_comment first then Ok read else judge_form g read (form_of first words)
 
+-- a line by its words
 unfoldable pub judge_line : Signature → Entries → List ℕ → Judgement
 judge_line g read line = judge_words g read (words_of line)
 
@@ -72,6 +85,7 @@ judge_line g read line = judge_words g read (words_of line)
 abbrev pub fault_at : ℕ → ℕ → Fault
 fault_at line rule = at_line (E rule) line
 
+-- the first broken line is told, and no line behind it is judged
 abbrev pub read_on : ℕ → Judgement → (Entries → Result Entries Fault) → Result Entries Fault
 read_on line (Ok next) rest = rest next
 read_on line (Err rule) rest = Err (fault_at line rule)

@@ -26,6 +26,7 @@ use Rattle.entries_file.specs.Filling.{table_at}
 
 -- names
 
+-- this name stands there
 abbrev pub has_name : Word → Option Word → Bool
 has_name name None = false
 has_name name (Some other) = bytes_eq other name
@@ -34,6 +35,7 @@ has_name name (Some other) = bytes_eq other name
 abbrev pub place_of : List (Option Word) → Word → Option ℕ
 place_of names name = position (has_name name) names
 
+-- the name of a table, of an action, and of an object that is a meter
 abbrev pub table_name : TableSig → Option Word
 table_name table = Some table.name
 
@@ -50,6 +52,7 @@ named_meter name (Meter cells) = Some name
 abbrev pub meter_name : ObjectSig → Option Word
 meter_name object = named_meter object.name object.shape
 
+-- the number of the meter of a name
 abbrev pub meter_of : Signature → Word → Option ℕ
 meter_of g name = place_of (map meter_name g.objects) name
 
@@ -58,6 +61,7 @@ abbrev pub listed_call : ℕ → Option ℕ → Result Call ℕ
 listed_call table None = Err 3
 listed_call table (Some action) = Ok (record { table = table; action = action })
 
+-- the call of an action of a table, where there is such a table
 abbrev pub table_call : Signature → Word → Option ℕ → Result Call ℕ
 table_call g action None = Err 2
 table_call g action (Some table) = listed_call table (place_of (map action_name (table_at g table).actions) action)
@@ -80,6 +84,7 @@ has_misformed (spec ∷ specs) (word ∷ words) = is_none (key_of spec word) || 
 abbrev pub is_wide_key : KeySpec → Word → Bool
 is_wide_key spec word = option_map_or (λ key. not (key_fits spec.width key)) (key_of spec word) false
 
+-- a key is too wide
 abbrev pub has_wide_key : List KeySpec → List Word → Bool
 has_wide_key [] words = false
 has_wide_key (spec ∷ specs) [] = false
@@ -89,33 +94,43 @@ has_wide_key (spec ∷ specs) (word ∷ words) = is_wide_key spec word || has_wi
 abbrev pub is_wide_argument : ℕ → Word → Bool
 is_wide_argument width word = option_map_or (λ number. not (fits width number)) (number_of word) false
 
+-- an argument is too wide
 abbrev pub has_wide_argument : List ℕ → List Word → Bool
 has_wide_argument [] words = false
 has_wide_argument (width ∷ widths) [] = false
 has_wide_argument (width ∷ widths) (word ∷ words) = is_wide_argument width word || has_wide_argument widths words
 
--- E7: there are fewer words than arguments, or more than these and so many others, or an argument is no
--- number
+-- a word is no number
 abbrev pub is_no_number : Word → Bool
 is_no_number word = is_none (number_of word)
 
+-- E7: there are fewer words than arguments, or more than these and so many others, or an argument is no
+-- number
 abbrev pub has_wrong_arguments : List ℕ → ℕ → List Word → Bool
 has_wrong_arguments widths others words =
-    nat_lt (length words) (length widths) || (nat_lt (length widths + others) (length words) || list_any is_no_number (take (length widths) words))
+    nat_lt (length words) (length widths)
+    || (nat_lt (length widths + others) (length words) || list_any is_no_number (take (length widths) words))
 
 -- one word may stand behind the arguments where the table has a ternary or a range key: the priority
 abbrev pub priority_words : List KeySpec → ℕ
 priority_words specs = if by_priority specs then 1 else 0
 
--- the priority is up to 2 ^ 31 - 1; it is 0 where the table has none
-abbrev pub priority_of : List KeySpec → ℕ → List Word → Option ℕ
-priority_of specs arguments words = if by_priority specs then option_and_then (number_up_to 2147483647) (slice_get words arguments) else Some 0
+-- the greatest priority: 2 ^ 31 - 1
+abbrev pub greatest_priority : ℕ
+greatest_priority = 2147483647
 
--- E8: an entry of the table has the same priority and the same keys, where a value counts on its mask or
--- its prefix
+-- the priority behind the arguments, where the table has priorities; it is 0 where it has none
+abbrev pub priority_of : List KeySpec → ℕ → List Word → Option ℕ
+priority_of specs arguments words =
+    if by_priority specs then option_and_then (number_up_to greatest_priority) (slice_get words arguments)
+    else Some 0
+
+-- an entry of the table has this priority and these keys
 abbrev pub has_same : List KeySpec → TableFill → List ℕ → Bool
 has_same specs fill same = list_any (λ (entry : Entry). bytes_eq (identity specs entry) same) fill.entries
 
+-- E8: an entry of the table has the same priority and the same keys, where a value counts on its mask or
+-- its prefix
 abbrev pub stands_twice : List KeySpec → TableFill → List Word → Option ℕ → Bool
 stands_twice specs fill keys None = false
 stands_twice specs fill keys (Some priority) = has_same specs fill (priority ∷ counted_all specs (keys_of specs keys))
@@ -128,13 +143,15 @@ lacks_priority priority = is_none priority
 abbrev pub is_full : TableSig → TableFill → Bool
 is_full table fill = nat_le table.size (length fill.entries)
 
--- E10: the session isn't a number up to the greatest or was given before, or its port isn't one up to the greatest
+-- a session with this number was given before
 abbrev pub has_session : List Session → ℕ → Bool
 has_session sessions number = list_any (λ (session : Session). session.number == number) sessions
 
+-- E10: the session isn't a number up to the greatest or was given before, or its port isn't one up to the greatest
 abbrev pub is_wrong_session : List Session → Word → Word → Bool
 is_wrong_session sessions session port =
-    option_map_or (has_session sessions) (number_up_to greatest_session session) true || is_none (number_up_to greatest_port port)
+    option_map_or (has_session sessions) (number_up_to greatest_session session) true
+    || is_none (number_up_to greatest_port port)
 
 -- E11: the program has no meter of that name, or a colour isn't 0, 1 or 2
 abbrev pub is_no_colour : Word → Bool
@@ -154,7 +171,8 @@ abbrev pub key_tests : List KeySpec → List Word → Tests
 key_tests specs keys = (5, has_misformed specs keys) ∷ (6, has_wide_key specs keys) ∷ []
 
 abbrev pub argument_tests : List ℕ → ℕ → List Word → Tests
-argument_tests widths others words = (6, has_wide_argument widths words) ∷ (7, has_wrong_arguments widths others words) ∷ []
+argument_tests widths others words =
+    (6, has_wide_argument widths words) ∷ (7, has_wrong_arguments widths others words) ∷ []
 
 -- the rules of a `table_add` whose table and action are known, in order
 abbrev pub entry_tests : TableSig → List ℕ → TableFill → List Word → List Word → Tests
@@ -184,7 +202,12 @@ arguments_of widths words = filter_map number_of (take (length widths) words)
 
 abbrev pub entry_of : List KeySpec → List ℕ → ℕ → List Word → List Word → Entry
 entry_of specs widths action keys behind =
-    record { keys = keys_of specs keys; priority = unwrap_or (priority_of specs (length widths) behind) 0; action = action; arguments = arguments_of widths behind }
+    record {
+      keys = keys_of specs keys;
+      priority = unwrap_or (priority_of specs (length widths) behind) 0;
+      action = action;
+      arguments = arguments_of widths behind;
+    }
 
 abbrev pub widths_of : Signature → Call → List ℕ
 widths_of g call = (action_at (table_at g call.table) call.action).widths

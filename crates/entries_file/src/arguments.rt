@@ -13,7 +13,7 @@ use p4x_bits::Numbers;
 use std::alloc::Global;
 
 /// The greatest priority.
-const MOST_PRIORITY: u128 = 2147483647;
+const GREATEST_PRIORITY: u128 = 2147483647;
 
 /// How many words may stand behind the arguments of an entry.
 pub fn priority_words(specs: &[KeySpec]) -> usize
@@ -87,7 +87,7 @@ pub fn priority_of(specs: &[KeySpec], arguments: usize, words: &[&[u8]]) -> Opti
         return Some(0);
     }
     let word = words.get(arguments)?;
-    let priority = number_up_to(MOST_PRIORITY, word)?;
+    let priority = number_up_to(GREATEST_PRIORITY, word)?;
     Some(priority as u32)
 }
 

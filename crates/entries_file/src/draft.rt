@@ -7,9 +7,7 @@ ghost use Rattle.entries_file.specs.internal.Staged.{Stage};
 ghost use Rattle.entries_file.specs.internal.Drafts.{drafted, IsDraft, IsDraftOf};
 
 use crate::fault::Stop;
-use match_core::{
-    DefaultCall, Entries, Entry, Key, KeySpec, Signature, TableFill, push_identity,
-};
+use match_core::{DefaultCall, Entries, Entry, Key, KeySpec, Signature, TableFill, push_identity};
 use p4x_bits::{Numbers, OutOfMemory, Rows};
 use state_store::Session;
 use std::alloc::Global;

@@ -6,8 +6,8 @@ ghost use Rattle.entries_file.specs.Rules as rules;
 ghost use Rattle.entries_file.specs.internal.Kept as kept;
 ghost use Rattle.entries_file.specs.internal.Staged.{Stage};
 
-use crate::fault::Stop;
 use crate::cuts::cut;
+use crate::fault::Stop;
 use crate::numerals::{Number, fitted, is_over, read_decimal, read_number};
 use match_core::{KeyKind, KeyMatch, KeySpec};
 use p4x_bits::{OutOfMemory, Rows};

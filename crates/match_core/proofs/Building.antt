@@ -1,5 +1,5 @@
 -- Entries that fit a well-formed signature meet every condition of a table that is built of them.
-use Rattle.std.proofs.Common.{◌≡◌, ℕ, zero, suc, ◌+◌, ◌<◌, ◌≤◌, ◌^◌, List, [], ◌∷◌, ◌++◌, length, take, get_or, All, refl, sym, ap, ◌∙◌, subst, arith}
+use Rattle.std.proofs.Common.{◌≡◌, ℕ, zero, suc, ◌+◌, ◌<◌, ◌^◌, List, [], ◌∷◌, ◌++◌, length, take, get_or, All, refl, sym, ap, ◌∙◌, arith}
 use Rattle.std.specs.List.{AllZip}
 use Rattle.std.proofs.lemmas.List.{take_more, length-take-le}
 use Rattle.std.proofs.lemmas.Slice.Zip.{AllZip-long}
@@ -11,7 +11,7 @@ use Rattle.match_core.specs.declared.entries.TableFill.{TableFill}
 use Rattle.match_core.specs.declared.entries.Entries.{Entries}
 use Rattle.match_core.specs.Best.{Filled}
 use Rattle.match_core.specs.Signatures.{AreSpecs, IsTable, IsSignature}
-use Rattle.match_core.specs.Fits.{FitsKeys, FitsEntry, FitsFill, Fits}
+use Rattle.match_core.specs.Fits.{FitsKeys, FitsFill, Fits}
 use Rattle.match_core.specs.Tables.{filled_of, filled_tables}
 
 -- two lists of one length, item by item

@@ -1,6 +1,6 @@
 -- Laws of the index by prefix length and code.
-use Rattle.std.proofs.Common.{◌≡◌, ℕ, zero, suc, ◌+◌, ◌-◌, ◌/◌, ◌^◌, ◌<◌, ◌≤◌, ◌==◌, ◌&&◌, not, nat_eq, Bool, true, false, cond, inl, inr, Option, Some, None, unwrap_or, List, [], ◌∷◌, ◌++◌, length, min, drop, count_by, get_or, All, refl, sym, ◌∙◌, ap, subst, add-one, arith}
-use Rattle.std.specs.List.{AllZip, list_all, list_any}
+use Rattle.std.proofs.Common.{◌≡◌, ℕ, suc, ◌+◌, ◌-◌, ◌/◌, ◌^◌, ◌<◌, ◌≤◌, ◌==◌, ◌&&◌, not, nat_eq, Bool, true, false, cond, inl, inr, Option, Some, None, unwrap_or, List, [], ◌∷◌, ◌++◌, length, min, drop, count_by, get_or, All, refl, sym, ◌∙◌, ap, subst, add-one, arith}
+use Rattle.std.specs.List.{AllZip}
 use Rattle.std.specs.Ordering.{nat_cmp, is_eq}
 use Rattle.std.specs.declared.cmp.Ordering.{Ordering}
 use Rattle.std.specs.Cmp.{unsigned_ties}
@@ -18,12 +18,12 @@ use Rattle.match_core.specs.declared.entries.KeyMatch.{KeyMatch}
 use Rattle.match_core.specs.declared.entries.KeyMatch.TheVariants.{Exact, Ternary, Lpm, Range}
 use Rattle.match_core.specs.declared.entries.Entry.{Entry}
 use Rattle.match_core.specs.declared.levels.Level.{Level}
-use Rattle.match_core.specs.Matching.{matches, matches_one, has_priority, by_priority, prefix_of, prefix_length, rank_of}
-use Rattle.match_core.specs.Best.{Filled, Leads, IsLeader, IsBest, entry_at}
+use Rattle.match_core.specs.Matching.{matches, has_priority, by_priority, prefix_length, rank_of}
+use Rattle.match_core.specs.Best.{Leads, IsLeader, IsBest, entry_at}
 use Rattle.match_core.specs.Signatures.{is_lpm, AreSpecs}
 use Rattle.match_core.specs.Fits.{FitsKey, FitsKeys}
 use Rattle.match_core.specs.internal.Levels.{found_in, IsLevelPut}
-use Rattle.match_core.specs.internal.Codes.{are_plain, code_one, code_of, part_by, code_at, has_code, IsCodeIndex, key_found, number_found, IsFoundAt, IsLongest}
+use Rattle.match_core.specs.internal.Codes.{are_plain, code_one, code_of, code_at, has_code, IsCodeIndex, key_found, number_found, IsFoundAt, IsLongest}
 use Rattle.match_core.specs.internal.Index.{IsNumberIndex}
 use Rattle.match_core.proofs.Matches.{matches-differ}
 use Rattle.match_core.proofs.Leaders.{pass_is}

@@ -1,6 +1,5 @@
 -- What holds of each two items of a list, up to a number.
-use Rattle.std.proofs.Common.{◌≡◌, ℕ, ◌+◌, ◌-◌, ◌<◌, ◌≤◌, inl, inr, List, length, get_or, subst, arith, true, false, Some, None, Option}
-use Rattle.std.specs.List.{AllPairs}
+use Rattle.std.proofs.Common.{ℕ, ◌+◌, ◌-◌, ◌<◌, ◌≤◌, inl, inr, List, get_or, subst, arith}
 use Rattle.std.proofs.lemmas.Bool.{cases_eq}
 
 -- each of the first items with each later one of them

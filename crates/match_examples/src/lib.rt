@@ -1,4 +1,4 @@
-//! Look-ups against worked examples, and against the plain scan on random tables; and small signatures, well formed and not.
+//! Look-ups against worked examples, and against the plain scan on random tables.
 #![tactic(auto)]
 
 #[cfg(test)]

@@ -24,7 +24,8 @@ use Rattle.entries_file.specs.Reading.{Judgement, fault_at}
 -- the new map has the number at the key, where the old one had none, and else what the old one had
 abbrev pub IsPut : {K : Type 0} → (K → K → Ordering) → BTreeMap K ℕ → BTreeMap K ℕ → K → ℕ → Type 0
 IsPut {K} cmp old new key i =
-    (other : K) → get cmp new other ≡ (if is_eq (cmp key other) then Some (unwrap_or (get cmp old key) i) else get cmp old other)
+    (other : K)
+    → get cmp new other ≡ (if is_eq (cmp key other) then Some (unwrap_or (get cmp old key) i) else get cmp old other)
 
 -- what a map from names has for a name
 abbrev pub name_found : {K : Type 0} → (K → Word) → BTreeMap K ℕ → Word → Option ℕ
@@ -37,7 +38,9 @@ IsNameIndex now map names = (name : Word) → name_found now map name ≡ place_
 -- the names of each table's actions are found
 pub record AreActionIndexes (tables : List TableSig) (indexes : List NameIndex) : Type 0 where
   pub count : length indexes ≡ length tables
-  pub each : (table : ℕ) (d : TableSig) (e : NameIndex) → table < length tables → IsNameIndex (λ key. key.now) (slice_index_or indexes table e).map (map action_name (slice_index_or tables table d).actions)
+  pub each : (table : ℕ) (d : TableSig) (e : NameIndex) → table < length tables
+      → IsNameIndex (λ key. key.now) (slice_index_or indexes table e).map
+      (map action_name (slice_index_or tables table d).actions)
 
 -- the names of the signature are found
 pub record IsNames (g : Signature) (names : Names) : Type 0 where
@@ -54,7 +57,9 @@ drafted draft = record { tables = draft.tables.items; sessions = draft.sessions;
 pub record IsDraft (g : Signature) (draft : Draft) : Type 0 where
   pub tables : length draft.tables.items ≡ length g.tables
   pub colours : length draft.colours.items ≡ length g.objects
-  pub keys : (table : ℕ) (same : List ℕ) → contains (slice_cmp nat_cmp) draft.keys (table ∷ same) ≡ has_same (table_at g table).keys (fill_at (drafted draft) table) same
+  pub keys : (table : ℕ) (same : List ℕ)
+      → contains (slice_cmp nat_cmp) draft.keys (table ∷ same)
+      ≡ has_same (table_at g table).keys (fill_at (drafted draft) table) same
   pub numbers : (number : ℕ) → contains nat_cmp draft.numbers number ≡ has_session draft.sessions number
 
 -- the draft is one of what was read then

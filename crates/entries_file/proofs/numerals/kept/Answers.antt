@@ -1,4 +1,3 @@
-use Rattle.std.proofs.Common.{sym}
 use Rattle.entries_file.proofs.Digits.{some_kept, none_kept}
 use Rattle.entries_file.proofs.numerals.kept.Goals as goal
 

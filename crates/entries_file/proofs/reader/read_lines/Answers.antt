@@ -1,9 +1,6 @@
-use Rattle.std.proofs.Common.{◌∙◌, sym, subst, Err, arith}
-use Rattle.std.specs.Str.Lines.{lines}
-use Rattle.entries_file.specs.declared.fault.EntryFault.{EntryFault}
-use Rattle.entries_file.specs.Reading.{judge_line, read_lines}
-use Rattle.entries_file.specs.internal.Drafts.{drafted, IsRead}
-use Rattle.entries_file.proofs.LineLaws.{read_end, read_next, refused_next, refused_read}
+use Rattle.std.proofs.Common.{◌∙◌, arith}
+use Rattle.entries_file.specs.internal.Drafts.{drafted}
+use Rattle.entries_file.proofs.LineLaws.{read_next}
 use Rattle.entries_file.proofs.reader.read_lines.Goals as goal
 
 pub loop-one-preserved : goal.loop-one-preserved

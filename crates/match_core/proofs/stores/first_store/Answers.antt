@@ -1,4 +1,4 @@
-use Rattle.std.proofs.Common.{◌≡◌, ◌<◌, List, ℕ, length, get_or, take, arith, sym, ap, ◌∙◌, subst}
+use Rattle.std.proofs.Common.{◌<◌, length, arith, ap, ◌∙◌}
 use Rattle.match_core.proofs.Colouring.{cells_more, as_many_colours, small_colours, is_meter, cells_within}
 use Rattle.match_core.proofs.stores.first_store.Goals as goal
 

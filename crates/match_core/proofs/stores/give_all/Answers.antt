@@ -1,5 +1,5 @@
-use Rattle.std.proofs.Common.{arith, rules}
-use Rattle.match_core.proofs.Colouring.{given_more, given_none}
+use Rattle.std.proofs.Common.{arith}
+use Rattle.match_core.proofs.Colouring.{given_more}
 use Rattle.match_core.proofs.stores.give_all.Goals as goal
 
 pub loop-colour-preserved : goal.loop-colour-preserved

@@ -1,7 +1,7 @@
-use Rattle.std.proofs.Common.{◌≡◌, ◌<◌, List, [], None, length, get_or, take, arith, sym, ap, ◌∙◌}
+use Rattle.std.proofs.Common.{◌≡◌, ◌<◌, [], None, length, arith, ap}
 use Rattle.std.proofs.lemmas.List.{take_all}
 use Rattle.match_core.proofs.Building.{can_build, as_many_fills}
-use Rattle.match_core.proofs.Sizing.{sized_more, all_sized, direct_within}
+use Rattle.match_core.proofs.Sizing.{sized_more, all_sized}
 use Rattle.match_core.proofs.stores.shapes_of.Goals as goal
 
 pub overflow_cast-entries : goal.overflow_cast-entries

@@ -1,8 +1,6 @@
-use Rattle.std.proofs.Common.{◌≡◌, ◌<◌, length, get_or, take, arith, sym, ap, ◌∙◌}
-use Rattle.std.proofs.lemmas.List.{take_all, get_or_read}
-use Rattle.match_core.specs.declared.signatures.TableSig.{TableSig}
-use Rattle.match_core.specs.declared.entries.TableFill.{TableFill}
-use Rattle.match_core.proofs.Building.{CanBuild, can_build, as_many_fills, filled_more}
+use Rattle.std.proofs.Common.{◌≡◌, ◌<◌, length, arith, ap}
+use Rattle.std.proofs.lemmas.List.{take_all}
+use Rattle.match_core.proofs.Building.{can_build, as_many_fills, filled_more}
 use Rattle.match_core.proofs.table.build_tables.Goals as goal
 
 pub build-requires-clause-few : goal.build-requires-clause-few
