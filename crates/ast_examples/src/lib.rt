@@ -6,3 +6,7 @@
 mod ast14;
 #[cfg(test)]
 mod ast16;
+#[cfg(test)]
+mod declared14;
+#[cfg(test)]
+mod walk14;

@@ -108,6 +108,9 @@ module _ (es : List ExprNode) (ss : List StmtNode) (o : InOrder es ss) where
         };
         place = omega (arith, length-append es' (expr_of es' x ∷ []));
         tree = at_end es' (expr_of es' x) i (truth false) (omega arith);
+        last = omega arith;
+        exprs = refl;
+        stmts = refl;
       })
 
   pub adds_stmt : (x : StmtNode) (i : ℕ) → i ≡ length ss → AddsStmt (trees_of es ss) (trees_of es (ss ++ x ∷ [])) i (stmt_of (trees_of es ss).exprs (trees_of es ss).stmts x)
@@ -125,6 +128,9 @@ module _ (es : List ExprNode) (ss : List StmtNode) (o : InOrder es ss) where
         };
         place = omega (arith, length-append ss' (stmt_of es' ss' x ∷ []));
         tree = at_end ss' (stmt_of es' ss' x) i no_statements (omega arith);
+        last = omega arith;
+        exprs = refl;
+        stmts = refl;
       })
 
 -- to read a node

@@ -1,6 +1,6 @@
 -- What the grammar of P4_14 asks of a syntax besides its words and marks: how operators group, what stands at most once
 -- or at least once, and which of two alternatives is meant where both could be written so. Where an earlier alternative
--- of a line can be written with the same tokens, that one is meant (P4_14 1.0.5, sections 1.6 and 2 to 11; the tightness of
+-- of a line can be written with the same tokens, that one is meant (P4_14 1.0.5, "P4 BNF Grammar"; the tightness of
 -- operators, and that no word is reserved everywhere, are this project's own).
 use Rattle.std.specs.Prelude.{ℕ, zero, suc, Bool, true, false, not, ◌&&◌, nat_eq, nat_le, List, [], ◌∷◌, ◌++◌, codes, map, Option, Some, None}
 use Rattle.std.specs.List.{list_all, list_any}
@@ -78,7 +78,8 @@ is_expr least (number n) = true
 is_expr least (parenthesized e) = is_expr 0 e
 is_expr least (unary operator e) = nat_le least (unary_power operator) && is_expr (unary_power operator) e
 is_expr least (binary operator a b) =
-    nat_le least (binary_power operator) && (is_expr (binary_power operator) a && is_expr (suc (binary_power operator)) b)
+    nat_le least (binary_power operator)
+    && (is_expr (binary_power operator) a && is_expr (suc (binary_power operator)) b)
 
 -- header types: `length` and `max_length` stand at most once each
 
@@ -125,7 +126,8 @@ abbrev pub is_case : Case → Bool
 is_case c = is_case_values c.values
 
 abbrev pub is_return : Return → Bool
-is_return (end_of.Select vs cs) = (is_some_listed vs && list_all is_select_value vs) && (is_some_listed cs && list_all is_case cs)
+is_return (end_of.Select vs cs) =
+    (is_some_listed vs && list_all is_select_value vs) && (is_some_listed cs && list_all is_case cs)
 is_return (end_of.State s) = true
 is_return (end_of.ParseError e) = true
 
@@ -150,7 +152,8 @@ table_needs = codes "actions" ∷ codes "action_profile" ∷ []
 
 abbrev pub are_table_attrs : List TableAttr → Bool
 are_table_attrs attrs =
-    list_all is_table_attr attrs && (all_different (map table_word attrs) && has_word table_needs (map table_word attrs))
+    list_all is_table_attr attrs
+    && (all_different (map table_word attrs) && has_word table_needs (map table_word attrs))
 
 -- counters, meters and registers: each attribute stands at most once; a counter and a meter have `type`, a register has
 -- `width` or `layout`
@@ -221,7 +224,8 @@ is_stmt block no_statements = true
 is_stmt block (then before last) = is_stmt block before && is_stmt statement last
 is_stmt statement (apply table) = true
 is_stmt statement (apply_branches table bs) = is_stmt branches bs && are_labels (labels_of bs)
-is_stmt statement (if_then condition body other) = is_expr 0 condition && (is_stmt block body && is_stmt behind_if other)
+is_stmt statement (if_then condition body other) =
+    is_expr 0 condition && (is_stmt block body && is_stmt behind_if other)
 is_stmt statement (call control) = true
 is_stmt behind_if no_else = true
 is_stmt behind_if (else_block body) = is_stmt block body

@@ -1,5 +1,5 @@
--- The operators of expressions, each with its token and how tightly it binds (this project's own order; P4_14 1.0.5,
--- section 1.5.2, leaves it to C).
+-- The operators of expressions, each with its token and how tightly it binds (this project's own order; P4_14 1.0.5
+-- leaves it to C).
 use Rattle.std.specs.Prelude.{ℕ, codes}
 use Rattle.p414_ast.specs.declared.lexeme.Lexeme.{Lexeme}
 use Rattle.p414_ast.specs.declared.lexeme.Lexeme.TheVariants.{Mark}

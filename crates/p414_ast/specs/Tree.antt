@@ -1,4 +1,5 @@
--- Expressions and statements as trees, and the trees that a list of nodes stands for (P4_14 1.0.5, sections 2 and 11).
+-- Expressions and statements as trees, and the trees that a list of nodes stands for (P4_14 1.0.5,
+-- "Header Type Declarations", "Packet Processing and Control Flow").
 use Rattle.std.specs.Prelude.{◌≡◌, ℕ, suc, ◌<◌, ◌≤◌, Bool, List, [], ◌∷◌, ◌++◌, length, slice_index_or}
 use Rattle.p414_ast.specs.declared.lexeme.Literal.{Literal}
 use Rattle.p414_ast.specs.declared.parts.Inst.{Inst}
@@ -127,14 +128,20 @@ pub record Keeps (old new : Trees) : Type 0 where
   pub exprs : (i : ℕ) → i < length old.exprs → expr_at new.exprs i ≡ expr_at old.exprs i
   pub stmts : (i : ℕ) → i < length old.stmts → stmt_at new.stmts i ≡ stmt_at old.stmts i
 
--- one more expression, at the place i
+-- one more expression, at the place i: it stands behind the earlier ones, and nothing else is added
 pub record AddsExpr (old new : Trees) (i : ℕ) (e : Expr) : Type 0 where
   pub keeps : Keeps old new
   pub place : i < length new.exprs
   pub tree : expr_at new.exprs i ≡ e
+  pub last : i ≡ length old.exprs
+  pub exprs : new.exprs ≡ old.exprs ++ e ∷ []
+  pub stmts : new.stmts ≡ old.stmts
 
--- one more statement, at the place i
+-- one more statement, at the place i: it stands behind the earlier ones, and nothing else is added
 pub record AddsStmt (old new : Trees) (i : ℕ) (s : Stmt) : Type 0 where
   pub keeps : Keeps old new
   pub place : i < length new.stmts
   pub tree : stmt_at new.stmts i ≡ s
+  pub last : i ≡ length old.stmts
+  pub exprs : new.exprs ≡ old.exprs
+  pub stmts : new.stmts ≡ old.stmts ++ s ∷ []

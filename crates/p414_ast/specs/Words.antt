@@ -1,4 +1,4 @@
--- The words and marks that the grammar of P4_14 quotes, as tokens (P4_14 1.0.5, section 1.6).
+-- The words and marks that the grammar of P4_14 quotes, as tokens (P4_14 1.0.5, "P4 BNF Grammar").
 use Rattle.std.specs.Prelude.{ℕ, List}
 use Rattle.p414_ast.specs.declared.lexeme.Lexeme.{Lexeme}
 use Rattle.p414_ast.specs.declared.lexeme.Lexeme.TheVariants as lexeme

@@ -1,5 +1,5 @@
 -- The tokens that a syntax is written with: each part of the grammar with its words, its marks and its parts in order
--- (P4_14 1.0.5, sections 1.6 and 2 to 11).
+-- (P4_14 1.0.5, "P4 BNF Grammar").
 use Rattle.std.specs.Prelude.{ℕ, Bool, true, false, cond, List, [], ◌∷◌, ◌++◌, codes, Option, Some, None}
 use Rattle.std.specs.List.{flat_map}
 use Rattle.p414_ast.specs.declared.lexeme.Literal.{Literal}
@@ -162,7 +162,8 @@ written_field_attributes [] = []
 written_field_attributes (a ∷ more) = in_parens (by_commas written_name (a ∷ more))
 
 abbrev pub written_field : Field → List Lexeme
-written_field f = name f.name ∷ colon ∷ (written_width f.width ++ (written_field_attributes f.attributes ++ semicolon ∷ []))
+written_field f =
+    name f.name ∷ colon ∷ (written_width f.width ++ (written_field_attributes f.attributes ++ semicolon ∷ []))
 
 abbrev pub tail_word : TailTree → List ℕ
 tail_word (length_is e) = codes "length"
@@ -177,13 +178,15 @@ written_tail t = attribute (tail_word t) (written_expr (tail_expr t))
 
 abbrev pub written_header_type : HeaderTypeTree → List Lexeme
 written_header_type h =
-    name (codes "header_type") ∷ name h.name ∷ in_braces (name (codes "fields") ∷ (in_braces (flat_map written_field h.fields) ++ flat_map written_tail h.tails))
+    name (codes "header_type") ∷ name h.name
+    ∷ in_braces (name (codes "fields") ∷ (in_braces (flat_map written_field h.fields) ++ flat_map written_tail h.tails))
 
 abbrev pub written_size : Literal → List Lexeme
 written_size n = bracket_open ∷ lexeme.Number n ∷ bracket_close ∷ []
 
 abbrev pub written_header : Header → List Lexeme
-written_header h = name (codes "header") ∷ name h.header_type ∷ name h.name ∷ (written_option written_size h.size ++ semicolon ∷ [])
+written_header h =
+    name (codes "header") ∷ name h.header_type ∷ name h.name ∷ (written_option written_size h.size ++ semicolon ∷ [])
 
 abbrev pub written_initial : Initial → List Lexeme
 written_initial i = attribute i.field (written_number i.value)
@@ -228,19 +231,22 @@ abbrev pub written_calc : Calc → List Lexeme
 written_calc c = written_use c.used_to ∷ name c.calculation ∷ (written_option written_if c.condition ++ semicolon ∷ [])
 
 abbrev pub written_calculated : CalculatedField → List Lexeme
-written_calculated c = name (codes "calculated_field") ∷ (written_ref c.field ++ in_braces (flat_map written_calc c.entries))
+written_calculated c =
+    name (codes "calculated_field") ∷ (written_ref c.field ++ in_braces (flat_map written_calc c.entries))
 
 -- parser states
 
 abbrev pub written_pvalue : PValue → List Lexeme
-written_pvalue (pvalue.Current offset bits) = name (codes "current") ∷ in_parens (lexeme.Number offset ∷ comma ∷ lexeme.Number bits ∷ [])
+written_pvalue (pvalue.Current offset bits) =
+    name (codes "current") ∷ in_parens (lexeme.Number offset ∷ comma ∷ lexeme.Number bits ∷ [])
 written_pvalue (pvalue.Latest f) = name (codes "latest") ∷ dot ∷ name f ∷ []
 written_pvalue (pvalue.Field r) = written_ref r
 written_pvalue (pvalue.Number n) = written_number n
 
 abbrev pub written_pstmt : PStmt → List Lexeme
 written_pstmt (pstmt.Extract i) = name (codes "extract") ∷ (in_parens (written_inst i) ++ semicolon ∷ [])
-written_pstmt (pstmt.SetMetadata r v) = name (codes "set_metadata") ∷ (in_parens (written_ref r ++ comma ∷ written_pvalue v) ++ semicolon ∷ [])
+written_pstmt (pstmt.SetMetadata r v) =
+    name (codes "set_metadata") ∷ (in_parens (written_ref r ++ comma ∷ written_pvalue v) ++ semicolon ∷ [])
 
 abbrev pub written_mask : Literal → List Lexeme
 written_mask n = name (codes "mask") ∷ lexeme.Number n ∷ []
@@ -261,12 +267,14 @@ written_case c = written_case_values c.values ++ colon ∷ (written_target c.tar
 
 abbrev pub written_return : Return → List Lexeme
 written_return (end_of.Select vs cs) =
-    name (codes "return") ∷ name (codes "select") ∷ (in_parens (by_commas written_pvalue vs) ++ in_braces (flat_map written_case cs))
+    name (codes "return") ∷ name (codes "select")
+    ∷ (in_parens (by_commas written_pvalue vs) ++ in_braces (flat_map written_case cs))
 written_return (end_of.State s) = name (codes "return") ∷ name s ∷ semicolon ∷ []
 written_return (end_of.ParseError e) = name (codes "parse_error") ∷ name e ∷ semicolon ∷ []
 
 abbrev pub written_parser : Parser → List Lexeme
-written_parser p = name (codes "parser") ∷ name p.name ∷ in_braces (flat_map written_pstmt p.statements ++ written_return p.end)
+written_parser p =
+    name (codes "parser") ∷ name p.name ∷ in_braces (flat_map written_pstmt p.statements ++ written_return p.end)
 
 -- actions
 
@@ -280,7 +288,8 @@ written_call c = name c.name ∷ (in_parens (by_commas written_arg c.arguments) 
 
 abbrev pub written_action : Action → List Lexeme
 written_action a =
-    name (codes "action") ∷ name a.name ∷ (in_parens (by_commas written_name a.parameters) ++ in_braces (flat_map written_call a.calls))
+    name (codes "action") ∷ name a.name
+    ∷ (in_parens (by_commas written_name a.parameters) ++ in_braces (flat_map written_call a.calls))
 
 -- tables
 
@@ -313,7 +322,8 @@ written_table_value (table_attr.MinSize n) = attribute_value (written_literal n)
 written_table_value (table_attr.MaxSize n) = attribute_value (written_literal n)
 written_table_value (table_attr.Size n) = attribute_value (written_literal n)
 written_table_value (table_attr.SupportTimeout on) = attribute_value (written_truth on)
-written_table_value (table_attr.DefaultAction a arguments) = attribute_value (name a ∷ written_option written_arguments arguments)
+written_table_value (table_attr.DefaultAction a arguments) =
+    attribute_value (name a ∷ written_option written_arguments arguments)
 written_table_value (table_attr.ActionProfile p) = attribute_value (written_name p)
 
 abbrev pub written_table_attr : TableAttr → List Lexeme
@@ -374,7 +384,8 @@ abbrev pub written_stmt : Stmt → List Lexeme
 written_stmt no_statements = []
 written_stmt (then before last) = written_stmt before ++ written_stmt last
 written_stmt (apply table) = name (codes "apply") ∷ (in_parens (written_name table) ++ semicolon ∷ [])
-written_stmt (apply_branches table bs) = name (codes "apply") ∷ (in_parens (written_name table) ++ in_braces (written_stmt bs))
+written_stmt (apply_branches table bs) =
+    name (codes "apply") ∷ (in_parens (written_name table) ++ in_braces (written_stmt bs))
 written_stmt (if_then condition body other) =
     name (codes "if") ∷ (in_parens (written_expr condition) ++ (in_braces (written_stmt body) ++ written_stmt other))
 written_stmt (call control) = name control ∷ paren_open ∷ paren_close ∷ semicolon ∷ []

@@ -1,4 +1,4 @@
-// Actions (P4_14 1.0.5, section 9).
+// Actions (P4_14 1.0.5, "Actions").
 use crate::parts::{Inst, Number, Ref};
 use p4x_bits::{Rows, Text};
 

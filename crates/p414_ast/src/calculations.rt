@@ -1,4 +1,5 @@
-// Field lists, calculations over them, and the fields that are calculated (P4_14 1.0.5, sections 3 and 4).
+// Field lists, calculations over them, and the fields that are calculated (P4_14 1.0.5, "Field Lists", "Checksums and
+// Hash-value Generators").
 use crate::lexeme::Literal;
 use crate::parts::{Inst, Ref};
 use p4x_bits::{Rows, Text};

@@ -1,8 +1,9 @@
-// Controls (P4_14 1.0.5, section 11).
+// Controls (P4_14 1.0.5, "Packet Processing and Control Flow").
 ghost use Rattle.std.specs.Prelude.{◌≡◌, ◌<◌, length};
 ghost use Rattle.p414_ast.specs.Tree.{stmt_at};
 ghost use Rattle.p414_ast.specs.Views.{control_tree};
 
+use crate::heads::{StmtView, stmt_view};
 use crate::nodes::Nodes;
 use p4x_bits::Text;
 use std::marker::Model;
@@ -62,5 +63,19 @@ impl Control {
             nodes: &self.nodes,
             body: self.body,
         }
+    }
+
+    /// The name.
+    pub fn name(&self) -> &Text
+        ensures { result.now ≡ self.now.name }
+    {
+        &self.name
+    }
+
+    /// The list of statements of the body.
+    pub fn body(&self) -> StmtView<'_>
+        ensures { result ≡ self.now.body }
+    {
+        stmt_view(&self.nodes, self.body)
     }
 }

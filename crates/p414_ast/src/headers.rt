@@ -1,7 +1,9 @@
-// Header types, header instances and metadata (P4_14 1.0.5, section 2).
+// Header types, header instances and metadata (P4_14 1.0.5, "Headers and Fields").
 ghost use Rattle.std.specs.Prelude.{◌≡◌, map};
+ghost use Rattle.p414_ast.specs.Attributes.{initials_of, length_of, max_length_of};
 ghost use Rattle.p414_ast.specs.Views.{header_type_tree, tail_tree, TailsWithin};
 
+use crate::heads::{ExprView, expr_view};
 use crate::lexeme::Literal;
 use crate::nodes::Nodes;
 use crate::parts::Number;
@@ -102,6 +104,60 @@ impl HeaderType {
             nodes: &self.nodes,
         }
     }
+
+    /// The name.
+    pub fn name(&self) -> &Text
+        ensures { result.now ≡ self.now.name }
+    {
+        &self.name
+    }
+
+    /// The fields in order.
+    pub fn fields(&self) -> &[Field]
+        ensures { result.now ≡ self.now.fields }
+    {
+        self.fields.as_slice()
+    }
+
+    /// The expression behind `length`. The first such attribute counts.
+    pub fn length(&self) -> Option<ExprView<'_>>
+        ensures { result ≡ length_of self.now.tails }
+    {
+        first_length(&self.nodes, self.tails.as_slice())
+    }
+
+    /// The expression behind `max_length`. The first such attribute counts.
+    pub fn max_length(&self) -> Option<ExprView<'_>>
+        ensures { result ≡ max_length_of self.now.tails }
+    {
+        first_max_length(&self.nodes, self.tails.as_slice())
+    }
+}
+
+/// The expression behind the first `length`.
+fn first_length<'a>(nodes: &'a Nodes, tails: &[TypeTail]) -> Option<ExprView<'a>>
+    requires { TailsWithin nodes.now tails.now }
+    ensures { result ≡ length_of (map (tail_tree nodes.now) tails.now) }
+{
+    for tail in tails {
+        if let TypeTail::Length(place) = tail {
+            return Some(expr_view(nodes, *place));
+        }
+    }
+    None
+}
+
+/// The expression behind the first `max_length`.
+fn first_max_length<'a>(nodes: &'a Nodes, tails: &[TypeTail]) -> Option<ExprView<'a>>
+    requires { TailsWithin nodes.now tails.now }
+    ensures { result ≡ max_length_of (map (tail_tree nodes.now) tails.now) }
+{
+    for tail in tails {
+        if let TypeTail::MaxLength(place) = tail {
+            return Some(expr_view(nodes, *place));
+        }
+    }
+    None
 }
 
 /// `header TYPE NAME;`, or `header TYPE NAME[SIZE];` for a header stack.
@@ -142,4 +198,16 @@ pub struct Metadata {
     pub name: Text,
     /// The initial values, where braces stand.
     pub initials: Option<Initials>,
+}
+
+impl Metadata {
+    /// The initial values in order; none where no braces stand.
+    pub fn initial_values(&self) -> &[Initial]
+        ensures { result.now ≡ initials_of self.now.initials }
+    {
+        match &self.initials {
+            Some(initials) => initials.values.as_slice(),
+            None => &[],
+        }
+    }
 }

@@ -1,7 +1,7 @@
 // Tokens without their places, as the syntax is written with them.
 use p4x_bits::Text;
 
-/// A number as it is written, with its width in bits where it has one (P4_14 1.0.5, section 1.5.1).
+/// A number as it is written, with its width in bits where it has one (P4_14 1.0.5, "Value Specifications").
 #[derive(Clone, Copy, Debug, PartialEq, Eq, Drop)]
 pub struct Literal {
     /// The width, 1 to 128 bits, where one stands in front.

@@ -6,14 +6,20 @@ mod actions;
 mod calculations;
 mod control;
 mod headers;
+mod heads;
 mod lexeme;
+mod named;
 mod node;
 mod nodes;
 mod objects;
 mod parsers;
 mod parts;
+mod references;
+mod sorted;
+mod stack;
 mod syntax;
 mod tables;
+mod walk;
 
 pub use actions::{Action, Arg, Call};
 pub use calculations::{
@@ -23,11 +29,16 @@ pub use control::{Control, ControlParts};
 pub use headers::{
     Field, FieldWidth, Header, HeaderType, HeaderTypeParts, Initial, Initials, Metadata, TypeTail,
 };
+pub use heads::{ExprHead, ExprView, StmtHead, StmtView};
 pub use lexeme::{Lexeme, Literal, Mark};
+pub use named::Named;
 pub use node::{BinaryOperator, ExprNode, Label, StmtNode, UnaryOperator};
 pub use nodes::Nodes;
 pub use objects::{CounterType, StateAttr, Stateful};
 pub use parsers::{Case, CaseTarget, CaseValues, Masked, PStmt, PValue, Parser, Return};
 pub use parts::{Index, Inst, Number, Ref, Sign};
+pub use references::References;
+pub use sorted::{Sorted, sort_declarations};
 pub use syntax::{Decl, LeftOut, LeftOutKind, Rule14, Sort, Syntax14};
 pub use tables::{Read, ReadKey, Table, TableAttr};
+pub use walk::{all_conditions, all_expressions, all_statements, statements_within};

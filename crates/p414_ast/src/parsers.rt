@@ -1,4 +1,4 @@
-// Parser states (P4_14 1.0.5, section 5).
+// Parser states (P4_14 1.0.5, "Parser Specification").
 use crate::lexeme::Literal;
 use crate::parts::{Inst, Number, Ref};
 use p4x_bits::{Rows, Text};

@@ -20,7 +20,7 @@ pub struct Number {
     pub literal: Literal,
 }
 
-/// The index of an element of a header stack (P4_14 1.0.5, section 2.4).
+/// The index of an element of a header stack (P4_14 1.0.5, "Headers and Fields").
 #[derive(Clone, Copy, Debug, PartialEq, Eq, Drop)]
 pub enum Index {
     /// A number.
@@ -40,7 +40,7 @@ pub struct Inst {
     pub index: Option<Index>,
 }
 
-/// A field of an instance: `INSTANCE.FIELD` (P4_14 1.0.5, section 2.5).
+/// A field of an instance: `INSTANCE.FIELD` (P4_14 1.0.5, "Headers and Fields").
 #[derive(Debug, Drop)]
 pub struct Ref {
     /// The instance.

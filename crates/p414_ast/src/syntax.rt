@@ -33,7 +33,7 @@ pub struct LeftOut {
     pub group: Option<Rows<Lexeme>>,
 }
 
-/// A declaration (P4_14 1.0.5, section 1.6).
+/// A declaration (P4_14 1.0.5, "P4 BNF Grammar").
 #[derive(Debug, Drop)]
 pub enum Decl {
     /// A header type.
@@ -73,7 +73,7 @@ pub struct Syntax14 {
     pub decls: Rows<Decl>,
 }
 
-/// How the primitives of an action act on each other (P4_14 1.0.5, section 9.1, says parallel; programs were written
+/// How the primitives of an action act on each other (P4_14 1.0.5, "Actions", says parallel; programs were written
 /// for both).
 #[derive(Clone, Copy, Debug, PartialEq, Eq, Drop)]
 pub enum Rule14 {

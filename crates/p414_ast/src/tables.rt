@@ -1,4 +1,7 @@
-// Tables (P4_14 1.0.5, section 10).
+// Tables (P4_14 1.0.5, "Table Declarations").
+ghost use Rattle.std.specs.Prelude.{◌≡◌, option_copied};
+ghost use Rattle.p414_ast.specs.Attributes.{reads_of, actions_of, min_size_of, max_size_of, size_of, support_timeout_of, default_action_of, default_arguments_of, action_profile_of};
+
 use crate::lexeme::Literal;
 use crate::parts::{Inst, Number, Ref};
 use p4x_bits::{Rows, Text};
@@ -51,4 +54,114 @@ pub struct Table {
     pub name: Text,
     /// The attributes in order.
     pub attributes: Rows<TableAttr>,
+}
+
+impl Table {
+    /// What the table reads, in order; nothing where there is no `reads`. The first such attribute counts.
+    pub fn reads(&self) -> &[Read]
+        ensures { result.now ≡ reads_of self.now.attributes }
+    {
+        for attribute in self.attributes.as_slice() {
+            if let TableAttr::Reads(reads) = attribute {
+                return reads.as_slice();
+            }
+        }
+        &[]
+    }
+
+    /// The names of the table's actions, in order; none where there is no `actions`. The first such attribute counts.
+    pub fn actions(&self) -> &[Text]
+        ensures { result.now ≡ actions_of self.now.attributes }
+    {
+        for attribute in self.attributes.as_slice() {
+            if let TableAttr::Actions(names) = attribute {
+                return names.as_slice();
+            }
+        }
+        &[]
+    }
+
+    /// The number behind `min_size`. The first such attribute counts.
+    pub fn min_size(&self) -> Option<Literal>
+        ensures { result ≡ min_size_of self.now.attributes }
+    {
+        for attribute in self.attributes.as_slice() {
+            if let TableAttr::MinSize(size) = attribute {
+                return Some(*size);
+            }
+        }
+        None
+    }
+
+    /// The number behind `max_size`. The first such attribute counts.
+    pub fn max_size(&self) -> Option<Literal>
+        ensures { result ≡ max_size_of self.now.attributes }
+    {
+        for attribute in self.attributes.as_slice() {
+            if let TableAttr::MaxSize(size) = attribute {
+                return Some(*size);
+            }
+        }
+        None
+    }
+
+    /// The number behind `size`. The first such attribute counts.
+    pub fn size(&self) -> Option<Literal>
+        ensures { result ≡ size_of self.now.attributes }
+    {
+        for attribute in self.attributes.as_slice() {
+            if let TableAttr::Size(size) = attribute {
+                return Some(*size);
+            }
+        }
+        None
+    }
+
+    /// What stands behind `support_timeout`. The first such attribute counts.
+    pub fn support_timeout(&self) -> Option<bool>
+        ensures { result ≡ support_timeout_of self.now.attributes }
+    {
+        for attribute in self.attributes.as_slice() {
+            if let TableAttr::SupportTimeout(on) = attribute {
+                return Some(*on);
+            }
+        }
+        None
+    }
+
+    /// The name of the default action. The first such attribute counts.
+    pub fn default_action(&self) -> Option<&Text>
+        ensures { option_copied result ≡ default_action_of self.now.attributes }
+    {
+        for attribute in self.attributes.as_slice() {
+            if let TableAttr::DefaultAction(name, _) = attribute {
+                return Some(name);
+            }
+        }
+        None
+    }
+
+    /// The arguments of the default action, where parentheses stand behind its name. The first such attribute counts.
+    pub fn default_arguments(&self) -> Option<&Rows<Number>>
+        ensures { option_copied result ≡ default_arguments_of self.now.attributes }
+    {
+        for attribute in self.attributes.as_slice() {
+            if let TableAttr::DefaultAction(_, arguments) = attribute {
+                return arguments.as_ref();
+            }
+        }
+        None
+    }
+
+    /// The name of the action profile. The first such attribute counts.
+    pub fn action_profile(&self) -> Option<&Text>
+        ensures { option_copied result ≡ action_profile_of self.now.attributes }
+    {
+        for attribute in self.attributes.as_slice() {
+            if let TableAttr::ActionProfile(name) = attribute {
+                return Some(name);
+            }
+        }
+        None
+    }
 }

@@ -196,10 +196,10 @@ both_right false b e = absurd (cc)
 equal : (a b : ℕ) → nat_eq a b ≡ true → a ≡ b
 equal a b e = grind (arith, nat_tests)
 
-inside : (text : List ℕ) (n : ℕ) → get_or text n 0 ≡ 39 → n ≤ length text → n < length text
+pub inside : (text : List ℕ) (n : ℕ) → get_or text n 0 ≡ 39 → n ≤ length text → n < length text
 inside text n e l = elim (eq-or-lt_of_le l) [ inl q ↦ absurd (let z = get_or_past text n 0 (omega arith) in omega (arith, z, e)) | inr m ↦ m ]
 
-decimals : (text : List ℕ) → AllPass is_decimal (take (prefix_len is_decimal text) text)
+pub decimals : (text : List ℕ) → AllPass is_decimal (take (prefix_len is_decimal text) text)
 decimals text k d l =
     let size = prefix_len is_decimal text in
     let within = length-take-le size text (prefix_len-le-length is_decimal text) in
@@ -219,7 +219,7 @@ is_number_token text k size d e = go (is_quoted (prefix_len is_decimal text) tex
         is_wide_token text m (value_of Decimal (take m text)) k size (decimals text) refl quote (inside text m quote (prefix_len-le-length is_decimal text)) (ap is_decimal (get_or-drop (m + 1) text 0 0 ∙ ap (λ i. get_or text i 0) at_digit) ∙ digit) e
 
 -- a token by its first octet
-spelled : (is_first : Bool) (text : List ℕ) (k : TokenKind14) (size : ℕ) → front is_first text ≡ token k size → IsSpelled k text size
+pub spelled : (is_first : Bool) (text : List ℕ) (k : TokenKind14) (size : ℕ) → front is_first text ≡ token k size → IsSpelled k text size
 unfolding kind_of kind_of_what
 spelled is_first text k size e = by_head (head_of (get_or text 0 0)) refl e
   where

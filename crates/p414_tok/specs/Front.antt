@@ -1,6 +1,6 @@
--- What a P4_14 text begins with: blanks, comments, line markers, pragma lines and tokens. Names, numbers
--- with their widths and marks are those of P4_14 1.0.5; which places take a `_` or a blank, and which
--- rule a text breaks, is this project's own.
+-- What a P4_14 text begins with: trivia (blanks, comments, line markers and pragma lines) and tokens. Names, numbers
+-- with their widths and marks are those of P4_14 1.0.5, "Value Specifications" and "Summary of P4 BNF"; which places
+-- take a `_` or a blank, and which rule a text breaks, is this project's own.
 use Rattle.std.specs.Prelude.{ℕ, ◌+◌, ◌%◌, ◌^◌, Bool, nat_eq, nat_lt, ◌&&◌, ◌||◌, if◌then◌else◌, List, [], ◌∷◌, length, take, drop, codes, Option, Some, None, Result, Ok, Err, slice_index}
 use Rattle.std.specs.Option.{option_map}
 use Rattle.std.specs.List.{prefix_len}
@@ -33,8 +33,10 @@ skipped (Err rule) = Err rule
 abbrev pub marks : List (List ℕ)
 marks =
     codes "<=" ∷ codes ">=" ∷ codes "==" ∷ codes "!=" ∷ codes "<<" ∷ codes ">>"
-    ∷ codes "{" ∷ codes "}" ∷ codes "(" ∷ codes ")" ∷ codes "[" ∷ codes "]" ∷ codes ";" ∷ codes ":" ∷ codes "," ∷ codes "."
-    ∷ codes "=" ∷ codes "<" ∷ codes ">" ∷ codes "+" ∷ codes "-" ∷ codes "*" ∷ codes "&" ∷ codes "|" ∷ codes "^" ∷ codes "~"
+    ∷ codes "{" ∷ codes "}" ∷ codes "(" ∷ codes ")" ∷ codes "[" ∷ codes "]"
+    ∷ codes ";" ∷ codes ":" ∷ codes "," ∷ codes "."
+    ∷ codes "=" ∷ codes "<" ∷ codes ">" ∷ codes "+" ∷ codes "-" ∷ codes "*"
+    ∷ codes "&" ∷ codes "|" ∷ codes "^" ∷ codes "~"
     ∷ []
 
 -- a mark by its length; an octet that begins nothing breaks L1

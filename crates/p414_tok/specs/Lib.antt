@@ -1,3 +1,8 @@
-pub mod Lines
-pub mod Front
+-- Read Spelled first: how a token of each class is written. Then Trivia: what lies between tokens. Then Refusals: what
+-- stands where a text is refused, for each of the rules L1 to L4.
+-- Front and Lines: what a text begins with, as a function, octet by octet.
 pub mod Spelled
+pub mod Trivia
+pub mod Refusals
+pub mod Front
+pub mod Lines

@@ -1,5 +1,5 @@
--- Lines that stand for nothing: line markers and pragma lines (this project's own; P4_14 1.0.5 leaves
--- them to the preprocessor).
+-- Lines that are trivia: line markers and pragma lines (this project's own; P4_14 1.0.5 leaves them to the
+-- preprocessor).
 use Rattle.std.specs.Prelude.{ℕ, ◌+◌, Bool, not, nat_eq, nat_lt, ◌||◌, ◌&&◌, if◌then◌else◌, List, length, take, drop, codes, Result, Ok, Err, slice_index}
 use Rattle.std.specs.List.{prefix_len, list_all}
 use Rattle.p4x_fault.specs.declared.Rule.{Rule}
@@ -27,11 +27,14 @@ check_closed size line = if nat_lt size (length line) then check_numbers (drop (
 
 -- the rest behind the first number: a name in quotes, without escapes, or further numbers
 abbrev pub check_name : List ℕ → Result (Unit {0}) Rule
-check_name line = if nat_eq (slice_index line 0) 34 then check_closed (prefix_len is_not_quote (drop 1 line)) (drop 1 line) else check_numbers line
+check_name line =
+    if nat_eq (slice_index line 0) 34 then check_closed (prefix_len is_not_quote (drop 1 line)) (drop 1 line)
+    else check_numbers line
 
 -- the rest behind the word and blanks: the first number
 abbrev pub check_number : List ℕ → Result (Unit {0}) Rule
-check_number line = if is_decimal (slice_index line 0) then check_name (behind_run is_blank (behind_run is_decimal line)) else Err (L 4)
+check_number line =
+    if is_decimal (slice_index line 0) then check_name (behind_run is_blank (behind_run is_decimal line)) else Err (L 4)
 
 -- the word that a marker begins with
 abbrev pub marker_word_size : List ℕ → ℕ

@@ -1,4 +1,5 @@
--- How the tokens of a text are written in it.
+-- How the tokens of each token class (a name, a number, a mark) are written in a text (P4_14 1.0.5, "Value
+-- Specifications" and "Summary of P4 BNF"; which places take a `_` is this project's own).
 use Rattle.std.specs.Prelude.{◌≡◌, ◌≤◌, ◌%◌, ◌^◌, ◌∷◌, ◌++◌, ℕ, Option, Some, None, List, length, take, slice_index, false, IsTrue, All, Contains}
 use Rattle.std.specs.List.{AllPass}
 use Rattle.token_division.specs.declared.literals.Base.TheVariants.{Decimal}
@@ -32,9 +33,10 @@ abbrev pub IsNumber : Option ℕ → ℕ → List ℕ → Type 0
 IsNumber None value octets = IsLiteral octets value × (value ≤ largest)
 IsNumber (Some width) value octets = IsWideNumber octets width value
 
--- The text begins with a token of this kind in so many octets: a name that no octet of a word follows, a
+-- The text begins with a token of this class in so many octets: a name that no octet of a word follows, a
 -- number with its width and value, or a mark, where no longer one stands.
 abbrev pub IsSpelled : TokenKind14 → List ℕ → ℕ → Type 0
 IsSpelled kind.Name text size = IsName (take size text) × (is_word (slice_index text size) ≡ false)
 IsSpelled (kind.Number width value) text size = IsNumber width value (take size text)
-IsSpelled kind.Mark text size = Contains marks (take size text) × All (λ mark. IsTrue (begins text mark) → length mark ≤ size) marks
+IsSpelled kind.Mark text size =
+    Contains marks (take size text) × All (λ mark. IsTrue (begins text mark) → length mark ≤ size) marks

@@ -1,7 +1,7 @@
-// The kinds of tokens.
+// The token classes.
 use token_division::Token;
 
-/// The kind of a P4_14 token. The octets of its span tell a name from another and a mark from another.
+/// The token class of a P4_14 token. The octets of its span tell a name from another and a mark from another.
 #[derive(Clone, Copy, Debug, PartialEq, Eq)]
 pub enum TokenKind14 {
     /// A letter or `_`, and letters, digits and `_` behind it. No word is reserved.
@@ -12,5 +12,5 @@ pub enum TokenKind14 {
     Mark,
 }
 
-/// A token of a P4_14 text: its kind, its octets in the text and its place.
+/// A token of a P4_14 text: its token class, its octets in the text and its place.
 pub type Token14 = Token<TokenKind14>;

@@ -4,3 +4,7 @@ pub mod Laid
 pub mod Scans
 pub mod Numbers
 pub mod Marks
+pub mod Walks
+pub mod Gaps
+pub mod LineStarts
+pub mod Comments

@@ -20,7 +20,7 @@ or_true : (a b : Bool) → b ≡ true → (a || b) ≡ true
 or_true true b e = refl
 or_true false b e = e
 
-prefix_some : (p : ℕ → Bool) (xs : List ℕ) → p (get_or xs 0 0) ≡ true → p 0 ≡ false → 0 < prefix_len p xs
+pub prefix_some : (p : ℕ → Bool) (xs : List ℕ) → p (get_or xs 0 0) ≡ true → p 0 ≡ false → 0 < prefix_len p xs
 prefix_some p [] e f = absurd (cc)
 prefix_some p (x ∷ xs) e f = let k : prefix_len p (x ∷ xs) ≡ 1 + prefix_len p xs = ap (λ t. cond t (1 + prefix_len p xs) 0) e in omega (arith, k)
 

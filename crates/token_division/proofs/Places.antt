@@ -12,7 +12,7 @@ use Rattle.token_division.specs.Layout.{IsBefore}
 abbrev at_place : ℕ → ℕ → Place
 at_place line column = record { line = line; column = column }
 
-suffix_push : (p : ℕ → Bool) (xs : List ℕ) (x : ℕ) → suffix_len p (xs ++ x ∷ []) ≡ cond (p x) (1 + suffix_len p xs) 0
+pub suffix_push : (p : ℕ → Bool) (xs : List ℕ) (x : ℕ) → suffix_len p (xs ++ x ∷ []) ≡ cond (p x) (1 + suffix_len p xs) 0
 suffix_push p xs x = ap (prefix_len p) (reverse-append xs (x ∷ []))
 
 count_push : (p : ℕ → Bool) (xs : List ℕ) (x : ℕ) → count_by p (xs ++ x ∷ []) ≡ count_by p xs + cond (p x) 1 0

@@ -1,5 +1,5 @@
--- How a text is divided into pieces, from the left, in a language that says what a text may begin with
--- (this project's own; the rules are those of both languages).
+-- How a text is divided into pieces, from the left, in a language that says what a text may begin with; its token
+-- classes are the kinds K (this project's own; the rules are those of both languages).
 use Rattle.std.specs.Prelude.{◌≡◌, ℕ, zero, suc, ◌+◌, ◌-◌, Bool, true, false, ◌||◌, List, [], ◌∷◌, ◌++◌, length, Some, Result, Ok, Err}
 use Rattle.std.specs.List.{count_by, suffix_len}
 use Rattle.p4x_fault.specs.declared.Rule.{Rule}
@@ -29,7 +29,8 @@ first_after (what.Token kind) is_first octet = false
 abbrev pub token_of : {K : Type 0} → List ℕ → What K → ℕ → List (Token K)
 token_of before what.Blank size = []
 token_of before what.Skipped size = []
-token_of before (what.Token kind) size = record { kind = kind; «from» = length before; to = length before + size; place = place_after before } ∷ []
+token_of before (what.Token kind) size =
+    record { kind = kind; «from» = length before; to = length before + size; place = place_after before } ∷ []
 
 -- What the texts of a language with tokens of the kinds K begin with: the piece at the front of a text
 -- that isn't empty, or the rule that the text breaks there. The truth value says whether nothing but
@@ -44,7 +45,8 @@ behind tokens (Err fault) = Err fault
 
 -- the token of the piece at the front and those of the rest, or the fault at the place where the piece
 -- would begin
-abbrev pub goes_on : {K : Type 0} → List ℕ → Result (Piece K) Rule → (Piece K → Result (List (Token K)) Fault) → Result (List (Token K)) Fault
+abbrev pub goes_on : {K : Type 0} → List ℕ → Result (Piece K) Rule → (Piece K → Result (List (Token K)) Fault)
+    → Result (List (Token K)) Fault
 goes_on before (Ok piece) rest = behind (token_of before piece.what piece.size) (rest piece)
 goes_on before (Err rule) rest = Err (record { rule = rule; place = Some (place_after before) })
 

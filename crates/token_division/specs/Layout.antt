@@ -20,4 +20,5 @@ pub record IsLaidOut {K : Type 0} (text : List ℕ) (tokens : List (Token K)) : 
 -- the token is what the text begins with where the token begins
 abbrev pub IsPieceOf : {K : Type 0} → Front K → List ℕ → Token K → Type 0
 IsPieceOf front text token =
-    (is_first : Bool) × (front is_first (drop token.from text) ≡ Ok (record { what = what.Token token.kind; size = token.to - token.from }))
+    (is_first : Bool) × (front is_first (drop token.from text)
+    ≡ Ok (record { what = what.Token token.kind; size = token.to - token.from }))

@@ -35,11 +35,15 @@ value_of base digits = fold (with_digit base) 0 digits
 -- `0`, a letter, in capitals or not, and a digit of the base
 abbrev pub has_base_prefix : ℕ → ℕ → Base → List ℕ → Bool
 has_base_prefix capital small base text =
-    nat_eq (slice_index text 0) 48 && ((nat_eq (slice_index text 1) capital || nat_eq (slice_index text 1) small) && is_digit base (slice_index text 2))
+    nat_eq (slice_index text 0) 48
+    && ((nat_eq (slice_index text 1) capital || nat_eq (slice_index text 1) small)
+    && is_digit base (slice_index text 2))
 
 -- the base of a number that the text begins with
 abbrev pub base_of : List ℕ → Base
-base_of text = if has_base_prefix 88 120 Hexadecimal text then Hexadecimal else (if has_base_prefix 66 98 Binary text then Binary else Decimal)
+base_of text =
+    if has_base_prefix 88 120 Hexadecimal text then Hexadecimal
+    else (if has_base_prefix 66 98 Binary text then Binary else Decimal)
 
 -- how many octets stand before the digits
 abbrev pub base_prefix_size : Base → ℕ
@@ -49,7 +53,8 @@ base_prefix_size Hexadecimal = 2
 
 -- the digits, with the `_` among them
 abbrev pub digits_of : Base → List ℕ → List ℕ
-digits_of base text = take (prefix_len (is_digit_or_gap base) (drop (base_prefix_size base) text)) (drop (base_prefix_size base) text)
+digits_of base text =
+    take (prefix_len (is_digit_or_gap base) (drop (base_prefix_size base) text)) (drop (base_prefix_size base) text)
 
 -- what the number at the front of the text stands for
 abbrev pub literal_value : List ℕ → ℕ
@@ -57,7 +62,9 @@ literal_value text = value_of (base_of text) (digits_of (base_of text) text)
 
 -- how many octets it has
 abbrev pub literal_size : List ℕ → ℕ
-literal_size text = base_prefix_size (base_of text) + prefix_len (is_digit_or_gap (base_of text)) (drop (base_prefix_size (base_of text)) text)
+literal_size text =
+    base_prefix_size (base_of text)
+    + prefix_len (is_digit_or_gap (base_of text)) (drop (base_prefix_size (base_of text)) text)
 
 -- 2 ^ 128 - 1
 abbrev pub largest : ℕ

@@ -17,7 +17,8 @@ mark_of marks text = find (begins text) marks
 -- no mark of the table is longer than one that stands before it
 abbrev pub is_longest_first : List (List ℕ) → Bool
 is_longest_first [] = true
-is_longest_first (mark ∷ marks) = list_all (λ other. nat_le (length other) (length mark)) marks && is_longest_first marks
+is_longest_first (mark ∷ marks) =
+    list_all (λ other. nat_le (length other) (length mark)) marks && is_longest_first marks
 
 -- how many octets stand up to the end of the first `*/`
 abbrev pub close_size : List ℕ → Option ℕ

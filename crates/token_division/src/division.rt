@@ -3,6 +3,7 @@ ghost use Rattle.std.specs.Prelude.{◌≡◌, ◌<◌, ◌≤◌, ◌+◌, ◌+
 ghost use Rattle.token_division.specs.declared.division.Lex.TheVariants.{Memory};
 ghost use Rattle.token_division.specs.Division.{IsDivision, place_after, first_after, token_of};
 ghost use Rattle.token_division.specs.Layout.{IsLaidOut, IsPieceOf};
+ghost use Rattle.token_division.specs.Walk.{IsWalk};
 
 use crate::octets::is_line_feed;
 use p4x_bits::{OutOfMemory, Rows};
@@ -15,9 +16,9 @@ use thiserror::Error;
 pub enum What<K> {
     /// One blank.
     Blank,
-    /// A comment, or a line that stands for nothing.
+    /// Trivia of more than one octet: a comment, or a line that stands for nothing.
     Skipped,
-    /// A token of this kind.
+    /// A token of this token class.
     Token(K),
 }
 
@@ -28,7 +29,7 @@ pub struct Piece<K> {
     pub size: usize,
 }
 
-/// A token: its kind, the octets of the text that it is written with, which are those from `from` up to
+/// A token: its token class, the octets of the text that it is written with, which are those from `from` up to
 /// but not with `to`, and the place of the first of them.
 #[derive(Clone, Copy, Debug, PartialEq, Eq)]
 pub struct Token<K> {
@@ -59,7 +60,7 @@ impl From<OutOfMemory> for Lex {
 
 /// A language, by the pieces that its texts are divided into.
 pub trait Lexicon {
-    /// The kinds of its tokens.
+    /// Its token classes.
     type Kind: Copy;
 
     ghost use Rattle.token_division.specs.Division.{Front};
@@ -75,11 +76,13 @@ pub trait Lexicon {
 }
 
 /// The tokens that a text of the language is divided into, or the rule and the place at which the
-/// division stops, or want of memory. It goes over the text once.
+/// division stops, or want of memory. It goes over the text once. The clause `walk` tells every piece of
+/// the text, trivia too, so that a language can say what stands between its tokens and where it stops.
 pub fn divide<L: Lexicon>(alloc: Global, text: &[u8]) -> Result<Rows<Token<L::Kind>>, Lex>
     ensures is { IsDivision L.front text.now result }
     ensures laid_out { IfOk result (IsLaidOut text.now) }
     ensures pieces { IfOk result (All (IsPieceOf L.front text.now)) }
+    ensures walk { IsWalk L.front text.now result }
 {
     let mut tokens = Rows::new(alloc);
     let mut at = 0;

@@ -1,0 +1,193 @@
+-- What is taken between tokens is trivia, and whether nothing but blanks stands before a piece on its line.
+use Rattle.std.proofs.Common.{◌≡◌, ◌⊎◌, inl, inr, nat_lt, ℕ, ◌+◌, ◌-◌, ◌<◌, ◌≤◌, Bool, true, false, List, [], ◌∷◌, ◌++◌, length, get_or, take, drop, refl, sym, ap, ◌∙◌, subst, arith, cond, codes, Option, Some, None, Result, Ok, Err}
+use Rattle.std.specs.Prelude.{not, ◌||◌, ◌&&◌}
+use Rattle.std.specs.Option.{option_map}
+use Rattle.std.specs.List.{AllPass, prefix_len}
+use Rattle.std.proofs.Math.Nat.{eq-or-lt_of_le}
+use Rattle.std.proofs.lemmas.List.{get_or-take, get_or_past, length-take-le}
+use Rattle.std.proofs.lemmas.List.Sums.{prefix_len-le-length, AllPass-from_list_all}
+use Rattle.std.proofs.lemmas.Bool.Decides.{nat_tests}
+use Rattle.p4x_fault.specs.declared.Rule.{Rule}
+use Rattle.p4x_fault.specs.declared.Rule.TheVariants.{L}
+use Rattle.token_division.specs.declared.division.What.{What}
+use Rattle.token_division.specs.declared.division.What.TheVariants as what
+use Rattle.token_division.specs.declared.literals.Base.TheVariants.{Decimal}
+use Rattle.token_division.specs.Octets.{is_blank, is_decimal, is_word, is_line_feed, is_on_line}
+use Rattle.token_division.specs.Pieces.{begins, mark_of, comment_size}
+use Rattle.token_division.specs.Literals.{value_of, literal_value, literal_size, largest}
+use Rattle.token_division.specs.Division.{first_after}
+use Rattle.token_division.specs.Trivia.{IsFirstOnLine, EndsLine}
+use Rattle.token_division.proofs.LineStarts.{opens, opens_blank, opens_not, opens_not_behind_comment, is_first_on_line}
+use Rattle.token_division.proofs.Comments.{run_passes, begins_in, line_holds, line_ends, IsComment, comment_taken}
+use Rattle.p414_tok.specs.declared.kind.TokenKind14.{TokenKind14}
+use Rattle.p414_tok.specs.declared.front.Head.{Head}
+use Rattle.p414_tok.specs.declared.front.Head.TheVariants as head
+use Rattle.p414_tok.specs.Lines.{marker_size, pragma_size, is_pragma}
+use Rattle.p414_tok.specs.Front.{Found, token, skipped, marks, mark, plain_number, wide_number, is_quoted, number, head_of, front_by, front}
+use Rattle.p414_tok.specs.Trivia.{IsPragmaLine, IsLineMarker, IsTrivia}
+use Rattle.p414_tok.proofs.Spelling.{spelled}
+use Rattle.p414_tok.proofs.Markers.{marker_taken}
+use Rattle.p414_tok.proofs.Heads.{HeadIs, head_is, no_blank_by, spelled_on_line}
+
+abbrev found : What TokenKind14 → ℕ → Found
+found w size = Ok (record { what = w; size = size })
+
+-- what is known behind a piece
+abbrev IsTriviaIf : What TokenKind14 → List ℕ → List ℕ → List ℕ → Type 0
+IsTriviaIf what.Blank before piece behind = IsTrivia before piece behind
+IsTriviaIf what.Skipped before piece behind = IsTrivia before piece behind
+IsTriviaIf (what.Token k) before piece behind = Unit {0}
+
+pub record IsKept (before left : List ℕ) (is_first : Bool) (w : What TokenKind14) (size : ℕ) : Type 0 where
+  pub trivia : IsTriviaIf w before (take size left) (drop size left)
+  pub next : first_after w is_first (get_or left 0 0) ≡ opens (before ++ take size left)
+
+-- pieces that are tokens
+abbrev IsTokenWhat : What TokenKind14 → Type 0
+IsTokenWhat what.Blank = ⊥
+IsTokenWhat what.Skipped = ⊥
+IsTokenWhat (what.Token k) = Unit {0}
+
+abbrev IsTokenFound : Found → Type 0
+IsTokenFound (Ok piece) = IsTokenWhat piece.what
+IsTokenFound (Err rule) = Unit {0}
+
+abbrev IsBlankWhat : What TokenKind14 → Type 0
+IsBlankWhat what.Blank = Unit {0}
+IsBlankWhat what.Skipped = ⊥
+IsBlankWhat (what.Token k) = ⊥
+
+abbrev IsBlankFound : Found → Type 0
+IsBlankFound (Ok piece) = IsBlankWhat piece.what
+IsBlankFound (Err rule) = Unit {0}
+
+abbrev size_found : Found → ℕ
+size_found (Ok piece) = piece.size
+size_found (Err rule) = 0
+
+either_token : (t : Bool) (a b : Found) → IsTokenFound a → IsTokenFound b → IsTokenFound (cond t a b)
+either_token true a b h k = h
+either_token false a b h k = k
+
+number_is_token : (text : List ℕ) → IsTokenFound (number text)
+number_is_token text =
+    let m = prefix_len is_decimal text in
+    let width = value_of Decimal (take m text) in
+    let rest = drop (m + 1) text in
+    either_token (is_quoted m text) (wide_number width (m + 1) rest) (plain_number text)
+    (either_token (nat_lt width 1 || (nat_lt 128 width || nat_lt largest (literal_value rest))) _ _ tt tt)
+    (either_token (nat_lt largest (literal_value text)) _ _ tt tt)
+
+mark_is_token : (o : Option ℕ) → IsTokenFound (mark o)
+mark_is_token None = tt
+mark_is_token (Some size) = tt
+
+-- behind octets of one line that don't begin with a blank
+closes : (before left : List ℕ) (size : ℕ) → 0 < size → size ≤ length left → is_blank (get_or left 0 0) ≡ false → AllPass is_on_line (take size left) → false ≡ opens (before ++ take size left)
+closes before left size s l b h = sym (opens_not before (take size left) (omega (arith, length-take-le size left l)) (ap is_blank (get_or-take size left 0 0 s) ∙ b) h)
+
+-- a token
+token_kept : (before left : List ℕ) (is_first : Bool) (k : TokenKind14) (size : ℕ) → front is_first left ≡ found (what.Token k) size → 0 < size → size ≤ length left → IsKept before left is_first (what.Token k) size
+token_kept before left is_first k size e s l = record {
+  trivia = tt;
+  next = closes before left size s l (by (head_of (get_or left 0 0)) (head_is (get_or left 0 0)) e) (spelled_on_line k left size (spelled is_first left k size e));
+}
+  where
+    by : (h : Head) → HeadIs (get_or left 0 0) h → front_by h is_first left ≡ found (what.Token k) size → is_blank (get_or left 0 0) ≡ false
+    by h i f = no_blank_by (get_or left 0 0) h i (λ q. absurd (let g : front_by head.Blank is_first left ≡ found (what.Token k) size = ap (λ j. front_by j is_first left) (sym q) ∙ f in subst IsBlankFound g tt))
+
+-- a blank
+blank_kept : (before left : List ℕ) (is_first : Bool) (size : ℕ) → is_first ≡ opens before → HeadIs (get_or left 0 0) head.Blank → 1 ≡ size → size ≤ length left → IsKept before left is_first what.Blank size
+blank_kept before [] is_first size o b e l = absurd (omega arith)
+blank_kept before (octet ∷ left) is_first size o b e l = subst (IsKept before (octet ∷ left) is_first what.Blank) e (record {
+  trivia = inl (octet, refl, b);
+  next = ap (λ t. is_line_feed octet || t) o ∙ sym (opens_blank before octet b);
+})
+
+-- a comment
+comment_kept : (before left : List ℕ) (is_first : Bool) (size : ℕ) → get_or left 0 0 ≡ 47 → 0 < size → size ≤ length left → IsComment left size → IsKept before left is_first what.Skipped size
+comment_kept before left is_first size h s l (inl c) = record { trivia = inr (inr (inl c)); next = closes before left size s l (ap is_blank h) c.0.1 }
+comment_kept before left is_first size h s l (inr c) = record {
+  trivia = inr (inl c);
+  next = sym (ap (λ xs. opens (before ++ xs)) c.1 ∙ opens_not_behind_comment before c.0);
+}
+
+and_left : (a b : Bool) → (a && b) ≡ true → a ≡ true
+and_left true b e = refl
+and_left false b e = absurd (cc)
+
+and_right : (a b : Bool) → (a && b) ≡ true → b ≡ true
+and_right true b e = e
+and_right false b e = absurd (cc)
+
+not_true : (a : Bool) → not a ≡ true → a ≡ false
+not_true true e = absurd (cc)
+not_true false e = refl
+
+-- a pragma line
+pragma_line : (left : List ℕ) → is_pragma left ≡ true → IsPragmaLine (take (prefix_len is_on_line left) left)
+pragma_line left e =
+    let size = prefix_len is_on_line left in
+    let front = and_left (begins left (codes "@pragma")) (not (is_word (get_or left 7 0))) e in
+    let word = not_true (is_word (get_or left 7 0)) (and_right (begins left (codes "@pragma")) (not (is_word (get_or left 7 0))) e) in
+    let long = line_holds left (codes "@pragma") (AllPass-from_list_all is_on_line (codes "@pragma") refl) front in (
+      begins_in left (codes "@pragma") size long front,
+      elim (eq-or-lt_of_le long) [
+        | inl q ↦ ap is_word (get_or_past (take size left) 7 0 (omega (arith, q, length-take-le size left (prefix_len-le-length is_on_line left))))
+        | inr m ↦ ap is_word (get_or-take size left 7 0 m) ∙ word
+      ],
+      run_passes is_on_line left,
+    )
+
+line_kept : (before left : List ℕ) (is_first : Bool) (size : ℕ) → is_blank (get_or left 0 0) ≡ false → 0 < size → size ≤ length left → AllPass is_on_line (take size left) → IsTrivia before (take size left) (drop size left) → IsKept before left is_first what.Skipped size
+line_kept before left is_first size b s l h t = record { trivia = t; next = closes before left size s l b h }
+
+pragma_kept : (before left : List ℕ) (is_first : Bool) (size : ℕ) → get_or left 0 0 ≡ 64 → 0 < size → size ≤ length left → pragma_size left ≡ Ok size → IsKept before left is_first what.Skipped size
+pragma_kept before left is_first size h s l e = by (is_pragma left) refl e
+  where
+    by : (t : Bool) → is_pragma left ≡ t → cond t (Ok (prefix_len is_on_line left)) (Err (L 1)) ≡ Ok size → IsKept before left is_first what.Skipped size
+    by true f e =
+        let q : prefix_len is_on_line left ≡ size = cc in
+        let line : IsPragmaLine (take size left) × EndsLine (drop size left) = subst (λ n. IsPragmaLine (take n left) × EndsLine (drop n left)) q (pragma_line left f, line_ends left) in
+        line_kept before left is_first size (ap is_blank h) s l line.0.2 (inr (inr (inr (inl line))))
+    by false f e = absurd (cc)
+
+-- a line marker
+marker_kept : (before left : List ℕ) (is_first : Bool) (size : ℕ) → is_first ≡ opens before → get_or left 0 0 ≡ 35 → 0 < size → size ≤ length left → cond is_first (marker_size left) (Err (L 1)) ≡ Ok size → IsKept before left is_first what.Skipped size
+marker_kept before left true size o h s l e =
+    let line = marker_taken left size h e in
+    line_kept before left true size (ap is_blank h) s l line.0.on_line (inr (inr (inr (inr (line.0, is_first_on_line before (sym o), line.1)))))
+marker_kept before left false size o h s l e = absurd (cc)
+
+-- a piece that is skipped
+skipped_size : (r : Result ℕ Rule) (size : ℕ) → skipped r ≡ found what.Skipped size → r ≡ Ok size
+skipped_size (Ok n) size e = let q : n ≡ size = ap size_found e in ap Ok q
+skipped_size (Err rule) size e = absurd (cc)
+
+never_blank : (r : Result ℕ Rule) (size : ℕ) → skipped r ≡ found what.Blank size → ⊥
+never_blank (Ok n) size e = subst IsBlankFound (sym e) tt
+never_blank (Err rule) size e = cc
+
+-- what is known behind any piece
+pub kept_by : (before left : List ℕ) (is_first : Bool) (w : What TokenKind14) (size : ℕ) → is_first ≡ opens before → front is_first left ≡ found w size → 0 < size → size ≤ length left → IsKept before left is_first w size
+kept_by before left is_first (what.Token k) size o e s l = token_kept before left is_first k size e s l
+kept_by before left is_first what.Blank size o e s l = by (head_of (get_or left 0 0)) (head_is (get_or left 0 0)) e
+  where
+    by : (h : Head) → HeadIs (get_or left 0 0) h → front_by h is_first left ≡ found what.Blank size → IsKept before left is_first what.Blank size
+    by head.Blank h e = blank_kept before left is_first size o h (ap size_found e) l
+    by head.Letter h e = absurd (subst IsTokenFound e tt)
+    by head.Digit h e = absurd (subst IsTokenFound e (number_is_token left))
+    by head.Slash h e = absurd (never_blank (comment_size left) size e)
+    by head.AtSign h e = absurd (never_blank (pragma_size left) size e)
+    by head.NumberSign h e = absurd (never_blank (cond is_first (marker_size left) (Err (L 1))) size e)
+    by head.Other h e = absurd (subst IsTokenFound e (mark_is_token (option_map length (mark_of marks left))))
+kept_by before left is_first what.Skipped size o e s l = by (head_of (get_or left 0 0)) (head_is (get_or left 0 0)) e
+  where
+    by : (h : Head) → HeadIs (get_or left 0 0) h → front_by h is_first left ≡ found what.Skipped size → IsKept before left is_first what.Skipped size
+    by head.Blank h e = absurd (subst IsBlankFound e tt)
+    by head.Letter h e = absurd (subst IsTokenFound e tt)
+    by head.Digit h e = absurd (subst IsTokenFound e (number_is_token left))
+    by head.Slash h e = comment_kept before left is_first size h s l (comment_taken left size (skipped_size (comment_size left) size e))
+    by head.AtSign h e = pragma_kept before left is_first size h s l (skipped_size (pragma_size left) size e)
+    by head.NumberSign h e = marker_kept before left is_first size o h s l (skipped_size (cond is_first (marker_size left) (Err (L 1))) size e)
+    by head.Other h e = absurd (subst IsTokenFound e (mark_is_token (option_map length (mark_of marks left))))

@@ -1,0 +1,90 @@
+-- What the first octet of a piece tells, and that no token has a line feed.
+use Rattle.std.proofs.Common.{◌≡◌, ◌⊎◌, inl, inr, nat_eq, ℕ, ◌<◌, ◌≤◌, Bool, true, false, List, [], ◌∷◌, ◌++◌, length, get_or, take, refl, sym, ap, ◌∙◌, subst, arith, cond, codes, Option, Some, None, Result, Ok, Err}
+use Rattle.std.specs.Prelude.{not}
+use Rattle.std.specs.List.{AllPass, list_all}
+use Rattle.std.proofs.lemmas.List.Sums.{AllPass-from_list_all}
+use Rattle.std.proofs.lemmas.Bool.Decides.{nat_tests}
+use Rattle.token_division.specs.declared.literals.Base.{Base}
+use Rattle.token_division.specs.declared.literals.Base.TheVariants.{Binary, Decimal, Hexadecimal}
+use Rattle.token_division.specs.Octets.{is_blank, is_letter, is_decimal, is_word, is_line_feed, is_on_line}
+use Rattle.token_division.specs.Literals.{IsBasePrefix, IsLiteral, is_digit_or_gap}
+use Rattle.p414_tok.specs.declared.kind.TokenKind14.{TokenKind14}
+use Rattle.p414_tok.specs.declared.kind.TokenKind14.TheVariants as kind
+use Rattle.p414_tok.specs.declared.front.Head.{Head}
+use Rattle.p414_tok.specs.declared.front.Head.TheVariants as head
+use Rattle.p414_tok.specs.Front.{marks, head_of}
+use Rattle.p414_tok.specs.Spelled.{IsSpelled}
+use Rattle.p414_tok.proofs.Markers.{pass_append}
+
+equal : (a b : ℕ) → nat_eq a b ≡ true → a ≡ b
+equal a b e = grind (arith, nat_tests)
+
+pub record IsOther (octet : ℕ) : Type 0 where
+  pub no_blank : is_blank octet ≡ false
+  pub no_letter : is_letter octet ≡ false
+  pub no_decimal : is_decimal octet ≡ false
+  pub no_slash : nat_eq octet 47 ≡ false
+  pub no_at_sign : nat_eq octet 64 ≡ false
+  pub no_number_sign : nat_eq octet 35 ≡ false
+
+abbrev pub HeadIs : ℕ → Head → Type 0
+HeadIs octet head.Blank = is_blank octet ≡ true
+HeadIs octet head.Letter = (is_letter octet ≡ true) × (is_blank octet ≡ false)
+HeadIs octet head.Digit = (is_decimal octet ≡ true) × (is_blank octet ≡ false)
+HeadIs octet head.Slash = octet ≡ 47
+HeadIs octet head.AtSign = octet ≡ 64
+HeadIs octet head.NumberSign = octet ≡ 35
+HeadIs octet head.Other = IsOther octet
+
+pub head_is : (octet : ℕ) → HeadIs octet (head_of octet)
+head_is octet = by (is_blank octet) (is_letter octet) (is_decimal octet) (nat_eq octet 47) (nat_eq octet 64) (nat_eq octet 35) refl refl refl refl refl refl
+  where
+    by : (b l d s a n : Bool) → is_blank octet ≡ b → is_letter octet ≡ l → is_decimal octet ≡ d → nat_eq octet 47 ≡ s → nat_eq octet 64 ≡ a → nat_eq octet 35 ≡ n → HeadIs octet (cond b head.Blank (cond l head.Letter (cond d head.Digit (cond s head.Slash (cond a head.AtSign (cond n head.NumberSign head.Other))))))
+    by true l d s a n p q r t u v = p
+    by false true d s a n p q r t u v = (q, p)
+    by false false true s a n p q r t u v = (r, p)
+    by false false false true a n p q r t u v = equal octet 47 t
+    by false false false false true n p q r t u v = equal octet 64 u
+    by false false false false false true p q r t u v = equal octet 35 v
+    by false false false false false false p q r t u v = record { no_blank = p; no_letter = q; no_decimal = r; no_slash = t; no_at_sign = u; no_number_sign = v }
+
+pub no_blank_by : (octet : ℕ) (h : Head) → HeadIs octet h → (h ≡ head.Blank → ⊥) → is_blank octet ≡ false
+no_blank_by octet head.Blank h n = absurd (n refl)
+no_blank_by octet head.Letter h n = h.1
+no_blank_by octet head.Digit h n = h.1
+no_blank_by octet head.Slash h n = ap is_blank h
+no_blank_by octet head.AtSign h n = ap is_blank h
+no_blank_by octet head.NumberSign h n = ap is_blank h
+no_blank_by octet head.Other h n = h.no_blank
+
+-- octets that pass a test that a line feed doesn't pass
+on_line_by : (p : ℕ → Bool) (xs : List ℕ) → p 10 ≡ false → AllPass p xs → AllPass is_on_line xs
+on_line_by p xs z h k d l = by (is_line_feed (get_or xs k d)) refl
+  where
+    by : (t : Bool) → is_line_feed (get_or xs k d) ≡ t → not t ≡ true
+    by false e = refl
+    by true e = absurd (let f : true ≡ false = sym (h k d l) ∙ ap p (equal (get_or xs k d) 10 e) ∙ z in cc)
+
+prefix_on_line : (base : Base) (octets : List ℕ) → IsBasePrefix base octets → AllPass is_on_line octets
+prefix_on_line Decimal octets e = AllPass-from_list_all is_on_line octets (ap (list_all is_on_line) e)
+prefix_on_line Binary octets (inl e) = AllPass-from_list_all is_on_line octets (ap (list_all is_on_line) e)
+prefix_on_line Binary octets (inr e) = AllPass-from_list_all is_on_line octets (ap (list_all is_on_line) e)
+prefix_on_line Hexadecimal octets (inl e) = AllPass-from_list_all is_on_line octets (ap (list_all is_on_line) e)
+prefix_on_line Hexadecimal octets (inr e) = AllPass-from_list_all is_on_line octets (ap (list_all is_on_line) e)
+
+no_feed : (base : Base) → is_digit_or_gap base 10 ≡ false
+no_feed Decimal = refl
+no_feed Binary = refl
+no_feed Hexadecimal = refl
+
+literal_on_line : (octets : List ℕ) (value : ℕ) → IsLiteral octets value → AllPass is_on_line octets
+literal_on_line octets value h = subst (AllPass is_on_line) (sym h.parts) (pass_append is_on_line h.prefix h.digits (prefix_on_line h.base h.prefix h.has_prefix) (on_line_by (is_digit_or_gap h.base) h.digits (no_feed h.base) h.has_digits.1))
+
+pub spelled_on_line : (k : TokenKind14) (text : List ℕ) (size : ℕ) → IsSpelled k text size → AllPass is_on_line (take size text)
+spelled_on_line kind.Name text size h = on_line_by is_word (take size text) refl h.0.1
+spelled_on_line (kind.Number None value) text size h = literal_on_line (take size text) value h.0
+spelled_on_line (kind.Number (Some width) value) text size h =
+    subst (AllPass is_on_line) (sym h.parts) (pass_append is_on_line h.digits (39 ∷ h.rest) (on_line_by is_decimal h.digits refl h.has_digits)
+    (pass_append is_on_line (39 ∷ []) h.rest (AllPass-from_list_all is_on_line (39 ∷ []) refl) (literal_on_line h.rest h.written h.has_number)))
+spelled_on_line kind.Mark text size h =
+    AllPass-from_list_all is_on_line (take size text) (ap (list_all is_on_line) (sym h.0.2) ∙ AllPass-from_list_all (λ (m : List ℕ). list_all is_on_line m) marks refl h.0.0 (take size text) h.0.1)
