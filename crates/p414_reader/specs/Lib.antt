@@ -7,5 +7,5 @@ pub mod Updates
 pub mod Forest
 pub mod Labels
 pub mod Lexemes
-pub mod Choices
+pub mod Coded
 pub mod Reading

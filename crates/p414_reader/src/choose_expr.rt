@@ -1,16 +1,16 @@
-// Which row of an expression's word is taken. What follows an operator depends on how tightly it binds.
+// Which row of an expression's word is taken: what follows an operator depends on how tightly it binds.
 ghost use Rattle.std.specs.Prelude.{◌≡◌, ◌<◌, length, map, Some, None, IfOk, slice_get};
 ghost use Rattle.p414_ast.specs.declared.lexeme.Lexeme.{Lexeme};
 ghost use Rattle.p414_reader.specs.declared.symbols.BodyWord.TheVariants as BodyWord;
 ghost use Rattle.p414_reader.specs.Classes.{prefix_of};
 ghost use Rattle.p414_reader.specs.Rows as specs;
 ghost use Rattle.p414_reader.specs.Lexemes.{lexeme_of};
-ghost use Rattle.p414_reader.specs.Choices.{ChoosesAt, ChoosesLike};
+ghost use Rattle.p414_reader.specs.Coded.{ChoosesLine, body_coded, coded};
 
 use crate::keyword::Keyword;
 use crate::operators::{binary_power, infix_of, prefix_of, unary_power};
 use crate::reading::Reading;
-use crate::rows::{DOT, PAREN_CLOSE, PAREN_OPEN, Sym, bodies};
+use crate::rows::{DOT, PAREN_CLOSE, PAREN_OPEN, Sym};
 use crate::symbols::{Action, BodyAction, BodyWord, Class, PartAction, PartWord, Word};
 use p4x_bits::OutOfMemory;
 use p414_ast::Mark;
@@ -40,8 +40,30 @@ const PUT_REF: Sym = Symbol::Put(Action::Part(PartAction::Ref));
 
 const PUT_FIELD: Sym = Symbol::Put(Action::Body(BodyAction::Field));
 
+/// The class of the first row of the word that fits the token at this place, where the rows depend on a number. The
+/// symbols of the row are put onto the stack, with `more` behind them.
+pub fn choose_coded(
+    reading: &Reading<'_>,
+    word: Word,
+    more: &[Sym],
+    place: usize,
+    stack: &mut Stack<Class, Action, Word>,
+) -> Result<Option<Class>, OutOfMemory>
+    requires { place < length reading.now.tokens.now }
+    ensures chooses { IfOk result (λ class. ChoosesLine (map lexeme_of reading.now.tokens.now) place reading.now.built (coded word) more.now class stack.old stack.new) }
+    ensures none { IfOk result (λ class. class ≡ None → stack.new ≡ stack.old) }
+{
+    match word {
+        Word::Body(BodyWord::Expr(least)) => choose_expr(reading, least, more, place, stack),
+        Word::Body(BodyWord::Operators(least, most)) => choose_operator(
+            reading, least, most, more, place, stack,
+        ),
+        _ => Ok(None),
+    }
+}
+
 /// An expression whose operators bind at least so tightly, and `more` behind it.
-pub fn choose_expr(
+fn choose_expr(
     reading: &Reading<'_>,
     least: u8,
     more: &[Sym],
@@ -49,7 +71,7 @@ pub fn choose_expr(
     stack: &mut Stack<Class, Action, Word>,
 ) -> Result<Option<Class>, OutOfMemory>
     requires { place < length reading.now.tokens.now }
-    ensures chooses { IfOk result (λ class. ChoosesLike (map lexeme_of reading.now.tokens.now) place reading.now.built (specs.body_rows (BodyWord.Expr least)) more.now class stack.old stack.new) }
+    ensures chooses { IfOk result (λ class. ChoosesLine (map lexeme_of reading.now.tokens.now) place reading.now.built (body_coded (BodyWord.Expr least)) more.now class stack.old stack.new) }
     ensures none { IfOk result (λ class. class ≡ None → stack.new ≡ stack.old) }
 {
     match prefix_of(reading.tokens[place]) {
@@ -77,7 +99,7 @@ fn choose_operand(
 ) -> Result<Option<Class>, OutOfMemory>
     requires { place < length reading.now.tokens.now }
     ensures chooses { (token : Lexeme) → slice_get (map lexeme_of reading.now.tokens.now) place ≡ Some token → prefix.now ≡ specs.prefix_rest least (prefix_of token)
-        → IfOk result (λ class. ChoosesLike (map lexeme_of reading.now.tokens.now) place reading.now.built (specs.body_rows (BodyWord.Expr least)) more.now class stack.old stack.new) }
+        → IfOk result (λ class. ChoosesLine (map lexeme_of reading.now.tokens.now) place reading.now.built (body_coded (BodyWord.Expr least)) more.now class stack.old stack.new) }
     ensures none { IfOk result (λ class. class ≡ None → stack.new ≡ stack.old) }
 {
     let operators = Symbol::Word(Word::Body(BodyWord::Operators(least, 12)));
@@ -122,16 +144,17 @@ fn choose_operand(
     choose_first(reading, &rows, more, place, stack)
 }
 
-/// What stands behind an operand.
-pub fn choose_operator(
+/// What stands behind an operand, and `more` behind it.
+fn choose_operator(
     reading: &Reading<'_>,
     least: u8,
     most: u8,
+    more: &[Sym],
     place: usize,
     stack: &mut Stack<Class, Action, Word>,
 ) -> Result<Option<Class>, OutOfMemory>
     requires { place < length reading.now.tokens.now }
-    ensures chooses { IfOk result (λ class. ChoosesAt (map lexeme_of reading.now.tokens.now) place reading.now.built (specs.body_rows (BodyWord.Operators least most)) class stack.old stack.new) }
+    ensures chooses { IfOk result (λ class. ChoosesLine (map lexeme_of reading.now.tokens.now) place reading.now.built (body_coded (BodyWord.Operators least most)) more.now class stack.old stack.new) }
     ensures none { IfOk result (λ class. class ≡ None → stack.new ≡ stack.old) }
 {
     let first = Class::Infix(least, most);
@@ -139,7 +162,7 @@ pub fn choose_operator(
         None => choose_first(
             reading,
             &[Alternative { first, rest: &[] }],
-            &[],
+            more,
             place,
             stack,
         ),
@@ -153,27 +176,10 @@ pub fn choose_operator(
             choose_first(
                 reading,
                 &[Alternative { first, rest: &rest }],
-                &[],
+                more,
                 place,
                 stack,
             )
         }
     }
-}
-
-/// What stands behind `if (`.
-pub fn choose_after_if(
-    reading: &Reading<'_>,
-    place: usize,
-    stack: &mut Stack<Class, Action, Word>,
-) -> Result<Option<Class>, OutOfMemory>
-    requires { place < length reading.now.tokens.now }
-    ensures chooses { IfOk result (λ class. ChoosesAt (map lexeme_of reading.now.tokens.now) place reading.now.built (specs.body_rows BodyWord.AfterIf) class stack.old stack.new) }
-    ensures none { IfOk result (λ class. class ≡ None → stack.new ≡ stack.old) }
-{
-    let first = choose_first(reading, bodies::AFTER_IF, &[], place, stack)?;
-    if first.is_some() {
-        return Ok(first);
-    }
-    choose_expr(reading, 0, bodies::BEHIND_AFTER_IF, place, stack)
 }

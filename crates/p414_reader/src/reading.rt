@@ -3,14 +3,16 @@ ghost use Rattle.std.specs.Prelude.{◌≡◌, ◌<◌, length, map, None, IfOk}
 ghost use Rattle.p414_ast.specs.declared.lexeme.Lexeme.{Lexeme};
 ghost use Rattle.p414_reader.specs.Built as built;
 ghost use Rattle.p414_reader.specs.Rows.{grammar14};
+ghost use Rattle.p414_reader.specs.Coded.{coded};
 ghost use Rattle.p414_reader.specs.Lexemes.{lexeme_of};
 
 use crate::built::Built;
+use crate::choose_expr::choose_coded;
+use crate::rows::{Sym, rows_of};
 use crate::seen::Seen;
 use crate::symbols::{Action, Class, Word};
-use crate::{choose, otherwise};
 use p4x_bits::OutOfMemory;
-use predictive_parser::{Builder, Lookahead, Otherwise, Stack};
+use predictive_parser::{Builder, Lookahead, Stack, WordRows};
 use std::alloc::Global;
 
 /// Tokens, and what is built of them so far.
@@ -33,6 +35,8 @@ impl Lookahead for Reading<'_> {
     ghost Built = { built.Built };
 
     ghost grammar = { grammar14 };
+
+    ghost coded = { coded };
 
     ghost tokens = { λ reading. map lexeme_of reading.tokens.now };
 
@@ -57,16 +61,17 @@ impl Builder for Reading<'_> {
         self.built.put(self.alloc, action)
     }
 
-    fn choose(
+    fn rows(&self, word: Word) -> WordRows<'_, Class, Action, Word> {
+        rows_of(word)
+    }
+
+    fn choose_coded(
         &self,
         word: Word,
+        more: &[Sym],
         place: usize,
         stack: &mut Stack<Class, Action, Word>,
     ) -> Result<Option<Class>, OutOfMemory> {
-        choose::choose(self, word, place, stack)
-    }
-
-    fn otherwise(&self, word: Word) -> Otherwise<Action> {
-        otherwise::otherwise(word)
+        choose_coded(self, word, more, place, stack)
     }
 }

@@ -1,3 +1,4 @@
+mod FirstRow
 pub mod Refusals
 pub mod Chains
 pub mod Meanings

@@ -1,4 +1,5 @@
 pub mod Machine
 pub mod Grammar
+pub mod Told
 pub mod Steps
 pub mod Answers

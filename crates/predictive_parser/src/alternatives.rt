@@ -1,4 +1,4 @@
-// The rows of a word, as code tells them.
+// Rows that are made where they are chosen from.
 ghost use Rattle.std.specs.Prelude.{◌≡◌, ◌<◌, length, None, Some, IfOk, slice_get};
 ghost use Rattle.predictive_parser.specs.Steps.{Chooses, first_of};
 

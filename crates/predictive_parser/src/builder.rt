@@ -1,10 +1,10 @@
 // What a parser reads from, and builds.
-ghost use Rattle.std.specs.Prelude.{◌≡◌, ◌<◌, List, length, true, Some, None, IfOk, OnOk, slice_get};
-ghost use Rattle.predictive_parser.specs.declared.symbol.Otherwise.{Otherwise};
-ghost use Rattle.predictive_parser.specs.Grammar.{Grammar, first_fit, lines_of};
+ghost use Rattle.std.specs.Prelude.{◌≡◌, ◌<◌, List, map, length, true, Some, None, IfOk, OnOk, slice_get};
+ghost use Rattle.predictive_parser.specs.Grammar.{Grammar, Line, first_fit, with_more};
 ghost use Rattle.predictive_parser.specs.Steps.{Chooses};
+ghost use Rattle.predictive_parser.specs.Told.{told};
 
-use crate::{Otherwise, Stack};
+use crate::{Stack, Symbol, WordRows};
 use p4x_bits::OutOfMemory;
 
 /// Tokens that are read in a grammar, and what is built of them so far. A type says what a token is, what
@@ -24,6 +24,9 @@ pub trait Lookahead {
     ghost Built: { Type 0 };
 
     ghost grammar: { Grammar Self.Class Self.Action Self.Word Token Built };
+
+    // The rows of each word that code chooses from by a method, since they depend on a number or on the token.
+    ghost coded: { Self.Word → List (Line Self.Class Self.Action Self.Word Token) };
 
     // The tokens that are held.
     ghost tokens: { Self → List Token };
@@ -60,22 +63,24 @@ pub trait Builder: Lookahead {
             → Self.Holds self.new (Self.grammar.put action built)) }
         ensures tokens { OnOk result (Self.tokens self.new ≡ Self.tokens self.old) };
 
-    /// The class of the first row of the word that fits the token at this place, if one does; the symbols
-    /// of the row that follow the token are put onto the stack.
-    fn choose(
+    /// The rows of the word, and what it does where none of them fits.
+    fn rows(&self, word: Self::Word) -> WordRows<'_, Self::Class, Self::Action, Self::Word>
+        ensures rows { told (Self.coded word) result.rows.now ≡ Self.grammar.rows word }
+        ensures otherwise { result.otherwise ≡ Self.grammar.otherwise word };
+
+    /// The class of the first of the rows of the word that code tells, if one fits the token at this place. The symbols of
+    /// the row that follow the token are put onto the stack, with `more` behind them.
+    fn choose_coded(
         &self,
         word: Self::Word,
+        more: &[Symbol<Self::Class, Self::Action, Self::Word>],
         place: usize,
         stack: &mut Stack<Self::Class, Self::Action, Self::Word>,
     ) -> Result<Option<Self::Class>, OutOfMemory>
         requires { place < length (Self.tokens self.now) }
         ensures chooses { IfOk result (λ class. (built : Self.Built) (token : Self.Token) → Self.Holds self.now built
             → slice_get (Self.tokens self.now) place ≡ Some token
-            → Chooses class (first_fit Self.grammar token built (lines_of Self.grammar (Self.grammar.rows word)))
+            → Chooses class (first_fit Self.grammar token built (map (with_more more.now) (Self.coded word)))
             stack.old stack.new) }
         ensures none { IfOk result (λ class. class ≡ None → stack.new ≡ stack.old) };
-
-    /// What the word does where none of its rows fits.
-    fn otherwise(&self, word: Self::Word) -> Otherwise<Self::Action>
-        ensures { result ≡ Self.grammar.otherwise word };
 }

@@ -4,12 +4,15 @@
 
 mod alternatives;
 mod builder;
+mod choosing;
 mod parser;
+mod row;
 mod stack;
 mod symbol;
 
 pub use alternatives::{Alternative, choose_first};
 pub use builder::{Builder, Lookahead};
 pub use parser::{ParseError, parse};
+pub use row::{Row, WordRows};
 pub use stack::Stack;
 pub use symbol::{Otherwise, Symbol};

@@ -7,6 +7,7 @@ ghost use Rattle.predictive_parser.specs.Grammar.{move, passed};
 ghost use Rattle.predictive_parser.specs.Steps.{Settles, Finishes, Passing};
 ghost use Rattle.predictive_parser.specs.Answers.{Parses};
 
+use crate::choosing::choose;
 use crate::{Builder, Otherwise, Stack, Symbol};
 use p4x_bits::OutOfMemory;
 use std::alloc::Global;
@@ -80,7 +81,7 @@ fn settle<B: Builder>(
                 return Ok(fits);
             }
             Symbol::Word(word) => {
-                if let Some(first) = builder.choose(word, place, stack)? {
+                if let Some(first) = choose(builder, word, place, stack)? {
                     builder.shift(first, place)?;
                     return Ok(true);
                 }
@@ -122,7 +123,7 @@ fn pass<B: Builder>(builder: &mut B, word: B::Word) -> Result<bool, OutOfMemory>
         → Passing done (passed B.grammar (B.grammar.otherwise word) built) (B.Holds builder.new)) }
     ensures tokens { OnOk result (B.tokens builder.new ≡ B.tokens builder.old) }
 {
-    match builder.otherwise(word) {
+    match builder.rows(word).otherwise {
         Otherwise::Refuse => Ok(false),
         Otherwise::Pass => Ok(true),
         Otherwise::Build(action) => {

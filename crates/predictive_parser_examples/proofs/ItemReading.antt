@@ -353,11 +353,11 @@ language = record {
 }
 
 -- For code: the row of a tail, written with the operator and its power.
-pub tail_row : (least most p : ℕ) (operator t : Lexeme) (chosen : Option Class) (old new : List (Symbol Class Event Phrase)) → operator ≡ t → p ≡ power operator
-    → Chooses chosen (cond (is_operator least most (power t)) (Some (class.Operator least most, Word (Item (p + 1)) ∷ Put (event.Both operator) ∷ Word (Tail least p) ∷ [])) None) old new
-    → Chooses chosen (cond (is_operator least most (power t)) (Some (class.Operator least most, Word (Item (suc (power t))) ∷ Put (event.Both t) ∷ Word (Tail least (power t)) ∷ [])) None) old new
-tail_row least most p operator t chosen old new e q h =
+pub tail_row : (least most p : ℕ) (operator t : Lexeme) (more : List (Symbol Class Event Phrase)) (chosen : Option Class) (old new : List (Symbol Class Event Phrase)) → operator ≡ t → p ≡ power operator
+    → Chooses chosen (cond (is_operator least most (power t)) (Some (class.Operator least most, Word (Item (p + 1)) ∷ Put (event.Both operator) ∷ Word (Tail least p) ∷ more)) None) old new
+    → Chooses chosen (cond (is_operator least most (power t)) (Some (class.Operator least most, Word (Item (suc (power t))) ∷ Put (event.Both t) ∷ Word (Tail least (power t)) ∷ more)) None) old new
+tail_row least most p operator t more chosen old new e q h =
     let a : p ≡ power t = q ∙ ap power e in
     let b : p + 1 ≡ suc (power t) = add-one p ∙ ap suc a in
-    let k : Word (Item (p + 1)) ∷ Put (event.Both operator) ∷ Word (Tail least p) ∷ [] ≡ Word (Item (suc (power t))) ∷ Put (event.Both t) ∷ Word (Tail least (power t)) ∷ [] = cc in
+    let k : Word (Item (p + 1)) ∷ Put (event.Both operator) ∷ Word (Tail least p) ∷ more ≡ Word (Item (suc (power t))) ∷ Put (event.Both t) ∷ Word (Tail least (power t)) ∷ more = cc in
     subst (λ symbols. Chooses chosen (cond (is_operator least most (power t)) (Some (class.Operator least most, symbols)) None) old new) k h

@@ -11,7 +11,7 @@ use Rattle.predictive_parser_examples.specs.declared.example.Event.TheVariants a
 use Rattle.predictive_parser.specs.declared.symbol.Symbol.TheVariants.{Token, Put, Word}
 use Rattle.predictive_parser.specs.declared.symbol.Otherwise.{Otherwise}
 use Rattle.predictive_parser.specs.declared.symbol.Otherwise.TheVariants.{Refuse, Pass, Build}
-use Rattle.predictive_parser.specs.Grammar.{Grammar, Row, Plain, Like, ◌⇒◌}
+use Rattle.predictive_parser.specs.Grammar.{Grammar, Row, Plain, Like, Line, plain_lines, ◌⇒◌}
 use Rattle.predictive_parser_examples.specs.Syntax.{power}
 
 abbrev pub is_operator : ℕ → ℕ → ℕ → Bool
@@ -47,6 +47,13 @@ rows ListEnd =
     ∷ Like (Item 0) (Word More ∷ Token class.Close ∷ Put event.Cons ∷ Put event.List ∷ [])
     ∷ []
 rows More = (class.Comma ⇒ Word (Item 0) ∷ Word More ∷ Put event.Cons ∷ []) ∷ []
+
+-- the rows that depend on a number or on the token
+abbrev pub coded : Phrase → List (Line Class Event Phrase Lexeme)
+coded (Item least) = plain_lines (rows (Item least))
+coded (Tail least most) = plain_lines (rows (Tail least most))
+coded ListEnd = []
+coded More = []
 
 abbrev pub otherwise : Phrase → Otherwise Event
 otherwise (Item least) = Refuse

@@ -7,14 +7,16 @@ ghost use Rattle.predictive_parser_examples.specs.declared.example.Event.{Event}
 ghost use Rattle.predictive_parser_examples.specs.declared.example.Phrase.TheVariants as phrase;
 ghost use Rattle.predictive_parser.specs.Grammar.{parse, first_fit, with_more, plain_lines};
 ghost use Rattle.predictive_parser.specs.Steps.{Chooses};
+ghost use Rattle.predictive_parser.specs.Told.{told};
 ghost use Rattle.predictive_parser.specs.Answers.{IsRefusedAt, Parses, Gives};
 ghost use Rattle.predictive_parser_examples.specs.Syntax as syntax;
 ghost use Rattle.predictive_parser_examples.specs.Syntax.{Item, Spells, postorder};
-ghost use Rattle.predictive_parser_examples.specs.Items.{items, accepts, rows};
+ghost use Rattle.predictive_parser_examples.specs.Items.{items, accepts, rows, coded, otherwise};
 
 use p4x_bits::{OutOfMemory, Rows};
 use predictive_parser::{
-    Alternative, Builder, Lookahead, Otherwise, ParseError, Stack, Symbol, choose_first, parse,
+    Alternative, Builder, Lookahead, Otherwise, ParseError, Row, Stack, Symbol, WordRows,
+    choose_first, parse,
 };
 use std::alloc::Global;
 
@@ -104,6 +106,50 @@ fn is_of(class: Class, token: Lexeme) -> bool
     }
 }
 
+/// The rows of a phrase.
+type PhraseRows = &'static [Row<'static, Class, Event, Phrase>];
+
+const CODED: PhraseRows = &[Row::Coded];
+
+const LIST_END: PhraseRows = &[
+    Row::Plain(
+        Class::Close,
+        &[Symbol::Put(Event::Nil), Symbol::Put(Event::List)],
+    ),
+    Row::Like(
+        Phrase::Item(0),
+        &[
+            Symbol::Word(Phrase::More),
+            Symbol::Token(Class::Close),
+            Symbol::Put(Event::Cons),
+            Symbol::Put(Event::List),
+        ],
+    ),
+];
+
+const MORE: PhraseRows = &[Row::Plain(
+    Class::Comma,
+    &[
+        Symbol::Word(Phrase::Item(0)),
+        Symbol::Word(Phrase::More),
+        Symbol::Put(Event::Cons),
+    ],
+)];
+
+/// The rows of the phrase, and what it does where none of them fits.
+fn rows_of(phrase: Phrase) -> WordRows<'static, Class, Event, Phrase>
+    ensures rows { told (coded phrase) result.rows.now ≡ rows phrase }
+    ensures otherwise { result.otherwise ≡ otherwise phrase }
+{
+    let (rows, otherwise) = match phrase {
+        Phrase::Item(_) => (CODED, Otherwise::Refuse),
+        Phrase::Tail(_, _) => (CODED, Otherwise::Pass),
+        Phrase::ListEnd => (LIST_END, Otherwise::Refuse),
+        Phrase::More => (MORE, Otherwise::Build(Event::Nil)),
+    };
+    WordRows { rows, otherwise }
+}
+
 impl Lookahead for Reading<'_> {
     type Class = Class;
 
@@ -116,6 +162,8 @@ impl Lookahead for Reading<'_> {
     ghost Built = { List Event };
 
     ghost grammar = { items };
+
+    ghost coded = { coded };
 
     ghost tokens = { λ reading. reading.tokens.now };
 
@@ -142,52 +190,21 @@ impl Builder for Reading<'_> {
         self.events.push(action)
     }
 
-    fn choose(
+    fn rows(&self, word: Phrase) -> WordRows<'_, Class, Event, Phrase> {
+        rows_of(word)
+    }
+
+    fn choose_coded(
         &self,
         word: Phrase,
+        more: &[Symbol<Class, Event, Phrase>],
         place: usize,
         stack: &mut Stack<Class, Event, Phrase>,
     ) -> Result<Option<Class>, OutOfMemory> {
         match word {
-            Phrase::Item(least) => self.choose_item(least, &[], place, stack),
-            Phrase::Tail(least, most) => self.choose_tail(least, most, place, stack),
-            Phrase::ListEnd => {
-                let empty = Alternative {
-                    first: Class::Close,
-                    rest: &[Symbol::Put(Event::Nil), Symbol::Put(Event::List)],
-                };
-                match choose_first(self, &[empty], &[], place, stack)? {
-                    Some(class) => Ok(Some(class)),
-                    None => {
-                        let more = [
-                            Symbol::Word(Phrase::More),
-                            Symbol::Token(Class::Close),
-                            Symbol::Put(Event::Cons),
-                            Symbol::Put(Event::List),
-                        ];
-                        self.choose_item(0, &more, place, stack)
-                    }
-                }
-            }
-            Phrase::More => {
-                let row = Alternative {
-                    first: Class::Comma,
-                    rest: &[
-                        Symbol::Word(Phrase::Item(0)),
-                        Symbol::Word(Phrase::More),
-                        Symbol::Put(Event::Cons),
-                    ],
-                };
-                choose_first(self, &[row], &[], place, stack)
-            }
-        }
-    }
-
-    fn otherwise(&self, word: Phrase) -> Otherwise<Event> {
-        match word {
-            Phrase::Item(_) | Phrase::ListEnd => Otherwise::Refuse,
-            Phrase::Tail(_, _) => Otherwise::Pass,
-            Phrase::More => Otherwise::Build(Event::Nil),
+            Phrase::Item(least) => self.choose_item(least, more, place, stack),
+            Phrase::Tail(least, most) => self.choose_tail(least, most, more, place, stack),
+            Phrase::ListEnd | Phrase::More => Ok(None),
         }
     }
 }
@@ -222,17 +239,19 @@ impl Reading<'_> {
 }
 
 impl Reading<'_> {
-    /// Chooses the row of a tail.
+    /// Chooses the row of a tail, with `more` behind it.
     fn choose_tail(
         &self,
         least: u8,
         most: u8,
+        more: &[Symbol<Class, Event, Phrase>],
         place: usize,
         stack: &mut Stack<Class, Event, Phrase>,
     ) -> Result<Option<Class>, OutOfMemory>
         requires { place < length self.now.tokens.now }
         ensures chooses { IfOk result (λ class. (token : Lexeme) → slice_get self.now.tokens.now place ≡ Some token
-            → Chooses class (first_fit items token self.now.events (plain_lines (rows (phrase.Tail least most))))
+            → Chooses class
+            (first_fit items token self.now.events (map (with_more more.now) (plain_lines (rows (phrase.Tail least most)))))
             stack.old stack.new) }
         ensures none { IfOk result (λ class. class ≡ None → stack.new ≡ stack.old) }
     {
@@ -246,7 +265,7 @@ impl Reading<'_> {
                 Symbol::Word(Phrase::Tail(least, power)),
             ],
         };
-        choose_first(self, &[row], &[], place, stack)
+        choose_first(self, &[row], more, place, stack)
     }
 }
 

@@ -1,151 +1,72 @@
 // The rows of the words for expressions and controls.
+ghost use Rattle.std.specs.Prelude.{◌≡◌};
+ghost use Rattle.predictive_parser.specs.Told.{told};
+ghost use Rattle.p414_reader.specs.Rows.{body_rows, body_otherwise};
+ghost use Rattle.p414_reader.specs.Coded.{body_coded};
+
 use crate::keyword::Keyword;
-use crate::rows::{BRACE_CLOSE, BRACE_OPEN, PAREN_CLOSE, PAREN_OPEN, Row, SEMICOLON, Sym};
+use crate::rows::{BRACE_CLOSE, BRACE_OPEN, PAREN_CLOSE, PAREN_OPEN, Rows, SEMICOLON, Told};
 use crate::symbols::{Action, BodyAction, BodyWord, Class, PartAction, PartWord, Word};
 use p414_ast::Mark;
-use predictive_parser::Symbol;
+use predictive_parser::{Otherwise, Row, Symbol, WordRows};
 
-/// An instance in an expression.
-pub const EXPR_INST: &[Row] = &[Row {
-    first: Class::ExpressionName,
-    rest: &[
-        Symbol::Word(Word::Part(PartWord::IndexOption)),
-        Symbol::Put(Action::Part(PartAction::Inst)),
-    ],
-}];
+const CODED: Rows = &[Row::Coded];
 
-/// Statements.
-pub const STATEMENTS: &[Row] = &[
-    Row {
-        first: Class::Word(Keyword::Apply),
-        rest: &[
-            PAREN_OPEN,
-            Symbol::Word(Word::Body(BodyWord::AfterApply)),
-            Symbol::Word(Word::Body(BodyWord::Statements)),
-        ],
-    },
-    Row {
-        first: Class::Word(Keyword::If),
-        rest: &[
-            PAREN_OPEN,
-            Symbol::Word(Word::Body(BodyWord::AfterIf)),
-            Symbol::Word(Word::Body(BodyWord::Statements)),
-        ],
-    },
-    Row {
-        first: Class::Name,
-        rest: &[
-            PAREN_OPEN,
-            PAREN_CLOSE,
-            SEMICOLON,
-            Symbol::Put(Action::Body(BodyAction::AddCall)),
-            Symbol::Word(Word::Body(BodyWord::Statements)),
-        ],
-    },
+const EXPR_INST: Rows = &[row!(Class::ExpressionName => part!(IndexOption), put_part!(Inst))];
+
+const STATEMENTS: Rows = &[
+    row!(key!(Apply) => PAREN_OPEN, body!(AfterApply), body!(Statements)),
+    row!(key!(If) => PAREN_OPEN, body!(AfterIf), body!(Statements)),
+    row!(Class::Name => PAREN_OPEN, PAREN_CLOSE, SEMICOLON, put_body!(AddCall), body!(Statements)),
 ];
 
-/// What stands behind `apply (`.
-pub const AFTER_APPLY: &[Row] = &[
-    Row {
-        first: Class::Mark(Mark::ParenClose),
-        rest: &[
-            SEMICOLON,
-            Symbol::Put(Action::Body(BodyAction::AddCallOf(Keyword::Apply))),
-        ],
-    },
-    Row {
-        first: Class::Name,
-        rest: &[PAREN_CLOSE, Symbol::Word(Word::Body(BodyWord::ApplyEnd))],
-    },
+const AFTER_APPLY: Rows = &[
+    row!(mark!(ParenClose) => SEMICOLON, put_body!(AddCallOf(Keyword::Apply))),
+    row!(Class::Name => PAREN_CLOSE, body!(ApplyEnd)),
 ];
 
-/// What stands behind `apply (TABLE)`.
-pub const APPLY_END: &[Row] = &[
-    Row {
-        first: Class::Mark(Mark::Semicolon),
-        rest: &[Symbol::Put(Action::Body(BodyAction::AddApply))],
-    },
-    Row {
-        first: Class::Mark(Mark::BraceOpen),
-        rest: &[
-            Symbol::Put(Action::Body(BodyAction::NoBranches)),
-            Symbol::Word(Word::Body(BodyWord::Branches)),
-            BRACE_CLOSE,
-            Symbol::Put(Action::Body(BodyAction::AddApplyBranches)),
-        ],
-    },
+const APPLY_END: Rows = &[
+    row!(mark!(Semicolon) => put_body!(AddApply)),
+    row!(mark!(BraceOpen) => put_body!(NoBranches), body!(Branches), BRACE_CLOSE,
+        put_body!(AddApplyBranches)),
 ];
 
-/// What stands behind `if (`.
-pub const AFTER_IF: &[Row] = &[Row {
-    first: Class::Mark(Mark::ParenClose),
-    rest: &[
-        SEMICOLON,
-        Symbol::Put(Action::Body(BodyAction::AddCallOf(Keyword::If))),
-    ],
-}];
-
-/// Behind each row of the other word, at the word for: what stands behind `if (`.
-pub const BEHIND_AFTER_IF: &[Sym] = &[
-    PAREN_CLOSE,
-    BRACE_OPEN,
-    Symbol::Put(Action::Body(BodyAction::NoStatements)),
-    Symbol::Word(Word::Body(BodyWord::Statements)),
-    BRACE_CLOSE,
-    Symbol::Word(Word::Body(BodyWord::ElseOption)),
-    Symbol::Put(Action::Body(BodyAction::AddIf)),
+const AFTER_IF: Rows = &[
+    row!(mark!(ParenClose) => SEMICOLON, put_body!(AddCallOf(Keyword::If))),
+    like!(Word::Body(BodyWord::Expr(0)) => PAREN_CLOSE, BRACE_OPEN, put_body!(NoStatements),
+        body!(Statements), BRACE_CLOSE, body!(ElseOption), put_body!(AddIf)),
 ];
 
-/// What stands behind the block of an `if`, or nothing.
-pub const ELSE_OPTION: &[Row] = &[Row {
-    first: Class::Word(Keyword::Else),
-    rest: &[Symbol::Word(Word::Body(BodyWord::AfterElse))],
-}];
+const ELSE_OPTION: Rows = &[row!(key!(Else) => body!(AfterElse))];
 
-/// What stands behind the word `else`.
-pub const AFTER_ELSE: &[Row] = &[
-    Row {
-        first: Class::Mark(Mark::BraceOpen),
-        rest: &[
-            Symbol::Put(Action::Body(BodyAction::NoStatements)),
-            Symbol::Word(Word::Body(BodyWord::Statements)),
-            BRACE_CLOSE,
-            Symbol::Put(Action::Body(BodyAction::ElseBlock)),
-        ],
-    },
-    Row {
-        first: Class::Word(Keyword::If),
-        rest: &[
-            PAREN_OPEN,
-            Symbol::Word(Word::Body(BodyWord::Expr(0))),
-            PAREN_CLOSE,
-            BRACE_OPEN,
-            Symbol::Put(Action::Body(BodyAction::NoStatements)),
-            Symbol::Word(Word::Body(BodyWord::Statements)),
-            BRACE_CLOSE,
-            Symbol::Word(Word::Body(BodyWord::ElseOption)),
-            Symbol::Put(Action::Body(BodyAction::ElseIf)),
-        ],
-    },
-    Row {
-        first: Class::Mark(Mark::ParenOpen),
-        rest: &[
-            PAREN_CLOSE,
-            SEMICOLON,
-            Symbol::Put(Action::Body(BodyAction::NoElseThenCall)),
-        ],
-    },
+const AFTER_ELSE: Rows = &[
+    row!(mark!(BraceOpen) => put_body!(NoStatements), body!(Statements), BRACE_CLOSE,
+        put_body!(ElseBlock)),
+    row!(key!(If) => PAREN_OPEN, body!(Expr(0)), PAREN_CLOSE, BRACE_OPEN, put_body!(NoStatements),
+        body!(Statements), BRACE_CLOSE, body!(ElseOption), put_body!(ElseIf)),
+    row!(mark!(ParenOpen) => PAREN_CLOSE, SEMICOLON, put_body!(NoElseThenCall)),
 ];
 
-/// Branches.
-pub const BRANCHES: &[Row] = &[Row {
-    first: Class::NewLabel,
-    rest: &[
-        BRACE_OPEN,
-        Symbol::Put(Action::Body(BodyAction::NoStatements)),
-        Symbol::Word(Word::Body(BodyWord::Statements)),
-        BRACE_CLOSE,
-        Symbol::Put(Action::Body(BodyAction::AddBranch)),
-        Symbol::Word(Word::Body(BodyWord::Branches)),
-    ],
-}];
+const BRANCHES: Rows = &[
+    row!(Class::NewLabel => BRACE_OPEN, put_body!(NoStatements), body!(Statements), BRACE_CLOSE,
+        put_body!(AddBranch), body!(Branches)),
+];
+
+/// The rows of a word for expressions and controls, and what it does where none of them fits.
+pub fn rows_of(word: BodyWord) -> Told
+    ensures rows { told (body_coded word) result.rows.now ≡ body_rows word }
+    ensures otherwise { result.otherwise ≡ body_otherwise word }
+{
+    match word {
+        BodyWord::Expr(_) => refuse!(CODED),
+        BodyWord::Operators(_, _) => pass!(CODED),
+        BodyWord::ExprInst => refuse!(EXPR_INST),
+        BodyWord::Statements => pass!(STATEMENTS),
+        BodyWord::AfterApply => refuse!(AFTER_APPLY),
+        BodyWord::ApplyEnd => refuse!(APPLY_END),
+        BodyWord::AfterIf => refuse!(AFTER_IF),
+        BodyWord::ElseOption => build!(ELSE_OPTION => Action::Body(BodyAction::NoElse)),
+        BodyWord::AfterElse => refuse!(AFTER_ELSE),
+        BodyWord::Branches => pass!(BRANCHES),
+    }
+}

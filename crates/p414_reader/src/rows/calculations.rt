@@ -1,125 +1,61 @@
 // The rows of the words for field lists, calculations and calculated fields.
+ghost use Rattle.std.specs.Prelude.{◌≡◌, []};
+ghost use Rattle.predictive_parser.specs.Told.{told};
+ghost use Rattle.p414_reader.specs.Rows.{calculation_rows, calculation_otherwise};
+
 use crate::keyword::Keyword;
 use crate::rows::{
-    A_NAME, A_NUMBER, BRACKET_CLOSE, DOT, EQUAL, PAREN_CLOSE, PAREN_OPEN, Row, SEMICOLON, Sym,
+    A_NAME, A_NUMBER, BRACKET_CLOSE, DOT, EQUAL, PAREN_CLOSE, PAREN_OPEN, Rows, SEMICOLON, Told,
 };
 use crate::symbols::{
     Action, CalculationAction, CalculationWord, Class, PartAction, PartWord, Word,
 };
 use p414_ast::{CalcUse, Mark};
-use predictive_parser::Symbol;
+use predictive_parser::{Otherwise, Row, Symbol, WordRows};
 
-/// The items of a field list.
-pub const ITEMS: &[Row] = &[
-    Row {
-        first: Class::Number,
-        rest: &[
-            SEMICOLON,
-            Symbol::Put(Action::Calculation(CalculationAction::AddItemNumber)),
-            Symbol::Word(Word::Calculation(CalculationWord::Items)),
-        ],
-    },
-    Row {
-        first: Class::Name,
-        rest: &[
-            Symbol::Word(Word::Part(PartWord::IndexOption)),
-            Symbol::Put(Action::Part(PartAction::Inst)),
-            Symbol::Word(Word::Part(PartWord::FieldOption)),
-            SEMICOLON,
-            Symbol::Put(Action::Calculation(CalculationAction::AddItem)),
-            Symbol::Word(Word::Calculation(CalculationWord::Items)),
-        ],
-    },
+const ITEMS: Rows = &[
+    row!(Class::Number => SEMICOLON, put_calculation!(AddItemNumber), calculation!(Items)),
+    row!(Class::Name => part!(IndexOption), put_part!(Inst), part!(FieldOption), SEMICOLON,
+        put_calculation!(AddItem), calculation!(Items)),
 ];
 
-/// An entry of a calculated field.
-pub const CALC: &[Row] = &[
-    Row {
-        first: Class::Word(Keyword::Update),
-        rest: &[
-            A_NAME,
-            Symbol::Word(Word::Calculation(CalculationWord::CalcIf)),
-            SEMICOLON,
-            Symbol::Put(Action::Calculation(CalculationAction::AddCalc(CalcUse::Update))),
-        ],
-    },
-    Row {
-        first: Class::Word(Keyword::Verify),
-        rest: &[
-            A_NAME,
-            Symbol::Word(Word::Calculation(CalculationWord::CalcIf)),
-            SEMICOLON,
-            Symbol::Put(Action::Calculation(CalculationAction::AddCalc(CalcUse::Verify))),
-        ],
-    },
+const CALC: Rows = &[
+    row!(key!(Update) => A_NAME, calculation!(CalcIf), SEMICOLON,
+        put_calculation!(AddCalc(CalcUse::Update))),
+    row!(key!(Verify) => A_NAME, calculation!(CalcIf), SEMICOLON,
+        put_calculation!(AddCalc(CalcUse::Verify))),
 ];
 
-/// Behind each row of the other word, at the word for: further entries.
-pub const BEHIND_CALCS: &[Sym] = &[Symbol::Word(Word::Calculation(CalculationWord::Calcs))];
+const CALCS: Rows = &[like!(Word::Calculation(CalculationWord::Calc) => calculation!(Calcs))];
 
-/// `if (CONDITION)`, or nothing.
-pub const CALC_IF: &[Row] = &[Row {
-    first: Class::Word(Keyword::If),
-    rest: &[
-        PAREN_OPEN,
-        Symbol::Word(Word::Calculation(CalculationWord::CalcCond)),
-        PAREN_CLOSE,
-    ],
-}];
+const CALC_IF: Rows = &[row!(key!(If) => PAREN_OPEN, calculation!(CalcCond), PAREN_CLOSE)];
 
-/// A condition.
-pub const CALC_COND: &[Row] = &[
-    Row {
-        first: Class::Word(Keyword::Valid),
-        rest: &[Symbol::Word(Word::Calculation(CalculationWord::AfterValid))],
-    },
-    Row {
-        first: Class::Name,
-        rest: &[
-            Symbol::Word(Word::Part(PartWord::IndexOption)),
-            Symbol::Put(Action::Part(PartAction::Inst)),
-            DOT,
-            A_NAME,
-            Symbol::Put(Action::Part(PartAction::Ref)),
-            EQUAL,
-            A_NUMBER,
-            Symbol::Put(Action::Calculation(CalculationAction::CondEqual)),
-        ],
-    },
+const CALC_COND: Rows = &[
+    row!(key!(Valid) => calculation!(AfterValid)),
+    row!(Class::Name => part!(IndexOption), put_part!(Inst), DOT, A_NAME, put_part!(Ref), EQUAL,
+        A_NUMBER, put_calculation!(CondEqual)),
 ];
 
-/// What stands behind the word `valid` in a condition.
-pub const AFTER_VALID: &[Row] = &[
-    Row {
-        first: Class::Mark(Mark::ParenOpen),
-        rest: &[
-            Symbol::Word(Word::Part(PartWord::Inst)),
-            PAREN_CLOSE,
-            Symbol::Put(Action::Calculation(CalculationAction::CondValid)),
-        ],
-    },
-    Row {
-        first: Class::Mark(Mark::Dot),
-        rest: &[
-            A_NAME,
-            Symbol::Put(Action::Part(PartAction::RefOf(Keyword::Valid))),
-            EQUAL,
-            A_NUMBER,
-            Symbol::Put(Action::Calculation(CalculationAction::CondEqual)),
-        ],
-    },
-    Row {
-        first: Class::Mark(Mark::BracketOpen),
-        rest: &[
-            Symbol::Word(Word::Part(PartWord::IndexIn)),
-            BRACKET_CLOSE,
-            Symbol::Put(Action::Part(PartAction::InstOf(Keyword::Valid))),
-            DOT,
-            A_NAME,
-            Symbol::Put(Action::Part(PartAction::Ref)),
-            EQUAL,
-            A_NUMBER,
-            Symbol::Put(Action::Calculation(CalculationAction::CondEqual)),
-        ],
-    },
+const AFTER_VALID: Rows = &[
+    row!(mark!(ParenOpen) => part!(Inst), PAREN_CLOSE, put_calculation!(CondValid)),
+    row!(mark!(Dot) => A_NAME, put_part!(RefOf(Keyword::Valid)), EQUAL, A_NUMBER,
+        put_calculation!(CondEqual)),
+    row!(mark!(BracketOpen) => part!(IndexIn), BRACKET_CLOSE, put_part!(InstOf(Keyword::Valid)),
+        DOT, A_NAME, put_part!(Ref), EQUAL, A_NUMBER, put_calculation!(CondEqual)),
 ];
+
+/// The rows of a word for field lists, calculations and calculated fields, and what it does where none of them fits.
+pub fn rows_of(word: CalculationWord) -> Told
+    ensures rows { told [] result.rows.now ≡ calculation_rows word }
+    ensures otherwise { result.otherwise ≡ calculation_otherwise word }
+{
+    match word {
+        CalculationWord::Items => pass!(ITEMS),
+        CalculationWord::Calc => refuse!(CALC),
+        CalculationWord::Calcs => pass!(CALCS),
+        CalculationWord::CalcIf =>
+            build!(CALC_IF => Action::Calculation(CalculationAction::NoCond)),
+        CalculationWord::CalcCond => refuse!(CALC_COND),
+        CalculationWord::AfterValid => refuse!(AFTER_VALID),
+    }
+}

@@ -1,76 +1,41 @@
 // The rows of the words for actions.
-use crate::rows::{A_NUMBER, PAREN_CLOSE, PAREN_OPEN, Row, SEMICOLON, Sym};
+ghost use Rattle.std.specs.Prelude.{◌≡◌, []};
+ghost use Rattle.predictive_parser.specs.Told.{told};
+ghost use Rattle.p414_reader.specs.Rows.{call_rows, call_otherwise};
+
+use crate::rows::{A_NUMBER, PAREN_CLOSE, PAREN_OPEN, Rows, SEMICOLON, Told};
 use crate::symbols::{Action, CallAction, CallWord, Class, PartAction, PartWord, Word};
 use p414_ast::{Mark, Sign};
-use predictive_parser::Symbol;
+use predictive_parser::{Otherwise, Row, Symbol, WordRows};
 
-/// Parameters with commas between them, or nothing.
-pub const PARAMS: &[Row] = &[Row {
-    first: Class::Name,
-    rest: &[
-        Symbol::Put(Action::Part(PartAction::AddName)),
-        Symbol::Word(Word::Part(PartWord::MoreNames)),
-    ],
-}];
+const PARAMS: Rows = &[row!(Class::Name => put_part!(AddName), part!(MoreNames))];
 
-/// Calls.
-pub const CALLS: &[Row] = &[Row {
-    first: Class::Name,
-    rest: &[
-        PAREN_OPEN,
-        Symbol::Put(Action::Call(CallAction::NoArgs)),
-        Symbol::Word(Word::Call(CallWord::Args)),
-        PAREN_CLOSE,
-        SEMICOLON,
-        Symbol::Put(Action::Call(CallAction::AddCall)),
-        Symbol::Word(Word::Call(CallWord::Calls)),
-    ],
-}];
-
-/// An argument.
-pub const ARG: &[Row] = &[
-    Row {
-        first: Class::Mark(Mark::Plus),
-        rest: &[
-            A_NUMBER,
-            Symbol::Put(Action::Part(PartAction::Number(Some(Sign::Plus)))),
-            Symbol::Put(Action::Call(CallAction::AddArgNumber)),
-        ],
-    },
-    Row {
-        first: Class::Mark(Mark::Minus),
-        rest: &[
-            A_NUMBER,
-            Symbol::Put(Action::Part(PartAction::Number(Some(Sign::Minus)))),
-            Symbol::Put(Action::Call(CallAction::AddArgNumber)),
-        ],
-    },
-    Row {
-        first: Class::Number,
-        rest: &[
-            Symbol::Put(Action::Part(PartAction::Number(None))),
-            Symbol::Put(Action::Call(CallAction::AddArgNumber)),
-        ],
-    },
-    Row {
-        first: Class::Name,
-        rest: &[
-            Symbol::Word(Word::Part(PartWord::IndexOption)),
-            Symbol::Put(Action::Part(PartAction::Inst)),
-            Symbol::Word(Word::Part(PartWord::FieldOption)),
-            Symbol::Put(Action::Call(CallAction::AddArg)),
-        ],
-    },
+const CALLS: Rows = &[
+    row!(Class::Name => PAREN_OPEN, put_call!(NoArgs), call!(Args), PAREN_CLOSE, SEMICOLON,
+        put_call!(AddCall), call!(Calls)),
 ];
 
-/// Behind each row of the other word, at the word for: arguments with commas between them, or nothing.
-pub const BEHIND_ARGS: &[Sym] = &[Symbol::Word(Word::Call(CallWord::MoreArgs))];
+const ARG: Rows = &[
+    row!(mark!(Plus) => A_NUMBER, put_part!(Number(Some(Sign::Plus))), put_call!(AddArgNumber)),
+    row!(mark!(Minus) => A_NUMBER, put_part!(Number(Some(Sign::Minus))), put_call!(AddArgNumber)),
+    row!(Class::Number => put_part!(Number(None)), put_call!(AddArgNumber)),
+    row!(Class::Name => part!(IndexOption), put_part!(Inst), part!(FieldOption), put_call!(AddArg)),
+];
 
-/// Further arguments, each behind a comma.
-pub const MORE_ARGS: &[Row] = &[Row {
-    first: Class::Mark(Mark::Comma),
-    rest: &[
-        Symbol::Word(Word::Call(CallWord::Arg)),
-        Symbol::Word(Word::Call(CallWord::MoreArgs)),
-    ],
-}];
+const ARGS: Rows = &[like!(Word::Call(CallWord::Arg) => call!(MoreArgs))];
+
+const MORE_ARGS: Rows = &[row!(mark!(Comma) => call!(Arg), call!(MoreArgs))];
+
+/// The rows of a word for actions, and what it does where none of them fits.
+pub fn rows_of(word: CallWord) -> Told
+    ensures rows { told [] result.rows.now ≡ call_rows word }
+    ensures otherwise { result.otherwise ≡ call_otherwise word }
+{
+    match word {
+        CallWord::Params => pass!(PARAMS),
+        CallWord::Calls => pass!(CALLS),
+        CallWord::Arg => refuse!(ARG),
+        CallWord::Args => pass!(ARGS),
+        CallWord::MoreArgs => pass!(MORE_ARGS),
+    }
+}

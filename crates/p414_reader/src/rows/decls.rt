@@ -1,7 +1,7 @@
 // The rows of the words for declarations.
 use crate::keyword::Keyword;
 use crate::rows::{
-    A_NAME, A_NUMBER, BRACE_CLOSE, BRACE_OPEN, COLON, PAREN_CLOSE, PAREN_OPEN, Row, SEMICOLON,
+    A_NAME, A_NUMBER, BRACE_CLOSE, BRACE_OPEN, COLON, PAREN_CLOSE, PAREN_OPEN, Rows, SEMICOLON, Sym,
 };
 use crate::symbols::{
     Action, BodyAction, BodyWord, CalculationAction, CalculationWord, CallAction, CallWord, Class,
@@ -9,254 +9,64 @@ use crate::symbols::{
     StateAction, StateWord, TableAction, TableWord, Word,
 };
 use p414_ast::{LeftOutKind, Mark};
-use predictive_parser::Symbol;
+use predictive_parser::{Row, Symbol};
 
-/// Declarations.
-pub const DECLS: &[Row] = &[
-    Row {
-        first: Class::Word(Keyword::HeaderType),
-        rest: &[
-            A_NAME,
-            BRACE_OPEN,
-            Symbol::Token(Class::Word(Keyword::Fields)),
-            BRACE_OPEN,
-            Symbol::Put(Action::Header(HeaderAction::NoFields)),
-            Symbol::Word(Word::Header(HeaderWord::Fields)),
-            BRACE_CLOSE,
-            Symbol::Put(Action::Body(BodyAction::NoTails)),
-            Symbol::Word(Word::Header(HeaderWord::Tails)),
-            BRACE_CLOSE,
-            Symbol::Put(Action::AddDecl(DeclKind::HeaderType)),
-            Symbol::Word(Word::Decls),
-        ],
-    },
-    Row {
-        first: Class::Word(Keyword::Header),
-        rest: &[
-            A_NAME,
-            A_NAME,
-            Symbol::Word(Word::Header(HeaderWord::Size)),
-            SEMICOLON,
-            Symbol::Put(Action::AddDecl(DeclKind::Header)),
-            Symbol::Word(Word::Decls),
-        ],
-    },
-    Row {
-        first: Class::Word(Keyword::Metadata),
-        rest: &[
-            A_NAME,
-            A_NAME,
-            Symbol::Word(Word::Header(HeaderWord::MetadataEnd)),
-            Symbol::Put(Action::AddDecl(DeclKind::Metadata)),
-            Symbol::Word(Word::Decls),
-        ],
-    },
-    Row {
-        first: Class::Word(Keyword::FieldList),
-        rest: &[
-            A_NAME,
-            BRACE_OPEN,
-            Symbol::Put(Action::Calculation(CalculationAction::NoItems)),
-            Symbol::Word(Word::Calculation(CalculationWord::Items)),
-            BRACE_CLOSE,
-            Symbol::Put(Action::AddDecl(DeclKind::FieldList)),
-            Symbol::Word(Word::Decls),
-        ],
-    },
-    Row {
-        first: Class::Word(Keyword::FieldListCalculation),
-        rest: &[
-            A_NAME,
-            BRACE_OPEN,
-            Symbol::Token(Class::Word(Keyword::Input)),
-            BRACE_OPEN,
-            Symbol::Put(Action::Part(PartAction::NoNames)),
-            A_NAME,
-            SEMICOLON,
-            Symbol::Put(Action::Part(PartAction::AddName)),
-            Symbol::Word(Word::Part(PartWord::NameLines)),
-            BRACE_CLOSE,
-            Symbol::Token(Class::Word(Keyword::Algorithm)),
-            COLON,
-            A_NAME,
-            SEMICOLON,
-            Symbol::Token(Class::Word(Keyword::OutputWidth)),
-            COLON,
-            A_NUMBER,
-            SEMICOLON,
-            BRACE_CLOSE,
-            Symbol::Put(Action::AddDecl(DeclKind::FieldListCalculation)),
-            Symbol::Word(Word::Decls),
-        ],
-    },
-    Row {
-        first: Class::Word(Keyword::CalculatedField),
-        rest: &[
-            Symbol::Word(Word::Part(PartWord::Ref)),
-            BRACE_OPEN,
-            Symbol::Put(Action::Calculation(CalculationAction::NoCalcs)),
-            Symbol::Word(Word::Calculation(CalculationWord::Calc)),
-            Symbol::Word(Word::Calculation(CalculationWord::Calcs)),
-            BRACE_CLOSE,
-            Symbol::Put(Action::AddDecl(DeclKind::CalculatedField)),
-            Symbol::Word(Word::Decls),
-        ],
-    },
-    Row {
-        first: Class::Word(Keyword::Parser),
-        rest: &[
-            A_NAME,
-            BRACE_OPEN,
-            Symbol::Put(Action::State(StateAction::NoStatements)),
-            Symbol::Word(Word::State(StateWord::Statements)),
-            Symbol::Word(Word::State(StateWord::Return)),
-            BRACE_CLOSE,
-            Symbol::Put(Action::AddDecl(DeclKind::Parser)),
-            Symbol::Word(Word::Decls),
-        ],
-    },
-    Row {
-        first: Class::Word(Keyword::Action),
-        rest: &[
-            A_NAME,
-            PAREN_OPEN,
-            Symbol::Put(Action::Part(PartAction::NoNames)),
-            Symbol::Word(Word::Call(CallWord::Params)),
-            PAREN_CLOSE,
-            BRACE_OPEN,
-            Symbol::Put(Action::Call(CallAction::NoCalls)),
-            Symbol::Word(Word::Call(CallWord::Calls)),
-            BRACE_CLOSE,
-            Symbol::Put(Action::AddDecl(DeclKind::Action)),
-            Symbol::Word(Word::Decls),
-        ],
-    },
-    Row {
-        first: Class::Word(Keyword::Table),
-        rest: &[
-            A_NAME,
-            BRACE_OPEN,
-            Symbol::Put(Action::Table(TableAction::NoAttrs)),
-            Symbol::Word(Word::Table(TableWord::Attrs)),
-            BRACE_CLOSE,
-            Symbol::Put(Action::AddDecl(DeclKind::Table)),
-            Symbol::Word(Word::Decls),
-        ],
-    },
-    Row {
-        first: Class::Word(Keyword::Counter),
-        rest: &[
-            A_NAME,
-            BRACE_OPEN,
-            Symbol::Put(Action::Object(ObjectAction::NoAttrs)),
-            Symbol::Word(Word::Object(ObjectWord::CounterAttrs)),
-            BRACE_CLOSE,
-            Symbol::Put(Action::AddDecl(DeclKind::Counter)),
-            Symbol::Word(Word::Decls),
-        ],
-    },
-    Row {
-        first: Class::Word(Keyword::Meter),
-        rest: &[
-            A_NAME,
-            BRACE_OPEN,
-            Symbol::Put(Action::Object(ObjectAction::NoAttrs)),
-            Symbol::Word(Word::Object(ObjectWord::CounterAttrs)),
-            BRACE_CLOSE,
-            Symbol::Put(Action::AddDecl(DeclKind::Meter)),
-            Symbol::Word(Word::Decls),
-        ],
-    },
-    Row {
-        first: Class::Word(Keyword::Register),
-        rest: &[
-            A_NAME,
-            BRACE_OPEN,
-            Symbol::Put(Action::Object(ObjectAction::NoAttrs)),
-            Symbol::Word(Word::Object(ObjectWord::RegisterAttrs)),
-            BRACE_CLOSE,
-            Symbol::Put(Action::AddDecl(DeclKind::Register)),
-            Symbol::Word(Word::Decls),
-        ],
-    },
-    Row {
-        first: Class::Word(Keyword::Control),
-        rest: &[
-            A_NAME,
-            BRACE_OPEN,
-            Symbol::Put(Action::Body(BodyAction::NoStatements)),
-            Symbol::Word(Word::Body(BodyWord::Statements)),
-            BRACE_CLOSE,
-            Symbol::Put(Action::AddDecl(DeclKind::Control)),
-            Symbol::Word(Word::Decls),
-        ],
-    },
-    Row {
-        first: Class::Word(Keyword::ParserValueSet),
-        rest: &[
-            A_NAME,
-            Symbol::Word(Word::LeftOutEnd),
-            Symbol::Put(Action::AddDecl(DeclKind::LeftOut(LeftOutKind::ParserValueSet))),
-            Symbol::Word(Word::Decls),
-        ],
-    },
-    Row {
-        first: Class::Word(Keyword::ParserException),
-        rest: &[
-            A_NAME,
-            Symbol::Word(Word::LeftOutEnd),
-            Symbol::Put(Action::AddDecl(DeclKind::LeftOut(LeftOutKind::ParserException))),
-            Symbol::Word(Word::Decls),
-        ],
-    },
-    Row {
-        first: Class::Word(Keyword::ActionProfile),
-        rest: &[
-            A_NAME,
-            Symbol::Word(Word::LeftOutEnd),
-            Symbol::Put(Action::AddDecl(DeclKind::LeftOut(LeftOutKind::ActionProfile))),
-            Symbol::Word(Word::Decls),
-        ],
-    },
-    Row {
-        first: Class::Word(Keyword::ActionSelector),
-        rest: &[
-            A_NAME,
-            Symbol::Word(Word::LeftOutEnd),
-            Symbol::Put(Action::AddDecl(DeclKind::LeftOut(LeftOutKind::ActionSelector))),
-            Symbol::Word(Word::Decls),
-        ],
-    },
-];
+/// Further declarations.
+const MORE_DECLS: Sym = Symbol::Word(Word::Decls);
 
-/// The tokens of a group.
-pub const GROUP: &[Row] = &[
-    Row {
-        first: Class::GroupToken,
-        rest: &[Symbol::Word(Word::Group)],
-    },
-    Row {
-        first: Class::GroupOpen,
-        rest: &[
-            Symbol::Word(Word::Group),
-            Symbol::Token(Class::GroupClose),
-            Symbol::Word(Word::Group),
-        ],
-    },
-];
+/// Further tokens of a group.
+const MORE_GROUP: Sym = Symbol::Word(Word::Group);
 
 /// What stands behind the name of a declaration that is left out.
-pub const LEFT_OUT_END: &[Row] = &[
-    Row {
-        first: Class::Mark(Mark::Semicolon),
-        rest: &[Symbol::Put(Action::NoGroup)],
-    },
-    Row {
-        first: Class::Mark(Mark::BraceOpen),
-        rest: &[
-            Symbol::Put(Action::EmptyGroup),
-            Symbol::Word(Word::Group),
-            BRACE_CLOSE,
-        ],
-    },
+const LEFT_OUT_REST: Sym = Symbol::Word(Word::LeftOutEnd);
+
+/// The rows of the word `Decls`.
+pub const DECLS: Rows = &[
+    row!(key!(HeaderType) => A_NAME, BRACE_OPEN, quoted!(Fields), BRACE_OPEN, put_header!(NoFields),
+        header!(Fields), BRACE_CLOSE, put_body!(NoTails), header!(Tails), BRACE_CLOSE,
+        decl!(HeaderType), MORE_DECLS),
+    row!(key!(Header) => A_NAME, A_NAME, header!(Size), SEMICOLON, decl!(Header), MORE_DECLS),
+    row!(key!(Metadata) => A_NAME, A_NAME, header!(MetadataEnd), decl!(Metadata), MORE_DECLS),
+    row!(key!(FieldList) => A_NAME, BRACE_OPEN, put_calculation!(NoItems), calculation!(Items),
+        BRACE_CLOSE, decl!(FieldList), MORE_DECLS),
+    row!(key!(FieldListCalculation) => A_NAME, BRACE_OPEN, quoted!(Input), BRACE_OPEN,
+        put_part!(NoNames), A_NAME, SEMICOLON, put_part!(AddName), part!(NameLines), BRACE_CLOSE,
+        quoted!(Algorithm), COLON, A_NAME, SEMICOLON, quoted!(OutputWidth), COLON, A_NUMBER,
+        SEMICOLON, BRACE_CLOSE, decl!(FieldListCalculation), MORE_DECLS),
+    row!(key!(CalculatedField) => part!(Ref), BRACE_OPEN, put_calculation!(NoCalcs),
+        calculation!(Calc), calculation!(Calcs), BRACE_CLOSE, decl!(CalculatedField), MORE_DECLS),
+    row!(key!(Parser) => A_NAME, BRACE_OPEN, put_state!(NoStatements), state!(Statements),
+        state!(Return), BRACE_CLOSE, decl!(Parser), MORE_DECLS),
+    row!(key!(Action) => A_NAME, PAREN_OPEN, put_part!(NoNames), call!(Params), PAREN_CLOSE,
+        BRACE_OPEN, put_call!(NoCalls), call!(Calls), BRACE_CLOSE, decl!(Action), MORE_DECLS),
+    row!(key!(Table) => A_NAME, BRACE_OPEN, put_table!(NoAttrs), table!(Attrs), BRACE_CLOSE,
+        decl!(Table), MORE_DECLS),
+    row!(key!(Counter) => A_NAME, BRACE_OPEN, put_object!(NoAttrs), object!(CounterAttrs),
+        BRACE_CLOSE, decl!(Counter), MORE_DECLS),
+    row!(key!(Meter) => A_NAME, BRACE_OPEN, put_object!(NoAttrs), object!(CounterAttrs),
+        BRACE_CLOSE, decl!(Meter), MORE_DECLS),
+    row!(key!(Register) => A_NAME, BRACE_OPEN, put_object!(NoAttrs), object!(RegisterAttrs),
+        BRACE_CLOSE, decl!(Register), MORE_DECLS),
+    row!(key!(Control) => A_NAME, BRACE_OPEN, put_body!(NoStatements), body!(Statements),
+        BRACE_CLOSE, decl!(Control), MORE_DECLS),
+    row!(key!(ParserValueSet) => A_NAME, LEFT_OUT_REST, decl!(LeftOut(LeftOutKind::ParserValueSet)),
+        MORE_DECLS),
+    row!(key!(ParserException) => A_NAME, LEFT_OUT_REST,
+        decl!(LeftOut(LeftOutKind::ParserException)), MORE_DECLS),
+    row!(key!(ActionProfile) => A_NAME, LEFT_OUT_REST, decl!(LeftOut(LeftOutKind::ActionProfile)),
+        MORE_DECLS),
+    row!(key!(ActionSelector) => A_NAME, LEFT_OUT_REST, decl!(LeftOut(LeftOutKind::ActionSelector)),
+        MORE_DECLS),
+];
+
+/// The rows of the word `Group`.
+pub const GROUP: Rows = &[
+    row!(Class::GroupToken => MORE_GROUP),
+    row!(Class::GroupOpen => MORE_GROUP, Symbol::Token(Class::GroupClose), MORE_GROUP),
+];
+
+/// The rows of the word `LeftOutEnd`.
+pub const LEFT_OUT_END: Rows = &[
+    row!(mark!(Semicolon) => Symbol::Put(Action::NoGroup)),
+    row!(mark!(BraceOpen) => Symbol::Put(Action::EmptyGroup), MORE_GROUP, BRACE_CLOSE),
 ];

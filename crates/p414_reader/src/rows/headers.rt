@@ -1,116 +1,69 @@
 // The rows of the words for header types, header instances and metadata.
+ghost use Rattle.std.specs.Prelude.{◌≡◌, []};
+ghost use Rattle.predictive_parser.specs.Told.{told};
+ghost use Rattle.p414_reader.specs.Rows.{header_rows, header_otherwise};
+
 use crate::keyword::Keyword;
 use crate::rows::{
-    A_NAME, A_NUMBER, BRACE_CLOSE, BRACKET_CLOSE, COLON, PAREN_CLOSE, Row, SEMICOLON,
+    A_NAME, A_NUMBER, BRACE_CLOSE, BRACKET_CLOSE, COLON, PAREN_CLOSE, Rows, SEMICOLON, Told,
 };
 use crate::symbols::{
     Action, BodyAction, BodyWord, Class, HeaderAction, HeaderWord, PartAction, PartWord, Word,
 };
 use p414_ast::Mark;
-use predictive_parser::Symbol;
+use predictive_parser::{Otherwise, Row, Symbol, WordRows};
 
-/// The fields of a header type.
-pub const FIELDS: &[Row] = &[Row {
-    first: Class::Name,
-    rest: &[
-        COLON,
-        Symbol::Word(Word::Header(HeaderWord::Width)),
-        Symbol::Word(Word::Header(HeaderWord::Attributes)),
-        SEMICOLON,
-        Symbol::Put(Action::Header(HeaderAction::AddField)),
-        Symbol::Word(Word::Header(HeaderWord::Fields)),
-    ],
-}];
-
-/// The width of a field.
-pub const WIDTH: &[Row] = &[
-    Row {
-        first: Class::Number,
-        rest: &[Symbol::Put(Action::Header(HeaderAction::WidthBits))],
-    },
-    Row {
-        first: Class::Mark(Mark::Star),
-        rest: &[Symbol::Put(Action::Header(HeaderAction::WidthRest))],
-    },
+const FIELDS: Rows = &[
+    row!(Class::Name => COLON, header!(Width), header!(Attributes), SEMICOLON,
+        put_header!(AddField), header!(Fields)),
 ];
 
-/// The attributes of a field, or nothing.
-pub const ATTRIBUTES: &[Row] = &[Row {
-    first: Class::Mark(Mark::ParenOpen),
-    rest: &[
-        Symbol::Put(Action::Part(PartAction::NoNames)),
-        A_NAME,
-        Symbol::Put(Action::Part(PartAction::AddName)),
-        Symbol::Word(Word::Part(PartWord::MoreNames)),
-        PAREN_CLOSE,
-    ],
-}];
-
-/// `length` and `max_length`.
-pub const TAILS: &[Row] = &[
-    Row {
-        first: Class::NewTail(Keyword::Length),
-        rest: &[
-            COLON,
-            Symbol::Word(Word::Body(BodyWord::Expr(0))),
-            SEMICOLON,
-            Symbol::Put(Action::Body(BodyAction::AddLength)),
-            Symbol::Word(Word::Header(HeaderWord::Tails)),
-        ],
-    },
-    Row {
-        first: Class::NewTail(Keyword::MaxLength),
-        rest: &[
-            COLON,
-            Symbol::Word(Word::Body(BodyWord::Expr(0))),
-            SEMICOLON,
-            Symbol::Put(Action::Body(BodyAction::AddMaxLength)),
-            Symbol::Word(Word::Header(HeaderWord::Tails)),
-        ],
-    },
+const WIDTH: Rows = &[
+    row!(Class::Number => put_header!(WidthBits)),
+    row!(mark!(Star) => put_header!(WidthRest)),
 ];
 
-/// `[NUMBER]`, or nothing.
-pub const SIZE: &[Row] = &[Row {
-    first: Class::Mark(Mark::BracketOpen),
-    rest: &[
-        A_NUMBER,
-        BRACKET_CLOSE,
-        Symbol::Put(Action::Part(PartAction::SomeLiteral)),
-    ],
-}];
-
-/// What stands behind the name of a metadata instance.
-pub const METADATA_END: &[Row] = &[
-    Row {
-        first: Class::Mark(Mark::Semicolon),
-        rest: &[Symbol::Put(Action::Header(HeaderAction::NoInitials))],
-    },
-    Row {
-        first: Class::Mark(Mark::BraceOpen),
-        rest: &[
-            Symbol::Put(Action::Header(HeaderAction::EmptyInitials)),
-            Symbol::Word(Word::Header(HeaderWord::Initials)),
-            BRACE_CLOSE,
-            Symbol::Word(Word::Header(HeaderWord::Semicolon)),
-        ],
-    },
+const ATTRIBUTES: Rows = &[
+    row!(mark!(ParenOpen) => put_part!(NoNames), A_NAME, put_part!(AddName), part!(MoreNames),
+        PAREN_CLOSE),
 ];
 
-/// Initial values.
-pub const INITIALS: &[Row] = &[Row {
-    first: Class::Name,
-    rest: &[
-        COLON,
-        Symbol::Word(Word::Part(PartWord::Number)),
-        SEMICOLON,
-        Symbol::Put(Action::Header(HeaderAction::AddInitial)),
-        Symbol::Word(Word::Header(HeaderWord::Initials)),
-    ],
-}];
+const TAILS: Rows = &[
+    row!(Class::NewTail(Keyword::Length) => COLON, body!(Expr(0)), SEMICOLON, put_body!(AddLength),
+        header!(Tails)),
+    row!(Class::NewTail(Keyword::MaxLength) => COLON, body!(Expr(0)), SEMICOLON,
+        put_body!(AddMaxLength), header!(Tails)),
+];
 
-/// `;`, or nothing.
-pub const SEMICOLON_OPTION: &[Row] = &[Row {
-    first: Class::Mark(Mark::Semicolon),
-    rest: &[Symbol::Put(Action::Header(HeaderAction::SomeInitials(true)))],
-}];
+const SIZE: Rows = &[row!(mark!(BracketOpen) => A_NUMBER, BRACKET_CLOSE, put_part!(SomeLiteral))];
+
+const METADATA_END: Rows = &[
+    row!(mark!(Semicolon) => put_header!(NoInitials)),
+    row!(mark!(BraceOpen) => put_header!(EmptyInitials), header!(Initials), BRACE_CLOSE,
+        header!(Semicolon)),
+];
+
+const INITIALS: Rows = &[
+    row!(Class::Name => COLON, part!(Number), SEMICOLON, put_header!(AddInitial),
+        header!(Initials)),
+];
+
+const SEMICOLON_OPTION: Rows = &[row!(mark!(Semicolon) => put_header!(SomeInitials(true)))];
+
+/// The rows of a word for header types, header instances and metadata, and what it does where none of them fits.
+pub fn rows_of(word: HeaderWord) -> Told
+    ensures rows { told [] result.rows.now ≡ header_rows word }
+    ensures otherwise { result.otherwise ≡ header_otherwise word }
+{
+    match word {
+        HeaderWord::Fields => pass!(FIELDS),
+        HeaderWord::Width => refuse!(WIDTH),
+        HeaderWord::Attributes => build!(ATTRIBUTES => Action::Part(PartAction::NoNames)),
+        HeaderWord::Tails => pass!(TAILS),
+        HeaderWord::Size => build!(SIZE => Action::Part(PartAction::NoLiteral)),
+        HeaderWord::MetadataEnd => refuse!(METADATA_END),
+        HeaderWord::Initials => pass!(INITIALS),
+        HeaderWord::Semicolon =>
+            build!(SEMICOLON_OPTION => Action::Header(HeaderAction::SomeInitials(false))),
+    }
+}

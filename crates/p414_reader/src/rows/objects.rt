@@ -1,199 +1,69 @@
 // The rows of the words for counters, meters and registers.
+ghost use Rattle.std.specs.Prelude.{◌≡◌, []};
+ghost use Rattle.predictive_parser.specs.Told.{told};
+ghost use Rattle.p414_reader.specs.Rows.{object_rows, object_otherwise};
+
 use crate::keyword::Keyword;
-use crate::rows::{A_NAME, A_NUMBER, COLON, Row, SEMICOLON, Sym};
+use crate::rows::{A_NAME, A_NUMBER, COLON, Rows, SEMICOLON, Told};
 use crate::symbols::{Action, Class, ObjectAction, ObjectWord, PartWord, Word};
 use p414_ast::CounterType;
-use predictive_parser::Symbol;
+use predictive_parser::{Otherwise, Row, Symbol, WordRows};
 
-/// An attribute that the object hasn't yet, but for `type`, `width` and `layout`.
-pub const ATTR: &[Row] = &[
-    Row {
-        first: Class::NewStateAttr(Keyword::Direct),
-        rest: &[
-            COLON,
-            A_NAME,
-            SEMICOLON,
-            Symbol::Put(Action::Object(ObjectAction::AddDirect)),
-        ],
-    },
-    Row {
-        first: Class::NewStateAttr(Keyword::Static),
-        rest: &[
-            COLON,
-            A_NAME,
-            SEMICOLON,
-            Symbol::Put(Action::Object(ObjectAction::AddStatic)),
-        ],
-    },
-    Row {
-        first: Class::NewStateAttr(Keyword::Result),
-        rest: &[
-            COLON,
-            Symbol::Word(Word::Part(PartWord::Ref)),
-            SEMICOLON,
-            Symbol::Put(Action::Object(ObjectAction::AddResult)),
-        ],
-    },
-    Row {
-        first: Class::NewStateAttr(Keyword::InstanceCount),
-        rest: &[
-            COLON,
-            A_NUMBER,
-            SEMICOLON,
-            Symbol::Put(Action::Object(ObjectAction::AddInstanceCount)),
-        ],
-    },
-    Row {
-        first: Class::NewStateAttr(Keyword::MinWidth),
-        rest: &[
-            COLON,
-            A_NUMBER,
-            SEMICOLON,
-            Symbol::Put(Action::Object(ObjectAction::AddMinWidth)),
-        ],
-    },
-    Row {
-        first: Class::NewStateAttr(Keyword::Saturating),
-        rest: &[
-            SEMICOLON,
-            Symbol::Put(Action::Object(ObjectAction::AddSaturating)),
-        ],
-    },
-    Row {
-        first: Class::NewStateAttr(Keyword::Signed),
-        rest: &[
-            SEMICOLON,
-            Symbol::Put(Action::Object(ObjectAction::AddSigned)),
-        ],
-    },
+const ATTR: Rows = &[
+    row!(Class::NewStateAttr(Keyword::Direct) => COLON, A_NAME, SEMICOLON, put_object!(AddDirect)),
+    row!(Class::NewStateAttr(Keyword::Static) => COLON, A_NAME, SEMICOLON, put_object!(AddStatic)),
+    row!(Class::NewStateAttr(Keyword::Result) => COLON, part!(Ref), SEMICOLON,
+        put_object!(AddResult)),
+    row!(Class::NewStateAttr(Keyword::InstanceCount) => COLON, A_NUMBER, SEMICOLON,
+        put_object!(AddInstanceCount)),
+    row!(Class::NewStateAttr(Keyword::MinWidth) => COLON, A_NUMBER, SEMICOLON,
+        put_object!(AddMinWidth)),
+    row!(Class::NewStateAttr(Keyword::Saturating) => SEMICOLON, put_object!(AddSaturating)),
+    row!(Class::NewStateAttr(Keyword::Signed) => SEMICOLON, put_object!(AddSigned)),
 ];
 
-/// Attributes of a counter or meter that has no `type` yet, up to the last, but for those that need no row here.
-pub const COUNTER_ATTRS: &[Row] = &[
-    Row {
-        first: Class::Word(Keyword::Counts),
-        rest: &[
-            COLON,
-            Symbol::Word(Word::Object(ObjectWord::CounterType)),
-            Symbol::Word(Word::Object(ObjectWord::MoreAttrs)),
-        ],
-    },
-    Row {
-        first: Class::NewStateAttr(Keyword::Width),
-        rest: &[
-            COLON,
-            A_NUMBER,
-            SEMICOLON,
-            Symbol::Put(Action::Object(ObjectAction::AddWidth)),
-            Symbol::Word(Word::Object(ObjectWord::CounterAttrs)),
-        ],
-    },
-    Row {
-        first: Class::NewStateAttr(Keyword::Layout),
-        rest: &[
-            COLON,
-            A_NAME,
-            SEMICOLON,
-            Symbol::Put(Action::Object(ObjectAction::AddLayout)),
-            Symbol::Word(Word::Object(ObjectWord::CounterAttrs)),
-        ],
-    },
+const COUNTER_ATTRS: Rows = &[
+    row!(key!(Counts) => COLON, object!(CounterType), object!(MoreAttrs)),
+    row!(Class::NewStateAttr(Keyword::Width) => COLON, A_NUMBER, SEMICOLON, put_object!(AddWidth),
+        object!(CounterAttrs)),
+    row!(Class::NewStateAttr(Keyword::Layout) => COLON, A_NAME, SEMICOLON, put_object!(AddLayout),
+        object!(CounterAttrs)),
+    like!(Word::Object(ObjectWord::Attr) => object!(CounterAttrs)),
 ];
 
-/// Behind each row of the other word, at the word for: attributes of a counter or meter that has no `type` yet, up to the last.
-pub const BEHIND_COUNTER_ATTRS: &[Sym] = &[Symbol::Word(Word::Object(ObjectWord::CounterAttrs))];
-
-/// Attributes of a register that has neither `width` nor `layout` yet, up to the last, but for those that need no row here.
-pub const REGISTER_ATTRS: &[Row] = &[
-    Row {
-        first: Class::Word(Keyword::Width),
-        rest: &[
-            COLON,
-            A_NUMBER,
-            SEMICOLON,
-            Symbol::Put(Action::Object(ObjectAction::AddWidth)),
-            Symbol::Word(Word::Object(ObjectWord::MoreAttrs)),
-        ],
-    },
-    Row {
-        first: Class::Word(Keyword::Layout),
-        rest: &[
-            COLON,
-            A_NAME,
-            SEMICOLON,
-            Symbol::Put(Action::Object(ObjectAction::AddLayout)),
-            Symbol::Word(Word::Object(ObjectWord::MoreAttrs)),
-        ],
-    },
-    Row {
-        first: Class::NewStateAttr(Keyword::Counts),
-        rest: &[
-            COLON,
-            Symbol::Word(Word::Object(ObjectWord::CounterType)),
-            Symbol::Word(Word::Object(ObjectWord::RegisterAttrs)),
-        ],
-    },
+const REGISTER_ATTRS: Rows = &[
+    row!(key!(Width) => COLON, A_NUMBER, SEMICOLON, put_object!(AddWidth), object!(MoreAttrs)),
+    row!(key!(Layout) => COLON, A_NAME, SEMICOLON, put_object!(AddLayout), object!(MoreAttrs)),
+    row!(Class::NewStateAttr(Keyword::Counts) => COLON, object!(CounterType),
+        object!(RegisterAttrs)),
+    like!(Word::Object(ObjectWord::Attr) => object!(RegisterAttrs)),
 ];
 
-/// `type`, `width` and `layout`, where the object hasn't them yet.
-pub const MORE_ATTRS: &[Row] = &[
-    Row {
-        first: Class::NewStateAttr(Keyword::Counts),
-        rest: &[
-            COLON,
-            Symbol::Word(Word::Object(ObjectWord::CounterType)),
-            Symbol::Word(Word::Object(ObjectWord::MoreAttrs)),
-        ],
-    },
-    Row {
-        first: Class::NewStateAttr(Keyword::Width),
-        rest: &[
-            COLON,
-            A_NUMBER,
-            SEMICOLON,
-            Symbol::Put(Action::Object(ObjectAction::AddWidth)),
-            Symbol::Word(Word::Object(ObjectWord::MoreAttrs)),
-        ],
-    },
-    Row {
-        first: Class::NewStateAttr(Keyword::Layout),
-        rest: &[
-            COLON,
-            A_NAME,
-            SEMICOLON,
-            Symbol::Put(Action::Object(ObjectAction::AddLayout)),
-            Symbol::Word(Word::Object(ObjectWord::MoreAttrs)),
-        ],
-    },
+const MORE_ATTRS: Rows = &[
+    row!(Class::NewStateAttr(Keyword::Counts) => COLON, object!(CounterType), object!(MoreAttrs)),
+    row!(Class::NewStateAttr(Keyword::Width) => COLON, A_NUMBER, SEMICOLON, put_object!(AddWidth),
+        object!(MoreAttrs)),
+    row!(Class::NewStateAttr(Keyword::Layout) => COLON, A_NAME, SEMICOLON, put_object!(AddLayout),
+        object!(MoreAttrs)),
+    like!(Word::Object(ObjectWord::Attr) => object!(MoreAttrs)),
 ];
 
-/// Behind each row of the other word, at the word for: attributes of a register that has neither `width` nor `layout` yet, up to the last.
-pub const BEHIND_REGISTER_ATTRS: &[Sym] = &[Symbol::Word(Word::Object(ObjectWord::RegisterAttrs))];
-
-/// Behind each row of the other word, at the word for: further attributes.
-pub const BEHIND_MORE_ATTRS: &[Sym] = &[Symbol::Word(Word::Object(ObjectWord::MoreAttrs))];
-
-/// What is counted.
-pub const COUNTER_TYPE: &[Row] = &[
-    Row {
-        first: Class::Word(Keyword::Packets),
-        rest: &[
-            SEMICOLON,
-            Symbol::Put(Action::Object(ObjectAction::AddCounts(CounterType::Packets))),
-        ],
-    },
-    Row {
-        first: Class::Word(Keyword::Bytes),
-        rest: &[
-            SEMICOLON,
-            Symbol::Put(Action::Object(ObjectAction::AddCounts(CounterType::Bytes))),
-        ],
-    },
-    Row {
-        first: Class::Word(Keyword::PacketsAndBytes),
-        rest: &[
-            SEMICOLON,
-            Symbol::Put(Action::Object(ObjectAction::AddCounts(CounterType::PacketsAndBytes))),
-        ],
-    },
+const COUNTER_TYPE: Rows = &[
+    row!(key!(Packets) => SEMICOLON, put_object!(AddCounts(CounterType::Packets))),
+    row!(key!(Bytes) => SEMICOLON, put_object!(AddCounts(CounterType::Bytes))),
+    row!(key!(PacketsAndBytes) => SEMICOLON, put_object!(AddCounts(CounterType::PacketsAndBytes))),
 ];
+
+/// The rows of a word for counters, meters and registers, and what it does where none of them fits.
+pub fn rows_of(word: ObjectWord) -> Told
+    ensures rows { told [] result.rows.now ≡ object_rows word }
+    ensures otherwise { result.otherwise ≡ object_otherwise word }
+{
+    match word {
+        ObjectWord::Attr => refuse!(ATTR),
+        ObjectWord::CounterAttrs => refuse!(COUNTER_ATTRS),
+        ObjectWord::RegisterAttrs => refuse!(REGISTER_ATTRS),
+        ObjectWord::MoreAttrs => pass!(MORE_ATTRS),
+        ObjectWord::CounterType => refuse!(COUNTER_TYPE),
+    }
+}

@@ -1,129 +1,71 @@
 // The rows of the words for names, numbers, instances and fields.
+ghost use Rattle.std.specs.Prelude.{◌≡◌, []};
+ghost use Rattle.predictive_parser.specs.Told.{told};
+ghost use Rattle.p414_reader.specs.Rows.{part_rows, part_otherwise};
+
 use crate::keyword::Keyword;
-use crate::rows::{A_NAME, A_NUMBER, BRACKET_CLOSE, DOT, PAREN_CLOSE, Row, SEMICOLON, Sym};
+use crate::rows::{A_NAME, A_NUMBER, BRACKET_CLOSE, DOT, PAREN_CLOSE, Rows, SEMICOLON, Told};
 use crate::symbols::{Action, Class, PartAction, PartWord, Word};
 use p414_ast::{Mark, Sign};
-use predictive_parser::Symbol;
+use predictive_parser::{Otherwise, Row, Symbol, WordRows};
 
-/// Further names, each behind a comma.
-pub const MORE_NAMES: &[Row] = &[Row {
-    first: Class::Mark(Mark::Comma),
-    rest: &[
-        A_NAME,
-        Symbol::Put(Action::Part(PartAction::AddName)),
-        Symbol::Word(Word::Part(PartWord::MoreNames)),
-    ],
-}];
+const MORE_NAMES: Rows = &[row!(mark!(Comma) => A_NAME, put_part!(AddName), part!(MoreNames))];
 
-/// Further names, each before a `;`.
-pub const NAME_LINES: &[Row] = &[Row {
-    first: Class::Name,
-    rest: &[
-        SEMICOLON,
-        Symbol::Put(Action::Part(PartAction::AddName)),
-        Symbol::Word(Word::Part(PartWord::NameLines)),
-    ],
-}];
+const NAME_LINES: Rows = &[row!(Class::Name => SEMICOLON, put_part!(AddName), part!(NameLines))];
 
-/// `[INDEX]`, or nothing.
-pub const INDEX_OPTION: &[Row] = &[Row {
-    first: Class::Mark(Mark::BracketOpen),
-    rest: &[Symbol::Word(Word::Part(PartWord::IndexIn)), BRACKET_CLOSE],
-}];
+const INDEX_OPTION: Rows = &[row!(mark!(BracketOpen) => part!(IndexIn), BRACKET_CLOSE)];
 
-/// `NUMBER`, `next` or `last`.
-pub const INDEX_IN: &[Row] = &[
-    Row {
-        first: Class::Number,
-        rest: &[Symbol::Put(Action::Part(PartAction::IndexAt))],
-    },
-    Row {
-        first: Class::Word(Keyword::Next),
-        rest: &[Symbol::Put(Action::Part(PartAction::IndexNext))],
-    },
-    Row {
-        first: Class::Word(Keyword::Last),
-        rest: &[Symbol::Put(Action::Part(PartAction::IndexLast))],
-    },
+const INDEX_IN: Rows = &[
+    row!(Class::Number => put_part!(IndexAt)),
+    row!(key!(Next) => put_part!(IndexNext)),
+    row!(key!(Last) => put_part!(IndexLast)),
 ];
 
-/// An instance.
-pub const INST: &[Row] = &[Row {
-    first: Class::Name,
-    rest: &[
-        Symbol::Word(Word::Part(PartWord::IndexOption)),
-        Symbol::Put(Action::Part(PartAction::Inst)),
-    ],
-}];
+const INST: Rows = &[row!(Class::Name => part!(IndexOption), put_part!(Inst))];
 
-/// `.FIELD`, or nothing.
-pub const FIELD_OPTION: &[Row] = &[Row {
-    first: Class::Mark(Mark::Dot),
-    rest: &[A_NAME, Symbol::Put(Action::Part(PartAction::SomeField))],
-}];
+const FIELD_OPTION: Rows = &[row!(mark!(Dot) => A_NAME, put_part!(SomeField))];
 
-/// A field of an instance.
-pub const REF: &[Row] = &[Row {
-    first: Class::Name,
-    rest: &[
-        Symbol::Word(Word::Part(PartWord::IndexOption)),
-        Symbol::Put(Action::Part(PartAction::Inst)),
-        DOT,
-        A_NAME,
-        Symbol::Put(Action::Part(PartAction::Ref)),
-    ],
-}];
-
-/// A number with or without a sign.
-pub const NUMBER: &[Row] = &[
-    Row {
-        first: Class::Mark(Mark::Plus),
-        rest: &[
-            A_NUMBER,
-            Symbol::Put(Action::Part(PartAction::Number(Some(Sign::Plus)))),
-        ],
-    },
-    Row {
-        first: Class::Mark(Mark::Minus),
-        rest: &[
-            A_NUMBER,
-            Symbol::Put(Action::Part(PartAction::Number(Some(Sign::Minus)))),
-        ],
-    },
-    Row {
-        first: Class::Number,
-        rest: &[Symbol::Put(Action::Part(PartAction::Number(None)))],
-    },
+const REF: Rows = &[
+    row!(Class::Name => part!(IndexOption), put_part!(Inst), DOT, A_NAME, put_part!(Ref)),
 ];
 
-/// `(NUMBER, ..)`, or nothing.
-pub const ARGUMENTS: &[Row] = &[Row {
-    first: Class::Mark(Mark::ParenOpen),
-    rest: &[
-        Symbol::Put(Action::Part(PartAction::EmptyArguments)),
-        Symbol::Word(Word::Part(PartWord::NumberList)),
-        PAREN_CLOSE,
-    ],
-}];
-
-/// Behind each row of the other word, at the word for: numbers with commas between them, or nothing.
-pub const BEHIND_NUMBER_LIST: &[Sym] = &[
-    Symbol::Put(Action::Part(PartAction::AddNumber)),
-    Symbol::Word(Word::Part(PartWord::MoreNumbers)),
+const NUMBER: Rows = &[
+    row!(mark!(Plus) => A_NUMBER, put_part!(Number(Some(Sign::Plus)))),
+    row!(mark!(Minus) => A_NUMBER, put_part!(Number(Some(Sign::Minus)))),
+    row!(Class::Number => put_part!(Number(None))),
 ];
 
-/// Further numbers, each behind a comma.
-pub const MORE_NUMBERS: &[Row] = &[Row {
-    first: Class::Mark(Mark::Comma),
-    rest: &[
-        Symbol::Word(Word::Part(PartWord::Number)),
-        Symbol::Put(Action::Part(PartAction::AddNumber)),
-        Symbol::Word(Word::Part(PartWord::MoreNumbers)),
-    ],
-}];
+const ARGUMENTS: Rows = &[
+    row!(mark!(ParenOpen) => put_part!(EmptyArguments), part!(NumberList), PAREN_CLOSE),
+];
 
-/// `mask NUMBER`, or nothing.
-pub const MASK_OPTION: &[Row] = &[Row {
-    first: Class::Word(Keyword::Mask),
-    rest: &[A_NUMBER, Symbol::Put(Action::Part(PartAction::SomeLiteral))],
-}];
+const NUMBER_LIST: Rows = &[
+    like!(Word::Part(PartWord::Number) => put_part!(AddNumber), part!(MoreNumbers)),
+];
+
+const MORE_NUMBERS: Rows = &[
+    row!(mark!(Comma) => part!(Number), put_part!(AddNumber), part!(MoreNumbers)),
+];
+
+const MASK_OPTION: Rows = &[row!(key!(Mask) => A_NUMBER, put_part!(SomeLiteral))];
+
+/// The rows of a word for names, numbers, instances and fields, and what it does where none of them fits.
+pub fn rows_of(word: PartWord) -> Told
+    ensures rows { told [] result.rows.now ≡ part_rows word }
+    ensures otherwise { result.otherwise ≡ part_otherwise word }
+{
+    match word {
+        PartWord::MoreNames => pass!(MORE_NAMES),
+        PartWord::NameLines => pass!(NAME_LINES),
+        PartWord::IndexOption => build!(INDEX_OPTION => Action::Part(PartAction::NoIndex)),
+        PartWord::IndexIn => refuse!(INDEX_IN),
+        PartWord::Inst => refuse!(INST),
+        PartWord::FieldOption => build!(FIELD_OPTION => Action::Part(PartAction::NoField)),
+        PartWord::Ref => refuse!(REF),
+        PartWord::Number => refuse!(NUMBER),
+        PartWord::Arguments => build!(ARGUMENTS => Action::Part(PartAction::NoArguments)),
+        PartWord::NumberList => pass!(NUMBER_LIST),
+        PartWord::MoreNumbers => pass!(MORE_NUMBERS),
+        PartWord::MaskOption => build!(MASK_OPTION => Action::Part(PartAction::NoLiteral)),
+    }
+}

@@ -1,242 +1,111 @@
 // The rows of the words for parser states.
+ghost use Rattle.std.specs.Prelude.{◌≡◌, []};
+ghost use Rattle.predictive_parser.specs.Told.{told};
+ghost use Rattle.p414_reader.specs.Rows.{state_rows, state_otherwise};
+
 use crate::keyword::Keyword;
 use crate::rows::{
     A_NAME, A_NUMBER, BRACE_CLOSE, BRACE_OPEN, BRACKET_CLOSE, COLON, COMMA, DOT, PAREN_CLOSE,
-    PAREN_OPEN, Row, SEMICOLON, Sym,
+    PAREN_OPEN, Rows, SEMICOLON, Told,
 };
 use crate::symbols::{Action, Class, PartAction, PartWord, StateAction, StateWord, Word};
 use p414_ast::Mark;
-use predictive_parser::Symbol;
+use predictive_parser::{Otherwise, Row, Symbol, WordRows};
 
-/// Statements.
-pub const STATEMENTS: &[Row] = &[
-    Row {
-        first: Class::Word(Keyword::Extract),
-        rest: &[
-            PAREN_OPEN,
-            Symbol::Word(Word::Part(PartWord::Inst)),
-            PAREN_CLOSE,
-            SEMICOLON,
-            Symbol::Put(Action::State(StateAction::AddExtract)),
-            Symbol::Word(Word::State(StateWord::Statements)),
-        ],
-    },
-    Row {
-        first: Class::Word(Keyword::SetMetadata),
-        rest: &[
-            PAREN_OPEN,
-            Symbol::Word(Word::Part(PartWord::Ref)),
-            COMMA,
-            Symbol::Word(Word::State(StateWord::Value)),
-            PAREN_CLOSE,
-            SEMICOLON,
-            Symbol::Put(Action::State(StateAction::AddSetMetadata)),
-            Symbol::Word(Word::State(StateWord::Statements)),
-        ],
-    },
+const STATEMENTS: Rows = &[
+    row!(key!(Extract) => PAREN_OPEN, part!(Inst), PAREN_CLOSE, SEMICOLON, put_state!(AddExtract),
+        state!(Statements)),
+    row!(key!(SetMetadata) => PAREN_OPEN, part!(Ref), COMMA, state!(Value), PAREN_CLOSE, SEMICOLON,
+        put_state!(AddSetMetadata), state!(Statements)),
 ];
 
-/// Behind each row of the other word, at the word for: a value.
-pub const BEHIND_VALUE_NUMBER: &[Sym] = &[Symbol::Put(Action::State(StateAction::ValueNumber))];
-
-/// A value in a `select`.
-pub const SELECT_VALUE: &[Row] = &[
-    Row {
-        first: Class::Word(Keyword::Current),
-        rest: &[Symbol::Word(Word::State(StateWord::AfterCurrent))],
-    },
-    Row {
-        first: Class::Word(Keyword::Latest),
-        rest: &[Symbol::Word(Word::State(StateWord::AfterLatest))],
-    },
-    Row {
-        first: Class::Name,
-        rest: &[
-            Symbol::Word(Word::Part(PartWord::IndexOption)),
-            Symbol::Put(Action::Part(PartAction::Inst)),
-            DOT,
-            A_NAME,
-            Symbol::Put(Action::Part(PartAction::Ref)),
-            Symbol::Put(Action::State(StateAction::ValueField)),
-        ],
-    },
+const VALUE: Rows = &[
+    like!(Word::Part(PartWord::Number) => put_state!(ValueNumber)),
+    like!(Word::State(StateWord::SelectValue) =>),
 ];
 
-/// What stands behind the word `current` in a value.
-pub const AFTER_CURRENT: &[Row] = &[
-    Row {
-        first: Class::Mark(Mark::ParenOpen),
-        rest: &[
-            A_NUMBER,
-            COMMA,
-            A_NUMBER,
-            PAREN_CLOSE,
-            Symbol::Put(Action::State(StateAction::ValueCurrent)),
-        ],
-    },
-    Row {
-        first: Class::Mark(Mark::Dot),
-        rest: &[
-            A_NAME,
-            Symbol::Put(Action::Part(PartAction::RefOf(Keyword::Current))),
-            Symbol::Put(Action::State(StateAction::ValueField)),
-        ],
-    },
-    Row {
-        first: Class::Mark(Mark::BracketOpen),
-        rest: &[
-            Symbol::Word(Word::Part(PartWord::IndexIn)),
-            BRACKET_CLOSE,
-            Symbol::Put(Action::Part(PartAction::InstOf(Keyword::Current))),
-            DOT,
-            A_NAME,
-            Symbol::Put(Action::Part(PartAction::Ref)),
-            Symbol::Put(Action::State(StateAction::ValueField)),
-        ],
-    },
+const SELECT_VALUE: Rows = &[
+    row!(key!(Current) => state!(AfterCurrent)),
+    row!(key!(Latest) => state!(AfterLatest)),
+    row!(Class::Name => part!(IndexOption), put_part!(Inst), DOT, A_NAME, put_part!(Ref),
+        put_state!(ValueField)),
 ];
 
-/// What stands behind the word `latest` in a value.
-pub const AFTER_LATEST: &[Row] = &[
-    Row {
-        first: Class::Mark(Mark::Dot),
-        rest: &[A_NAME, Symbol::Put(Action::State(StateAction::ValueLatest))],
-    },
-    Row {
-        first: Class::Mark(Mark::BracketOpen),
-        rest: &[
-            Symbol::Word(Word::Part(PartWord::IndexIn)),
-            BRACKET_CLOSE,
-            Symbol::Put(Action::Part(PartAction::InstOf(Keyword::Latest))),
-            DOT,
-            A_NAME,
-            Symbol::Put(Action::Part(PartAction::Ref)),
-            Symbol::Put(Action::State(StateAction::ValueField)),
-        ],
-    },
+const AFTER_CURRENT: Rows = &[
+    row!(mark!(ParenOpen) => A_NUMBER, COMMA, A_NUMBER, PAREN_CLOSE, put_state!(ValueCurrent)),
+    row!(mark!(Dot) => A_NAME, put_part!(RefOf(Keyword::Current)), put_state!(ValueField)),
+    row!(mark!(BracketOpen) => part!(IndexIn), BRACKET_CLOSE, put_part!(InstOf(Keyword::Current)),
+        DOT, A_NAME, put_part!(Ref), put_state!(ValueField)),
 ];
 
-/// Further values, each behind a comma.
-pub const MORE_VALUES: &[Row] = &[Row {
-    first: Class::Mark(Mark::Comma),
-    rest: &[
-        Symbol::Word(Word::State(StateWord::SelectValue)),
-        Symbol::Put(Action::State(StateAction::AddValue)),
-        Symbol::Word(Word::State(StateWord::MoreValues)),
-    ],
-}];
-
-/// How a state ends.
-pub const RETURN: &[Row] = &[
-    Row {
-        first: Class::Word(Keyword::Return),
-        rest: &[Symbol::Word(Word::State(StateWord::AfterReturn))],
-    },
-    Row {
-        first: Class::Word(Keyword::ParseError),
-        rest: &[
-            A_NAME,
-            SEMICOLON,
-            Symbol::Put(Action::State(StateAction::ReturnError)),
-        ],
-    },
+const AFTER_LATEST: Rows = &[
+    row!(mark!(Dot) => A_NAME, put_state!(ValueLatest)),
+    row!(mark!(BracketOpen) => part!(IndexIn), BRACKET_CLOSE, put_part!(InstOf(Keyword::Latest)),
+        DOT, A_NAME, put_part!(Ref), put_state!(ValueField)),
 ];
 
-/// What stands behind the word `return`.
-pub const AFTER_RETURN: &[Row] = &[
-    Row {
-        first: Class::Word(Keyword::Select),
-        rest: &[Symbol::Word(Word::State(StateWord::AfterSelect))],
-    },
-    Row {
-        first: Class::Name,
-        rest: &[
-            SEMICOLON,
-            Symbol::Put(Action::State(StateAction::ReturnState)),
-        ],
-    },
+const MORE_VALUES: Rows = &[
+    row!(mark!(Comma) => state!(SelectValue), put_state!(AddValue), state!(MoreValues)),
 ];
 
-/// What stands behind the words `return select`.
-pub const AFTER_SELECT: &[Row] = &[
-    Row {
-        first: Class::Mark(Mark::Semicolon),
-        rest: &[Symbol::Put(Action::State(StateAction::ReturnStateOf(Keyword::Select)))],
-    },
-    Row {
-        first: Class::Mark(Mark::ParenOpen),
-        rest: &[
-            Symbol::Put(Action::State(StateAction::NoValues)),
-            Symbol::Word(Word::State(StateWord::SelectValue)),
-            Symbol::Put(Action::State(StateAction::AddValue)),
-            Symbol::Word(Word::State(StateWord::MoreValues)),
-            PAREN_CLOSE,
-            BRACE_OPEN,
-            Symbol::Put(Action::State(StateAction::NoCases)),
-            Symbol::Word(Word::State(StateWord::Case)),
-            Symbol::Word(Word::State(StateWord::Cases)),
-            BRACE_CLOSE,
-            Symbol::Put(Action::State(StateAction::ReturnSelect)),
-        ],
-    },
+const RETURN: Rows = &[
+    row!(key!(Return) => state!(AfterReturn)),
+    row!(key!(ParseError) => A_NAME, SEMICOLON, put_state!(ReturnError)),
 ];
 
-/// A case.
-pub const CASE: &[Row] = &[
-    Row {
-        first: Class::Word(Keyword::Default),
-        rest: &[
-            Symbol::Put(Action::State(StateAction::CaseDefault)),
-            COLON,
-            Symbol::Word(Word::State(StateWord::Target)),
-            SEMICOLON,
-            Symbol::Put(Action::State(StateAction::AddCase)),
-        ],
-    },
-    Row {
-        first: Class::Number,
-        rest: &[
-            Symbol::Put(Action::State(StateAction::NoMasked)),
-            Symbol::Word(Word::Part(PartWord::MaskOption)),
-            Symbol::Put(Action::State(StateAction::AddMasked)),
-            Symbol::Word(Word::State(StateWord::MoreMasked)),
-            Symbol::Put(Action::State(StateAction::CaseMasked)),
-            COLON,
-            Symbol::Word(Word::State(StateWord::Target)),
-            SEMICOLON,
-            Symbol::Put(Action::State(StateAction::AddCase)),
-        ],
-    },
+const AFTER_RETURN: Rows = &[
+    row!(key!(Select) => state!(AfterSelect)),
+    row!(Class::Name => SEMICOLON, put_state!(ReturnState)),
 ];
 
-/// Behind each row of the other word, at the word for: further cases.
-pub const BEHIND_CASES: &[Sym] = &[Symbol::Word(Word::State(StateWord::Cases))];
-
-/// Further values of a case, each behind a comma.
-pub const MORE_MASKED: &[Row] = &[Row {
-    first: Class::Mark(Mark::Comma),
-    rest: &[
-        A_NUMBER,
-        Symbol::Word(Word::Part(PartWord::MaskOption)),
-        Symbol::Put(Action::State(StateAction::AddMasked)),
-        Symbol::Word(Word::State(StateWord::MoreMasked)),
-    ],
-}];
-
-/// Where a case leads.
-pub const TARGET: &[Row] = &[
-    Row {
-        first: Class::Word(Keyword::ParseError),
-        rest: &[Symbol::Word(Word::State(StateWord::AfterError))],
-    },
-    Row {
-        first: Class::Name,
-        rest: &[Symbol::Put(Action::State(StateAction::TargetState))],
-    },
+const AFTER_SELECT: Rows = &[
+    row!(mark!(Semicolon) => put_state!(ReturnStateOf(Keyword::Select))),
+    row!(mark!(ParenOpen) => put_state!(NoValues), state!(SelectValue), put_state!(AddValue),
+        state!(MoreValues), PAREN_CLOSE, BRACE_OPEN, put_state!(NoCases), state!(Case),
+        state!(Cases), BRACE_CLOSE, put_state!(ReturnSelect)),
 ];
 
-/// What stands behind the word `parse_error` in a target: a name, or nothing.
-pub const AFTER_ERROR: &[Row] = &[Row {
-    first: Class::Name,
-    rest: &[Symbol::Put(Action::State(StateAction::TargetError))],
-}];
+const CASE: Rows = &[
+    row!(key!(Default) => put_state!(CaseDefault), COLON, state!(Target), SEMICOLON,
+        put_state!(AddCase)),
+    row!(Class::Number => put_state!(NoMasked), part!(MaskOption), put_state!(AddMasked),
+        state!(MoreMasked), put_state!(CaseMasked), COLON, state!(Target), SEMICOLON,
+        put_state!(AddCase)),
+];
+
+const CASES: Rows = &[like!(Word::State(StateWord::Case) => state!(Cases))];
+
+const MORE_MASKED: Rows = &[
+    row!(mark!(Comma) => A_NUMBER, part!(MaskOption), put_state!(AddMasked), state!(MoreMasked)),
+];
+
+const TARGET: Rows = &[
+    row!(key!(ParseError) => state!(AfterError)),
+    row!(Class::Name => put_state!(TargetState)),
+];
+
+const AFTER_ERROR: Rows = &[row!(Class::Name => put_state!(TargetError))];
+
+/// The rows of a word for parser states, and what it does where none of them fits.
+pub fn rows_of(word: StateWord) -> Told
+    ensures rows { told [] result.rows.now ≡ state_rows word }
+    ensures otherwise { result.otherwise ≡ state_otherwise word }
+{
+    match word {
+        StateWord::Statements => pass!(STATEMENTS),
+        StateWord::Value => refuse!(VALUE),
+        StateWord::SelectValue => refuse!(SELECT_VALUE),
+        StateWord::AfterCurrent => refuse!(AFTER_CURRENT),
+        StateWord::AfterLatest => refuse!(AFTER_LATEST),
+        StateWord::MoreValues => pass!(MORE_VALUES),
+        StateWord::Return => refuse!(RETURN),
+        StateWord::AfterReturn => refuse!(AFTER_RETURN),
+        StateWord::AfterSelect => refuse!(AFTER_SELECT),
+        StateWord::Case => refuse!(CASE),
+        StateWord::Cases => pass!(CASES),
+        StateWord::MoreMasked => pass!(MORE_MASKED),
+        StateWord::Target => refuse!(TARGET),
+        StateWord::AfterError =>
+            build!(AFTER_ERROR => Action::State(StateAction::TargetStateOf(Keyword::ParseError))),
+    }
+}

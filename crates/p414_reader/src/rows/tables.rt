@@ -1,156 +1,63 @@
 // The rows of the words for tables.
+ghost use Rattle.std.specs.Prelude.{◌≡◌, []};
+ghost use Rattle.predictive_parser.specs.Told.{told};
+ghost use Rattle.p414_reader.specs.Rows.{table_rows, table_otherwise};
+
 use crate::keyword::Keyword;
-use crate::rows::{A_NAME, A_NUMBER, BRACE_CLOSE, BRACE_OPEN, COLON, Row, SEMICOLON, Sym};
+use crate::rows::{A_NAME, A_NUMBER, BRACE_CLOSE, BRACE_OPEN, COLON, Rows, SEMICOLON, Told};
 use crate::symbols::{Action, Class, PartAction, PartWord, TableAction, TableWord, Word};
-use predictive_parser::Symbol;
+use predictive_parser::{Otherwise, Row, Symbol, WordRows};
 
-/// An attribute that the table hasn't yet, but for `actions` and `action_profile`.
-pub const ATTR: &[Row] = &[
-    Row {
-        first: Class::NewTableAttr(Keyword::Reads),
-        rest: &[
-            BRACE_OPEN,
-            Symbol::Put(Action::Table(TableAction::NoReads)),
-            Symbol::Word(Word::Table(TableWord::Reads)),
-            BRACE_CLOSE,
-            Symbol::Put(Action::Table(TableAction::AddReads)),
-        ],
-    },
-    Row {
-        first: Class::NewTableAttr(Keyword::MinSize),
-        rest: &[
-            COLON,
-            A_NUMBER,
-            SEMICOLON,
-            Symbol::Put(Action::Table(TableAction::AddMinSize)),
-        ],
-    },
-    Row {
-        first: Class::NewTableAttr(Keyword::MaxSize),
-        rest: &[
-            COLON,
-            A_NUMBER,
-            SEMICOLON,
-            Symbol::Put(Action::Table(TableAction::AddMaxSize)),
-        ],
-    },
-    Row {
-        first: Class::NewTableAttr(Keyword::Size),
-        rest: &[
-            COLON,
-            A_NUMBER,
-            SEMICOLON,
-            Symbol::Put(Action::Table(TableAction::AddSize)),
-        ],
-    },
-    Row {
-        first: Class::NewTableAttr(Keyword::SupportTimeout),
-        rest: &[COLON, Symbol::Word(Word::Table(TableWord::Timeout))],
-    },
-    Row {
-        first: Class::NewTableAttr(Keyword::DefaultAction),
-        rest: &[
-            COLON,
-            A_NAME,
-            Symbol::Word(Word::Part(PartWord::Arguments)),
-            SEMICOLON,
-            Symbol::Put(Action::Table(TableAction::AddDefaultAction)),
-        ],
-    },
+const ATTR: Rows = &[
+    row!(Class::NewTableAttr(Keyword::Reads) => BRACE_OPEN, put_table!(NoReads), table!(Reads),
+        BRACE_CLOSE, put_table!(AddReads)),
+    row!(Class::NewTableAttr(Keyword::MinSize) => COLON, A_NUMBER, SEMICOLON,
+        put_table!(AddMinSize)),
+    row!(Class::NewTableAttr(Keyword::MaxSize) => COLON, A_NUMBER, SEMICOLON,
+        put_table!(AddMaxSize)),
+    row!(Class::NewTableAttr(Keyword::Size) => COLON, A_NUMBER, SEMICOLON, put_table!(AddSize)),
+    row!(Class::NewTableAttr(Keyword::SupportTimeout) => COLON, table!(Timeout)),
+    row!(Class::NewTableAttr(Keyword::DefaultAction) => COLON, A_NAME, part!(Arguments), SEMICOLON,
+        put_table!(AddDefaultAction)),
 ];
 
-/// Attributes of a table that has neither `actions` nor `action_profile` yet, up to the last.
-pub const ATTRS: &[Row] = &[
-    Row {
-        first: Class::Word(Keyword::Actions),
-        rest: &[
-            BRACE_OPEN,
-            Symbol::Put(Action::Part(PartAction::NoNames)),
-            A_NAME,
-            SEMICOLON,
-            Symbol::Put(Action::Part(PartAction::AddName)),
-            Symbol::Word(Word::Part(PartWord::NameLines)),
-            BRACE_CLOSE,
-            Symbol::Put(Action::Table(TableAction::AddActions)),
-            Symbol::Word(Word::Table(TableWord::MoreAttrs)),
-        ],
-    },
-    Row {
-        first: Class::Word(Keyword::ActionProfile),
-        rest: &[
-            COLON,
-            A_NAME,
-            SEMICOLON,
-            Symbol::Put(Action::Table(TableAction::AddProfile)),
-            Symbol::Word(Word::Table(TableWord::MoreAttrs)),
-        ],
-    },
+const ATTRS: Rows = &[
+    row!(key!(Actions) => BRACE_OPEN, put_part!(NoNames), A_NAME, SEMICOLON, put_part!(AddName),
+        part!(NameLines), BRACE_CLOSE, put_table!(AddActions), table!(MoreAttrs)),
+    row!(key!(ActionProfile) => COLON, A_NAME, SEMICOLON, put_table!(AddProfile),
+        table!(MoreAttrs)),
+    like!(Word::Table(TableWord::Attr) => table!(Attrs)),
 ];
 
-/// `actions` and `action_profile`, where the table hasn't them yet and has the other.
-pub const MORE_ATTRS: &[Row] = &[
-    Row {
-        first: Class::NewTableAttr(Keyword::Actions),
-        rest: &[
-            BRACE_OPEN,
-            Symbol::Put(Action::Part(PartAction::NoNames)),
-            A_NAME,
-            SEMICOLON,
-            Symbol::Put(Action::Part(PartAction::AddName)),
-            Symbol::Word(Word::Part(PartWord::NameLines)),
-            BRACE_CLOSE,
-            Symbol::Put(Action::Table(TableAction::AddActions)),
-            Symbol::Word(Word::Table(TableWord::MoreAttrs)),
-        ],
-    },
-    Row {
-        first: Class::NewTableAttr(Keyword::ActionProfile),
-        rest: &[
-            COLON,
-            A_NAME,
-            SEMICOLON,
-            Symbol::Put(Action::Table(TableAction::AddProfile)),
-            Symbol::Word(Word::Table(TableWord::MoreAttrs)),
-        ],
-    },
+const MORE_ATTRS: Rows = &[
+    row!(Class::NewTableAttr(Keyword::Actions) => BRACE_OPEN, put_part!(NoNames), A_NAME, SEMICOLON,
+        put_part!(AddName), part!(NameLines), BRACE_CLOSE, put_table!(AddActions),
+        table!(MoreAttrs)),
+    row!(Class::NewTableAttr(Keyword::ActionProfile) => COLON, A_NAME, SEMICOLON,
+        put_table!(AddProfile), table!(MoreAttrs)),
+    like!(Word::Table(TableWord::Attr) => table!(MoreAttrs)),
 ];
 
-/// Behind each row of the other word, at the word for: attributes of a table that has neither `actions` nor `action_profile` yet, up to the last.
-pub const BEHIND_ATTRS: &[Sym] = &[Symbol::Word(Word::Table(TableWord::Attrs))];
-
-/// Behind each row of the other word, at the word for: further attributes of a table that has one of these.
-pub const BEHIND_MORE_ATTRS: &[Sym] = &[Symbol::Word(Word::Table(TableWord::MoreAttrs))];
-
-/// `true;` or `false;`.
-pub const TIMEOUT: &[Row] = &[
-    Row {
-        first: Class::Word(Keyword::True),
-        rest: &[
-            SEMICOLON,
-            Symbol::Put(Action::Table(TableAction::AddTimeout(true))),
-        ],
-    },
-    Row {
-        first: Class::Word(Keyword::False),
-        rest: &[
-            SEMICOLON,
-            Symbol::Put(Action::Table(TableAction::AddTimeout(false))),
-        ],
-    },
+const TIMEOUT: Rows = &[
+    row!(key!(True) => SEMICOLON, put_table!(AddTimeout(true))),
+    row!(key!(False) => SEMICOLON, put_table!(AddTimeout(false))),
 ];
 
-/// The keys.
-pub const READS: &[Row] = &[Row {
-    first: Class::Name,
-    rest: &[
-        Symbol::Word(Word::Part(PartWord::IndexOption)),
-        Symbol::Put(Action::Part(PartAction::Inst)),
-        Symbol::Word(Word::Part(PartWord::FieldOption)),
-        Symbol::Word(Word::Part(PartWord::MaskOption)),
-        COLON,
-        A_NAME,
-        SEMICOLON,
-        Symbol::Put(Action::Table(TableAction::AddRead)),
-        Symbol::Word(Word::Table(TableWord::Reads)),
-    ],
-}];
+const READS: Rows = &[
+    row!(Class::Name => part!(IndexOption), put_part!(Inst), part!(FieldOption), part!(MaskOption),
+        COLON, A_NAME, SEMICOLON, put_table!(AddRead), table!(Reads)),
+];
+
+/// The rows of a word for tables, and what it does where none of them fits.
+pub fn rows_of(word: TableWord) -> Told
+    ensures rows { told [] result.rows.now ≡ table_rows word }
+    ensures otherwise { result.otherwise ≡ table_otherwise word }
+{
+    match word {
+        TableWord::Attr => refuse!(ATTR),
+        TableWord::Attrs => refuse!(ATTRS),
+        TableWord::MoreAttrs => pass!(MORE_ATTRS),
+        TableWord::Timeout => refuse!(TIMEOUT),
+        TableWord::Reads => pass!(READS),
+    }
+}
