@@ -1,4 +1,4 @@
-// The same fields as fields.rattle, in plain Rust: octet by octet where they begin on an octet. It prints the same lines.
+// The same fields as fields.rattle, in plain Rust, octet by octet. It prints the same lines.
 use std::hint::black_box;
 use std::time::Instant;
 
@@ -8,9 +8,14 @@ fn read(octets: &[u8], at: usize, width: u8) -> u128 {
         let octets = &octets[first..first + usize::from(width) / 8];
         return octets.iter().fold(0, |number, octet| number << 8 | u128::from(*octet));
     }
-    (at..at + usize::from(width)).fold(0, |number, bit| {
-        number << 1 | u128::from(octets[bit / 8] >> (7 - bit % 8) & 1)
-    })
+    let (mut number, mut index, mut skip, mut left) = (0, first, skip, usize::from(width));
+    while left > 0 {
+        let count = left.min(8 - skip);
+        let part = octets[index] << skip >> (8 - count);
+        number = number << count | u128::from(part);
+        (index, skip, left) = (index + 1, 0, left - count);
+    }
+    number
 }
 
 fn write(octets: &mut [u8], at: usize, width: u8, value: u128) {
@@ -23,9 +28,14 @@ fn write(octets: &mut [u8], at: usize, width: u8, value: u128) {
         }
         return;
     }
-    for (place, bit) in (at..at + usize::from(width)).rev().enumerate() {
-        let mask = 1 << (7 - bit % 8);
-        octets[bit / 8] = octets[bit / 8] & !mask | if value >> place & 1 == 1 { mask } else { 0 };
+    let (mut index, mut skip, mut left) = (first, skip, usize::from(width));
+    while left > 0 {
+        let count = left.min(8 - skip);
+        left -= count;
+        let rest = 8 - skip - count;
+        let mask = 0xffu8 >> (8 - count) << rest;
+        octets[index] = octets[index] & !mask | ((value >> left) as u8) << rest & mask;
+        (index, skip) = (index + 1, 0);
     }
 }
 

@@ -1,5 +1,5 @@
 #!/bin/sh
-# Times the reading and writing of one field of octets, beside plain Rust, and prints the nanoseconds of each: the best of three
+# Times the reading and writing of one field of bits, beside plain Rust that goes octet by octet, and prints the nanoseconds of each: the best of three
 # runs. It wants rt and rustc. run.sh may call it; the gate doesn't run it. The program is proved first, in a scratch copy.
 set -eu
 top=$(cd "$(dirname "$0")/.." && pwd)
