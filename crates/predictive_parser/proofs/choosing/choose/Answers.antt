@@ -1,5 +1,5 @@
-use Rattle.std.proofs.Common.{ap, sym, ◌∙◌, drop, map, ◌∷◌, [], ◌+◌, refl}
-use Rattle.predictive_parser.specs.Grammar.{lines_of, plain_lines, with_more}
+use Rattle.std.proofs.Common.{ap, sym, ◌∙◌, drop, ◌∷◌, [], ◌+◌}
+use Rattle.predictive_parser.specs.Grammar.{lines_of}
 use Rattle.predictive_parser.specs.Told.{told}
 use Rattle.predictive_parser.proofs.FirstRow.{next, found_none, here, past, lines_split}
 use Rattle.predictive_parser.proofs.choosing.choose.Goals as goal

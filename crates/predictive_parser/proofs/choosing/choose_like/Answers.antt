@@ -1,5 +1,5 @@
-use Rattle.std.proofs.Common.{ap, sym, ◌∙◌, drop, map, ◌∷◌, [], ◌+◌, refl}
-use Rattle.predictive_parser.specs.Grammar.{lines_of, plain_lines, with_more}
+use Rattle.std.proofs.Common.{ap, sym, ◌∙◌, drop, map, ◌∷◌, [], ◌+◌}
+use Rattle.predictive_parser.specs.Grammar.{plain_lines, with_more}
 use Rattle.predictive_parser.specs.Told.{told}
 use Rattle.predictive_parser.proofs.FirstRow.{next, found_none, here, past, plain_split}
 use Rattle.predictive_parser.proofs.choosing.choose_like.Goals as goal

@@ -1,6 +1,6 @@
 use Rattle.std.proofs.Common.{◌≡◌, Some, drop, map}
 use Rattle.std.specs.Prelude.{slice_get}
-use Rattle.predictive_parser.specs.Grammar.{first_fit, lines_of, plain_lines, with_more}
+use Rattle.predictive_parser.specs.Grammar.{first_fit, plain_lines, with_more}
 use Rattle.predictive_parser.specs.Told.{told}
 use Rattle.predictive_parser.proofs.choosing.choose_like.Given as goal
 
