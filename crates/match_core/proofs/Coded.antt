@@ -22,8 +22,8 @@ use Rattle.match_core.specs.Matching.{matches, has_priority, by_priority, prefix
 use Rattle.match_core.specs.Best.{Leads, IsLeader, IsBest, entry_at}
 use Rattle.match_core.specs.Signatures.{is_lpm, AreSpecs}
 use Rattle.match_core.specs.Fits.{FitsKey, FitsKeys}
-use Rattle.match_core.specs.internal.Levels.{found_in, IsLevelPut}
-use Rattle.match_core.specs.internal.Codes.{are_plain, code_one, code_of, code_at, has_code, IsCodeIndex, key_found, number_found, IsFoundAt, IsLongest}
+use Rattle.match_core.specs.internal.Levels.{found_in, IsPutAt, IsLevelPut}
+use Rattle.match_core.specs.internal.Codes.{are_plain, code_one, code_of, code_at, has_code, IsCodeIndex, number_found, IsFoundAt, IsLongest}
 use Rattle.match_core.specs.internal.Index.{IsNumberIndex}
 use Rattle.match_core.proofs.Matches.{matches-differ}
 use Rattle.match_core.proofs.Leaders.{pass_is}
@@ -40,15 +40,15 @@ level_by {K} cmp exact test rank i bits v before tests ranks leads b k true is =
     (put_here (test b k) rank i (before b k) (leads b k) (tests b k ∙ is) ranks))
 level_by {K} cmp exact test rank i bits v before tests ranks leads b k false is = pass_is (test b k) rank (before b k) i (leads b k) (tests b k ∙ is)
 
-level_put_is : {K : Type 0} (cmp : K → K → Ordering) → CmpEqualImpliesEq cmp → (test : ℕ → K → ℕ → Bool) (rank : ℕ → ℕ) (i bits : ℕ) (v : K) (old new : List (Level K)) → ((b : ℕ) (k : K) → test b k i ≡ (bits == b && is_eq (cmp v k))) → ((j : ℕ) → j < i → rank j ≤ rank i) → ((b : ℕ) (k : K) → IsLeader (test b k) rank i (found_in cmp old b k)) → IsLevelPut cmp old new bits v i → (b : ℕ) (k : K) → IsLeader (test b k) rank (suc i) (found_in cmp new b k)
-level_put_is {K} cmp exact test rank i bits v old new tests ranks leads puts b k =
+level_put_is : {K : Type 0} (cmp : K → K → Ordering) → CmpEqualImpliesEq cmp → (test : ℕ → K → ℕ → Bool) (rank : ℕ → ℕ) (i bits : ℕ) (v : K) (before after : ℕ → K → Option ℕ) → ((b : ℕ) (k : K) → test b k i ≡ (bits == b && is_eq (cmp v k))) → ((j : ℕ) → j < i → rank j ≤ rank i) → ((b : ℕ) (k : K) → IsLeader (test b k) rank i (before b k)) → IsPutAt cmp before after bits v i → (b : ℕ) (k : K) → IsLeader (test b k) rank (suc i) (after b k)
+level_put_is {K} cmp exact test rank i bits v before after tests ranks leads puts b k =
     subst (λ (found : Option ℕ). IsLeader (test b k) rank (suc i) found) (sym (puts b k))
-    (level_by cmp exact test rank i bits v (found_in cmp old) tests ranks leads b k (bits == b && is_eq (cmp v k)) refl)
+    (level_by cmp exact test rank i bits v before tests ranks leads b k (bits == b && is_eq (cmp v k)) refl)
 
-pub key_turn : (specs : List KeySpec) (entries : List Entry) (i bits : ℕ) (code : List ℕ) (old new : List (Level (List ℕ))) → bits ≡ prefix_length (entry_at entries i).keys → code ≡ code_of specs (entry_at entries i).keys → IsCodeIndex specs entries i (key_found old) → IsLevelPut (slice_cmp nat_cmp) old new bits code i → IsCodeIndex specs entries (i + 1) (key_found new)
-key_turn specs entries i bits code old new bits_are code_is index puts b k =
+pub code_turn : (specs : List KeySpec) (entries : List Entry) (i bits : ℕ) (code : List ℕ) (before after : ℕ → List ℕ → Option ℕ) → bits ≡ prefix_length (entry_at entries i).keys → code ≡ code_of specs (entry_at entries i).keys → IsCodeIndex specs entries i before → IsPutAt (slice_cmp nat_cmp) before after bits code i → IsCodeIndex specs entries (i + 1) after
+code_turn specs entries i bits code before after bits_are code_is index puts b k =
     rw add-one
-    (level_put_is (slice_cmp nat_cmp) exact_bytes (λ n c j. has_code specs n c (entry_at entries j).keys) (λ _. 0) i bits code old new
+    (level_put_is (slice_cmp nat_cmp) exact_bytes (λ n c j. has_code specs n c (entry_at entries j).keys) (λ _. 0) i bits code before after
     (λ n c. rw (← bits_are, ← code_is) (ap (λ (t : Bool). bits == n && t) (texts_ties code c)))
     (λ j lt. omega arith) index puts b k)
 
@@ -69,19 +69,13 @@ not_more spec (one ∷ ones) b n m code fits = rw (and-false (nat_eq (code_one s
 number_leads : (spec : KeySpec) (entries : List Entry) (i bits number : ℕ) (old new : List (Level ℕ)) → i < length entries → All (FitsKeys (spec ∷ [])) entries → bits ≡ prefix_length (entry_at entries i).keys → code_of (spec ∷ []) (entry_at entries i).keys ≡ number ∷ [] → IsCodeIndex (spec ∷ []) entries i (number_found old) → IsLevelPut nat_cmp old new bits number i → (b : ℕ) (code : List ℕ) → IsLeader (λ j. has_code (spec ∷ []) b code (entry_at entries j).keys) (λ _. 0) (suc i) (number_found new b code)
 number_leads spec entries i bits number old new within fits bits_are code_is index puts b [] = λ j lt. not_none spec (entry_at entries j).keys b (fits j _ (omega arith))
 number_leads spec entries i bits number old new within fits bits_are code_is index puts b (n ∷ []) =
-    level_put_is nat_cmp exact_unsigned (λ m v j. has_code (spec ∷ []) m (v ∷ []) (entry_at entries j).keys) (λ _. 0) i bits number old new
+    level_put_is nat_cmp exact_unsigned (λ m v j. has_code (spec ∷ []) m (v ∷ []) (entry_at entries j).keys) (λ _. 0) i bits number (found_in nat_cmp old) (found_in nat_cmp new)
     (λ m v. rw (← bits_are, code_is) (ap (λ (t : Bool). bits == m && t) (and-true (nat_eq number v) ∙ unsigned_ties number v)))
     (λ j lt. omega arith) (λ m v. index m (v ∷ [])) puts b n
 number_leads spec entries i bits number old new within fits bits_are code_is index puts b (n ∷ m ∷ code) = λ j lt. not_more spec (entry_at entries j).keys b n m code (fits j _ (omega arith))
 
 pub number_turn : (spec : KeySpec) (entries : List Entry) (i bits number : ℕ) (old new : List (Level ℕ)) → i < length entries → All (FitsKeys (spec ∷ [])) entries → bits ≡ prefix_length (entry_at entries i).keys → code_of (spec ∷ []) (entry_at entries i).keys ≡ number ∷ [] → IsCodeIndex (spec ∷ []) entries i (number_found old) → IsLevelPut nat_cmp old new bits number i → IsCodeIndex (spec ∷ []) entries (i + 1) (number_found new)
 number_turn spec entries i bits number old new within fits bits_are code_is index puts b code = rw add-one (number_leads spec entries i bits number old new within fits bits_are code_is index puts b code)
-
--- before the first entry
-pub no_numbers : (specs : List KeySpec) (entries : List Entry) → IsCodeIndex specs entries 0 (number_found [])
-no_numbers specs entries b [] = λ j lt. absurd (omega arith)
-no_numbers specs entries b (n ∷ []) = λ j lt. absurd (omega arith)
-no_numbers specs entries b (n ∷ m ∷ code) = λ j lt. absurd (omega arith)
 
 -- ---- prefixes of the entries of a table with one lpm key at most
 -- the prefixes of an entry have so many bits
@@ -264,17 +258,3 @@ none_coded specs ones i le =
 
 pub code_end : (specs : List KeySpec) (ones : List KeyMatch) (i : ℕ) (all code : List ℕ) → min (length specs) (length ones) ≤ i → code ++ code_of (drop i specs) (drop i ones) ≡ all → code ≡ all
 code_end specs ones i all code le so_far = sym (append-nil code) ∙ (ap (λ (rest : List ℕ). code ++ rest) (sym (none_coded specs ones i le)) ∙ so_far)
-
-none_parted : (specs : List KeySpec) (values : List ℕ) (i bits : ℕ) → min (length specs) (length values) ≤ i → code_at (drop i specs) bits (drop i values) ≡ []
-none_parted specs values i bits le =
-    elim (cases_lt i (length specs)) [
-      | inl more ↦ let none : drop i values ≡ [] = drop_all i values (omega arith) in rw none (nothing (drop i specs))
-      | inr few ↦ let none : drop i specs ≡ [] = drop_all i specs few in rw none refl
-    ]
-  where
-    nothing : (rest : List KeySpec) → code_at rest bits [] ≡ []
-    nothing [] = refl
-    nothing (spec ∷ rest) = refl
-
-pub parts_end : (specs : List KeySpec) (values : List ℕ) (i bits : ℕ) (all code : List ℕ) → min (length specs) (length values) ≤ i → code ++ code_at (drop i specs) bits (drop i values) ≡ all → code ≡ all
-parts_end specs values i bits all code le so_far = sym (append-nil code) ∙ (ap (λ (rest : List ℕ). code ++ rest) (sym (none_parted specs values i bits le)) ∙ so_far)

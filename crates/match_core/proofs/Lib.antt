@@ -9,3 +9,4 @@ pub mod Colouring
 pub mod CountedKeys
 pub mod InLevels
 pub mod Coded
+pub mod Grouped

@@ -36,7 +36,8 @@ pub record FitsCall (table : TableSig) (action : ℕ) (arguments : List ℕ) : T
   pub listed : action < length table.actions
   pub widths : AllZip (λ width value. value < 2 ^ width) (action_at table action).widths arguments
 
--- an entry of a table: its keys, its priority, which is 0 where the table has neither ternary nor range keys, and its call
+-- an entry of a table: its keys, its priority, which is 0 where the table has neither ternary nor range keys, and its
+-- call
 pub record FitsEntry (table : TableSig) (entry : Entry) : Type 0 where
   pub keys : FitsKeys table.keys entry
   pub priority : entry.priority < 2 ^ 31

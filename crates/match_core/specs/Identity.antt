@@ -5,7 +5,8 @@ use Rattle.match_core.specs.declared.entries.KeyMatch.{KeyMatch}
 use Rattle.match_core.specs.declared.entries.KeyMatch.TheVariants.{Exact, Ternary, Lpm, Range}
 use Rattle.match_core.specs.declared.entries.Entry.{Entry}
 
--- what counts of a key of so many bits when two are compared: a value on its mask, and the mask; a prefix, and its length
+-- what counts of a key of so many bits when two are compared: a value on its mask, and the mask; a prefix, and its
+-- length
 abbrev pub counted : ℕ → KeyMatch → List ℕ
 counted width (Exact value) = value ∷ 0 ∷ []
 counted width (Ternary value mask) = bit_and value mask ∷ mask ∷ []

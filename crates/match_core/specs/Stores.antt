@@ -35,7 +35,8 @@ sized (Meter cells) entries = Meter cells
 abbrev pub shapes_from : Signature → Entries → ℕ → List ObjectSig → List Shape
 shapes_from signature entries object [] = []
 shapes_from signature entries object (one ∷ others) =
-    sized one.shape (entries_counted signature.tables entries.tables object) ∷ shapes_from signature entries (object + 1) others
+    sized one.shape (entries_counted signature.tables entries.tables object)
+    ∷ shapes_from signature entries (object + 1) others
 
 -- the shapes of the objects, in the order of the signature
 abbrev pub shapes_of : Signature → Entries → List Shape
@@ -65,4 +66,7 @@ with_colours (cells ∷ others) (more ∷ colours) = handed cells more ∷ with_
 -- the zero store with the colours of the entries: the store that a run begins with (this project's own)
 abbrev pub first_store : Signature → Entries → Contents
 first_store signature entries =
-    record { shapes = shapes_of signature entries; cells = with_colours (zero_store signature entries).cells entries.colours }
+    record {
+      shapes = shapes_of signature entries;
+      cells = with_colours (zero_store signature entries).cells entries.colours;
+    }

@@ -4,3 +4,4 @@ pub mod Index
 pub mod Sizes
 pub mod Levels
 pub mod Codes
+pub mod Groups

@@ -3,14 +3,15 @@ ghost use Rattle.std.specs.Prelude.{◌≡◌, ℕ, ◌^◌, ◌<◌, length, Al
 ghost use Rattle.match_core.specs.Best.{Filled, IsBest};
 ghost use Rattle.match_core.specs.Fits.{FitsKeys};
 ghost use Rattle.match_core.specs.Signatures.{AreSpecs};
-ghost use Rattle.match_core.specs.internal.Index.{IsIndex, IsNumberIndex, IsCodedIndex};
+ghost use Rattle.match_core.specs.internal.Index.{IsIndex, IsNumberIndex, IsGroupIndex};
 
 use crate::entries::Entry;
 use crate::exact::{are_exact, key_index};
+use crate::groups::{find_in_groups, key_groups};
 use crate::key::Key;
 use crate::levels::Level;
 use crate::order::{first, order_of};
-use crate::plain::{are_plain, find_code, find_number, key_levels, number_levels};
+use crate::plain::{are_plain, find_number, number_levels};
 use crate::signatures::KeySpec;
 use p4x_bits::OutOfMemory;
 use std::alloc::Global;
@@ -24,8 +25,9 @@ pub enum Index {
     Numbers(Vec<Level<u128>>),
     /// All keys are exact: a map from a key to its first entry.
     Keys(BTreeMap<Key, u32>),
-    /// One of eight keys at most is lpm, and the others are exact: as for one key, with a map from the numbers of all.
-    Codes(Vec<Level<Key>>),
+    /// One of eight keys at most is lpm, and the others are exact: a map from the values of the exact keys, with 0 for the
+    /// lpm key, to what one lpm key has.
+    Groups(BTreeMap<Key, Vec<Level<u128>>>),
     /// The entries are asked one by one, in the order in which they count.
     Order(Vec<u64>),
 }
@@ -47,7 +49,7 @@ pub fn index_of(alloc: Global, specs: &[KeySpec], entries: &[Entry]) -> Result<I
         return Ok(Index::Keys(key_index(alloc, specs, entries)?));
     }
     if specs.len() <= 8 {
-        return Ok(Index::Codes(key_levels(alloc, specs, entries)?));
+        return Ok(Index::Groups(key_groups(alloc, specs, entries)?));
     }
     Ok(Index::Order(order_of(alloc, specs, entries)?))
 }
@@ -68,7 +70,7 @@ pub fn find(
     match index {
         Index::Numbers(levels) => find_one(levels, specs, entries, key.as_slice()),
         Index::Keys(keys) => keys.get(key).copied(),
-        Index::Codes(levels) => find_several(alloc, levels, specs, entries, key.as_slice()),
+        Index::Groups(groups) => find_several(alloc, groups, specs, entries, key.as_slice()),
         Index::Order(order) => first(order, specs, entries, key.as_slice()),
     }
 }
@@ -96,17 +98,17 @@ fn find_one(
 /// The number of the best entry of a key of as many values as the table has keys.
 fn find_several(
     alloc: Global,
-    levels: &[Level<Key>],
+    groups: &BTreeMap<Key, Vec<Level<u128>>>,
     specs: &[KeySpec],
     entries: &[Entry],
     key: &[u128],
 ) -> Option<u32>
     requires fits { All (FitsKeys specs.now) entries.now }
-    requires index { IsCodedIndex specs.now entries.now levels.now }
+    requires index { IsGroupIndex specs.now entries.now groups.now }
     ensures { IsBest (record { specs = specs.now; entries = entries.now }) key.now result }
 {
     if key.len() != specs.len() {
         return None;
     }
-    find_code(alloc, levels, specs, key)
+    find_in_groups(alloc, groups, specs, key)
 }

@@ -3,6 +3,7 @@
 
 mod entries;
 mod exact;
+mod groups;
 mod identity;
 mod index;
 mod key;

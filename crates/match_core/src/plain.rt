@@ -1,15 +1,15 @@
-// The index of a table whose keys are exact, but for one lpm key at most: for each length of a prefix that the entries use,
-// the longest first, a map from the numbers that an entry asks for to the first entry that does.
-ghost use Rattle.std.specs.Prelude.{◌≡◌, ℕ, ◌^◌, ◌<◌, ◌≤◌, List, [], ◌∷◌, length, All, IfOk, IfSome, IsSome, IsTrue};
+// What an entry whose keys are exact, but for one lpm key at most, is found by, and the index of a table of one such key:
+// for each length of a prefix that the entries use, the longest first, a map from the number that an entry asks for to the
+// first entry that does.
+ghost use Rattle.std.specs.Prelude.{◌≡◌, ◌^◌, ◌<◌, [], ◌∷◌, length, All, IfOk};
 ghost use Rattle.std.specs.List.{AllZip};
 ghost use Rattle.std.specs.Ordering.{nat_cmp};
-ghost use Rattle.std.specs.Cmp.Lexicographic.{slice_cmp};
 ghost use Rattle.std.specs.BTreeMap.{get};
 ghost use Rattle.match_core.specs.Matching.{prefix_length};
 ghost use Rattle.match_core.specs.Signatures.{AreSpecs};
 ghost use Rattle.match_core.specs.Fits.{FitsKey, FitsKeys};
 ghost use Rattle.match_core.specs.internal.Levels.{AreLevels};
-ghost use Rattle.match_core.specs.internal.Codes.{are_plain, code_one, code_of, part_by, code_at, IsCodeIndex, key_found, number_found, IsLongest};
+ghost use Rattle.match_core.specs.internal.Codes.{are_plain, code_one, code_of, part_by, IsCodeIndex, number_found, IsLongest};
 
 use crate::entries::{Entry, KeyMatch};
 use crate::key::Key;
@@ -49,7 +49,7 @@ fn first_code(spec: KeySpec, ones: &[KeyMatch]) -> u128
 }
 
 /// The numbers that an entry asks for.
-fn code_of(alloc: Global, specs: &[KeySpec], ones: &[KeyMatch]) -> Result<Key, OutOfMemory>
+pub fn code_of(alloc: Global, specs: &[KeySpec], ones: &[KeyMatch]) -> Result<Key, OutOfMemory>
     ensures { IfOk result (λ code. code ≡ code_of specs.now ones.now) }
 {
     let mut code = Key::new(alloc);
@@ -69,22 +69,8 @@ fn part_of(spec: KeySpec, bits: u8, value: u128) -> u128
     }
 }
 
-/// The numbers that values are found by where prefixes have so many bits. For eight keys at most it takes no memory.
-fn code_at(alloc: Global, specs: &[KeySpec], bits: u8, values: &[u128]) -> Option<Key>
-    ensures is { IfSome result (λ code. code ≡ code_at specs.now bits values.now) }
-    ensures first_eight { length specs.now ≤ 8 → IsSome result }
-{
-    let mut code = Key::new(alloc);
-    for i in 0..specs.len().min(values.len()) {
-        let Ok(()) = code.push(part_of(specs[i], bits, values[i])) else {
-            return None;
-        };
-    }
-    Some(code)
-}
-
 /// How many bits the prefix of an entry has.
-fn prefix_bits(specs: &[KeySpec], ones: &[KeyMatch]) -> u8
+pub fn prefix_bits(specs: &[KeySpec], ones: &[KeyMatch]) -> u8
     requires specs { AreSpecs specs.now }
     requires fits { AllZip FitsKey specs.now ones.now }
     ensures { result ≡ prefix_length ones.now }
@@ -113,28 +99,6 @@ pub fn number_levels(
     Ok(levels)
 }
 
-/// The index of a table of several keys.
-pub fn key_levels(
-    alloc: Global,
-    specs: &[KeySpec],
-    entries: &[Entry],
-) -> Result<Vec<Level<Key>>, OutOfMemory>
-    requires specs { AreSpecs specs.now }
-    requires few { length entries.now < 2 ^ 32 }
-    requires fits { All (FitsKeys specs.now) entries.now }
-    ensures levels { IfOk result (λ levels. AreLevels levels.items) }
-    ensures index { IfOk result (λ levels. IsCodeIndex specs.now entries.now (length entries.now) (key_found levels.items)) }
-{
-    let mut levels = Vec::new(alloc);
-    for i in 0..entries.len() {
-        let ones = entries[i].keys.as_slice();
-        let bits = prefix_bits(specs, ones);
-        let code = code_of(alloc, specs, ones)?;
-        put(alloc, &mut levels, bits, code, i as u32)?;
-    }
-    Ok(levels)
-}
-
 /// The number that a level has for a value.
 fn number_at(level: &Level<u128>, spec: KeySpec, value: u128) -> Option<u32>
     ensures { result ≡ get nat_cmp level.now.map (part_by spec.kind spec.width level.now.bits value) }
@@ -150,34 +114,6 @@ pub fn find_number(levels: &[Level<u128>], spec: KeySpec, value: u128) -> Option
 {
     for level in levels {
         if let Some(found) = number_at(level, spec, value) {
-            return Some(found);
-        }
-    }
-    None
-}
-
-/// The number that a level has for the values of a key.
-fn key_at(alloc: Global, level: &Level<Key>, specs: &[KeySpec], values: &[u128]) -> Option<u32>
-    requires { length specs.now ≤ 8 }
-    ensures { result ≡ get (slice_cmp nat_cmp) level.now.map (code_at specs.now level.now.bits values.now) }
-{
-    let code = code_at(alloc, specs, level.bits, values)?;
-    level.map.get(&code).copied()
-}
-
-/// The number that the first level has for the values of a key, the longest prefix first.
-pub fn find_code(
-    alloc: Global,
-    levels: &[Level<Key>],
-    specs: &[KeySpec],
-    values: &[u128],
-) -> Option<u32>
-    requires levels { AreLevels levels.now }
-    requires few { length specs.now ≤ 8 }
-    ensures { IsLongest (key_found levels.now) specs.now values.now result }
-{
-    for level in levels {
-        if let Some(found) = key_at(alloc, level, specs, values) {
             return Some(found);
         }
     }

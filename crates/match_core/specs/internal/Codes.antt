@@ -1,8 +1,9 @@
--- What an entry whose keys are exact, but for one lpm key at most, is found by: the length of its prefix, and its code, which
--- has the value of each exact key and the bits of the prefix.
-use Rattle.std.specs.Prelude.{◌≡◌, ℕ, ◌-◌, ◌/◌, ◌^◌, ◌<◌, ◌==◌, ◌&&◌, Bool, not, nat_eq, List, [], ◌∷◌, Option, Some, None}
+-- What an entry whose keys are exact, but for one lpm key at most, is found by: the length of its prefix, and its code,
+-- which has the value of each exact key and the bits of the prefix.
+use Rattle.std.specs.Prelude.{◌≡◌, ℕ, ◌-◌, ◌/◌, ◌^◌, ◌<◌, ◌==◌, ◌&&◌, Bool, not, nat_eq}
+use Rattle.std.specs.Prelude.{List, [], ◌∷◌, Option, Some, None}
 use Rattle.std.specs.List.{list_all}
-use Rattle.std.specs.Cmp.Lexicographic.{pointwise, slice_cmp}
+use Rattle.std.specs.Cmp.Lexicographic.{pointwise}
 use Rattle.std.specs.Ordering.{nat_cmp}
 use Rattle.match_core.specs.declared.signatures.KeyKind.{KeyKind}
 use Rattle.match_core.specs.declared.signatures.KeyKind.TheVariants as kind
@@ -50,12 +51,10 @@ has_code specs bits code ones = prefix_length ones == bits && pointwise nat_eq (
 -- for each length and each code the first of so many entries is found
 abbrev pub IsCodeIndex : List KeySpec → List Entry → ℕ → (ℕ → List ℕ → Option ℕ) → Type 0
 IsCodeIndex specs entries count found =
-    (bits : ℕ) (code : List ℕ) → IsLeader (λ i. has_code specs bits code (entry_at entries i).keys) (λ _. 0) count (found bits code)
+    (bits : ℕ) (code : List ℕ) →
+    IsLeader (λ i. has_code specs bits code (entry_at entries i).keys) (λ _. 0) count (found bits code)
 
--- what levels have for a code, and for one of a single number
-abbrev pub key_found : List (Level (List ℕ)) → ℕ → List ℕ → Option ℕ
-key_found levels bits code = found_in (slice_cmp nat_cmp) levels bits code
-
+-- what levels have for a code of one number
 abbrev pub number_found : List (Level ℕ) → ℕ → List ℕ → Option ℕ
 number_found levels bits [] = None
 number_found levels bits (number ∷ []) = found_in nat_cmp levels bits number

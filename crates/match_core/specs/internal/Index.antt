@@ -1,5 +1,5 @@
 -- What the index of a table says.
-use Rattle.std.specs.Prelude.{◌≡◌, ℕ, ◌≤◌, length, Bool, true, false, List, [], ◌∷◌, Option}
+use Rattle.std.specs.Prelude.{◌≡◌, ℕ, ◌≤◌, length, Bool, true, false, List, [], ◌∷◌}
 use Rattle.std.specs.List.{list_all}
 use Rattle.std.specs.Ordering.{nat_cmp}
 use Rattle.std.specs.Cmp.Lexicographic.{slice_cmp}
@@ -12,11 +12,12 @@ use Rattle.match_core.specs.declared.entries.KeyMatch.{KeyMatch}
 use Rattle.match_core.specs.declared.entries.KeyMatch.TheVariants.{Exact, Ternary, Lpm, Range}
 use Rattle.match_core.specs.declared.levels.Level.{Level}
 use Rattle.match_core.specs.declared.index.Index.{Index}
-use Rattle.match_core.specs.declared.index.Index.TheVariants.{Numbers, Keys, Codes, Order}
+use Rattle.match_core.specs.declared.index.Index.TheVariants.{Numbers, Keys, Groups, Order}
 use Rattle.match_core.specs.Signatures.{AreSpecs}
 use Rattle.match_core.specs.Best.{Filled, IsBest}
 use Rattle.match_core.specs.internal.Levels.{AreLevels}
-use Rattle.match_core.specs.internal.Codes.{are_plain, IsCodeIndex, number_found, key_found}
+use Rattle.match_core.specs.internal.Codes.{are_plain, IsCodeIndex, number_found}
+use Rattle.match_core.specs.internal.Groups.{LevelsByGroup, AreGroups, group_found}
 use Rattle.match_core.specs.internal.Order.{IsOrder}
 
 abbrev pub is_exact : KeyKind → Bool
@@ -40,27 +41,30 @@ value_of (Ternary value mask) = 0
 value_of (Lpm value length) = 0
 value_of (Range low high) = 0
 
--- levels that have the first entry of each length and code
-pub record IsLevelIndex {K : Type 0} (specs : List KeySpec) (entries : List Entry) (found : ℕ → List ℕ → Option ℕ) (levels : List (Level K)) : Type 0 where
+-- levels that have the first entry of each length and number
+pub record IsLevelIndex (specs : List KeySpec) (entries : List Entry) (levels : List (Level ℕ)) : Type 0 where
   pub plain : are_plain specs ≡ true
   pub specs_are : AreSpecs specs
   pub are : AreLevels levels
-  pub index : IsCodeIndex specs entries (length entries) found
+  pub index : IsCodeIndex specs entries (length entries) (number_found levels)
 
 -- the same, of the one key of a table
 abbrev pub IsNumberIndex : List KeySpec → List Entry → List (Level ℕ) → Type 0
 IsNumberIndex [] entries levels = ⊥
-IsNumberIndex (spec ∷ []) entries levels = IsLevelIndex (spec ∷ []) entries (number_found levels) levels
+IsNumberIndex (spec ∷ []) entries levels = IsLevelIndex (spec ∷ []) entries levels
 IsNumberIndex (spec ∷ _) entries levels = ⊥
 
--- the same, of eight keys at most
-pub record IsCodedIndex (specs : List KeySpec) (entries : List Entry) (levels : List (Level (List ℕ))) : Type 0 where
+-- groups, by the exact values of eight keys at most, that have the first entry of each length and code
+pub record IsGroupIndex (specs : List KeySpec) (entries : List Entry) (groups : LevelsByGroup) : Type 0 where
   pub few : length specs ≤ 8
-  pub levels_are : IsLevelIndex specs entries (key_found levels) levels
+  pub plain : are_plain specs ≡ true
+  pub specs_are : AreSpecs specs
+  pub are : AreGroups groups
+  pub index : IsCodeIndex specs entries (length entries) (group_found specs groups)
 
 -- what the index of a table says
 abbrev pub IsIndex : Filled → Index → Type 0
 IsIndex table (Numbers levels) = IsNumberIndex table.specs table.entries levels.items
 IsIndex table (Keys map) = IsKeyIndex table map
-IsIndex table (Codes levels) = IsCodedIndex table.specs table.entries levels.items
+IsIndex table (Groups groups) = IsGroupIndex table.specs table.entries groups
 IsIndex table (Order places) = IsOrder table places.items

@@ -1,5 +1,6 @@
 -- Maps by prefix length.
-use Rattle.std.specs.Prelude.{◌≡◌, ℕ, ◌<◌, ◌==◌, ◌&&◌, List, [], ◌∷◌, Option, Some, None, unwrap_or, if◌then◌else◌}
+use Rattle.std.specs.Prelude.{◌≡◌, ℕ, ◌<◌, ◌==◌, ◌&&◌, List, [], ◌∷◌}
+use Rattle.std.specs.Prelude.{Option, Some, None, unwrap_or, if◌then◌else◌}
 use Rattle.std.specs.Ordering.{is_eq}
 use Rattle.std.specs.declared.cmp.Ordering.{Ordering}
 use Rattle.std.specs.BTreeMap.{get}
@@ -18,10 +19,16 @@ AreLevels (level ∷ levels) = AllUnder level.bits levels × AreLevels levels
 -- what the level of so many bits has at a key
 abbrev pub found_in : {K : Type 0} → (K → K → Ordering) → List (Level K) → ℕ → K → Option ℕ
 found_in cmp [] bits key = None
-found_in cmp (level ∷ levels) bits key = if level.bits == bits then get cmp level.map key else found_in cmp levels bits key
+found_in cmp (level ∷ levels) bits key =
+    if level.bits == bits then get cmp level.map key else found_in cmp levels bits key
 
--- the new levels have the number at the key of so many bits, where the old ones had none, and else what the old ones had
-abbrev pub IsLevelPut : {K : Type 0} → (K → K → Ordering) → List (Level K) → List (Level K) → ℕ → K → ℕ → Type 0
-IsLevelPut {K} cmp old new bits key i =
+-- the number is found at the key of so many bits where none was found before, and else what was found before
+abbrev pub IsPutAt : {K : Type 0} → (K → K → Ordering) → (ℕ → K → Option ℕ) → (ℕ → K → Option ℕ) → ℕ → K → ℕ → Type 0
+IsPutAt {K} cmp before after bits key i =
     (many : ℕ) (other : K) →
-    found_in cmp new many other ≡ (if (bits == many) && is_eq (cmp key other) then Some (unwrap_or (found_in cmp old bits key) i) else found_in cmp old many other)
+    after many other ≡
+    (if (bits == many) && is_eq (cmp key other) then Some (unwrap_or (before bits key) i) else before many other)
+
+-- the same, of what two lists of levels have
+abbrev pub IsLevelPut : {K : Type 0} → (K → K → Ordering) → List (Level K) → List (Level K) → ℕ → K → ℕ → Type 0
+IsLevelPut cmp old new bits key i = IsPutAt cmp (found_in cmp old) (found_in cmp new) bits key i
