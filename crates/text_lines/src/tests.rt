@@ -2,6 +2,7 @@
 use crate::{Base, at_line, decimal_up_to, is_comment, next_line, next_word, number_up_to, words};
 use p4x_fault::{Place, Rule};
 use std::process::Abort;
+use std::test::Fail;
 
 /// The text has this first line, and this text behind it.
 fn expect_line(rt: &impl Abort, text: &[u8], line: &[u8], behind: &[u8]) {
@@ -52,15 +53,13 @@ fn words_stand_between_spaces_and_tabs(rt: HostRuntime) {
 }
 
 #[test]
-fn the_words_of_a_line_are_its_words_in_order(rt: HostRuntime) {
-    let alloc = rt.alloc();
-    let Ok(found) = words(alloc, b"\tab c\t\td ") else {
-        return;
-    };
+fn the_words_of_a_line_are_its_words_in_order(rt: HostRuntime) -> Result<(), Fail> {
+    let found = words(rt.alloc(), b"\tab c\t\td ")?;
     assert_eq!(&rt; found.len(), 3);
     assert_eq!(&rt; found[0], b"ab".as_slice());
     assert_eq!(&rt; found[1], b"c".as_slice());
     assert_eq!(&rt; found[2], b"d".as_slice());
+    Ok(())
 }
 
 #[test]
