@@ -10,3 +10,4 @@ pub mod CountedKeys
 pub mod InLevels
 pub mod Coded
 pub mod Grouped
+pub mod GroupSearch

@@ -7,7 +7,7 @@ ghost use Rattle.match_core.specs.internal.Index.{IsIndex, IsNumberIndex, IsGrou
 
 use crate::entries::Entry;
 use crate::exact::{are_exact, key_index};
-use crate::groups::{find_in_groups, key_groups};
+use crate::groups::{Group, find_in_groups, key_groups};
 use crate::key::Key;
 use crate::levels::Level;
 use crate::order::{first, order_of};
@@ -25,9 +25,8 @@ pub enum Index {
     Numbers(Vec<Level<u128>>),
     /// All keys are exact: a map from a key to its first entry.
     Keys(BTreeMap<Key, u32>),
-    /// One of eight keys at most is lpm, and the others are exact: a map from the values of the exact keys, with 0 for the
-    /// lpm key, to what one lpm key has.
-    Groups(BTreeMap<Key, Vec<Level<u128>>>),
+    /// One of several keys is lpm, and the others are exact: a group for each choice of exact values, in their order.
+    Groups(Vec<Group>),
     /// The entries are asked one by one, in the order in which they count.
     Order(Vec<u64>),
 }
@@ -48,20 +47,11 @@ pub fn index_of(alloc: Global, specs: &[KeySpec], entries: &[Entry]) -> Result<I
     if are_exact(specs) {
         return Ok(Index::Keys(key_index(alloc, specs, entries)?));
     }
-    if specs.len() <= 8 {
-        return Ok(Index::Groups(key_groups(alloc, specs, entries)?));
-    }
-    Ok(Index::Order(order_of(alloc, specs, entries)?))
+    Ok(Index::Groups(key_groups(alloc, specs, entries)?))
 }
 
 /// The number of the best entry of a key.
-pub fn find(
-    alloc: Global,
-    index: &Index,
-    specs: &[KeySpec],
-    entries: &[Entry],
-    key: &Key,
-) -> Option<u32>
+pub fn find(index: &Index, specs: &[KeySpec], entries: &[Entry], key: &Key) -> Option<u32>
     requires few { length entries.now < 2 ^ 32 }
     requires fits { All (FitsKeys specs.now) entries.now }
     requires index { IsIndex (record { specs = specs.now; entries = entries.now }) index.now }
@@ -70,7 +60,7 @@ pub fn find(
     match index {
         Index::Numbers(levels) => find_one(levels, specs, entries, key.as_slice()),
         Index::Keys(keys) => keys.get(key).copied(),
-        Index::Groups(groups) => find_several(alloc, groups, specs, entries, key.as_slice()),
+        Index::Groups(groups) => find_several(groups, specs, entries, key.as_slice()),
         Index::Order(order) => first(order, specs, entries, key.as_slice()),
     }
 }
@@ -96,13 +86,7 @@ fn find_one(
 }
 
 /// The number of the best entry of a key of as many values as the table has keys.
-fn find_several(
-    alloc: Global,
-    groups: &BTreeMap<Key, Vec<Level<u128>>>,
-    specs: &[KeySpec],
-    entries: &[Entry],
-    key: &[u128],
-) -> Option<u32>
+fn find_several(groups: &[Group], specs: &[KeySpec], entries: &[Entry], key: &[u128]) -> Option<u32>
     requires fits { All (FitsKeys specs.now) entries.now }
     requires index { IsGroupIndex specs.now entries.now groups.now }
     ensures { IsBest (record { specs = specs.now; entries = entries.now }) key.now result }
@@ -110,5 +94,5 @@ fn find_several(
     if key.len() != specs.len() {
         return None;
     }
-    find_in_groups(alloc, groups, specs, key)
+    find_in_groups(groups, specs, key)
 }

@@ -17,7 +17,6 @@ use std::marker::Model;
 /// A table with its entries, ready for look-ups.
 #[derive(Drop)]
 pub struct Table {
-    alloc: Global,
     specs: Vec<KeySpec>,
     entries: Vec<Entry>,
     index: Index,
@@ -50,7 +49,6 @@ impl Table {
         }
         let index = index_of(alloc, keys, entries)?;
         Ok(Table {
-            alloc,
             specs: Vec::from_slice(alloc, keys)?,
             entries: copies,
             index,
@@ -63,7 +61,7 @@ impl Table {
         ensures best { IsBest self.now key.now result }
         ensures scan { result ≡ best self.now key.now }
     {
-        find(self.alloc, &self.index, &self.specs, &self.entries, key)
+        find(&self.index, &self.specs, &self.entries, key)
     }
 
     /// The same as `lookup`, by asking each entry.

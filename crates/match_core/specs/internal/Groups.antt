@@ -1,10 +1,13 @@
 -- How an entry whose keys are exact, but for one lpm key at most, is found: its exact values find a group, and in the
 -- group its prefix finds it, as where the lpm key is the table's one key.
-use Rattle.std.specs.Prelude.{◌≡◌, ℕ, if◌then◌else◌, List, [], ◌∷◌, Option, Some, None}
+use Rattle.std.specs.Prelude.{◌≡◌, ℕ, if◌then◌else◌, List, [], ◌∷◌, map, Option, Some, None}
 use Rattle.std.specs.Global.{Vec}
 use Rattle.std.specs.Ordering.{nat_cmp, is_eq}
 use Rattle.std.specs.Cmp.Lexicographic.{slice_cmp}
-use Rattle.std.specs.BTreeMap.{BTreeMap, get}
+use Rattle.std.specs.List.Sorted.{IsStrictlySortedBy}
+use Rattle.std.specs.Map.{lookup, keys_of}
+use Rattle.std.specs.BTreeMap.{is_at}
+use Rattle.match_core.specs.declared.groups.Group.{Group}
 use Rattle.match_core.specs.declared.signatures.KeySpec.{KeySpec}
 use Rattle.match_core.specs.declared.levels.Level.{Level}
 use Rattle.match_core.specs.Signatures.{is_lpm}
@@ -32,12 +35,19 @@ abbrev pub levels_in : Option (Vec (Level ℕ)) → List (Level ℕ)
 levels_in None = []
 levels_in (Some levels) = levels.items
 
--- the levels of each group
+-- groups with the levels of each
 abbrev pub LevelsByGroup : Type 0
-LevelsByGroup = BTreeMap (List ℕ) (Vec (Level ℕ))
+LevelsByGroup = List (List ℕ × Vec (Level ℕ))
+
+abbrev pub pairs_of : List Group → LevelsByGroup
+pairs_of groups = map (λ group. (group.values, group.levels)) groups
 
 abbrev pub levels_at : LevelsByGroup → List ℕ → List (Level ℕ)
-levels_at groups group = levels_in (get (slice_cmp nat_cmp) groups group)
+levels_at groups group = levels_in (lookup (is_at (slice_cmp nat_cmp group)) groups)
+
+-- the groups stand in the order of their numbers, each once
+abbrev pub AreInOrder : LevelsByGroup → Type 0
+AreInOrder groups = IsStrictlySortedBy (slice_cmp nat_cmp) (keys_of groups)
 
 -- each group has levels, those with more bits before those with fewer
 abbrev pub AreGroups : LevelsByGroup → Type 0

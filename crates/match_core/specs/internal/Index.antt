@@ -1,5 +1,5 @@
 -- What the index of a table says.
-use Rattle.std.specs.Prelude.{◌≡◌, ℕ, ◌≤◌, length, Bool, true, false, List, [], ◌∷◌}
+use Rattle.std.specs.Prelude.{◌≡◌, ℕ, length, Bool, true, false, List, [], ◌∷◌}
 use Rattle.std.specs.List.{list_all}
 use Rattle.std.specs.Ordering.{nat_cmp}
 use Rattle.std.specs.Cmp.Lexicographic.{slice_cmp}
@@ -11,13 +11,14 @@ use Rattle.match_core.specs.declared.entries.Entry.{Entry}
 use Rattle.match_core.specs.declared.entries.KeyMatch.{KeyMatch}
 use Rattle.match_core.specs.declared.entries.KeyMatch.TheVariants.{Exact, Ternary, Lpm, Range}
 use Rattle.match_core.specs.declared.levels.Level.{Level}
+use Rattle.match_core.specs.declared.groups.Group.{Group}
 use Rattle.match_core.specs.declared.index.Index.{Index}
 use Rattle.match_core.specs.declared.index.Index.TheVariants.{Numbers, Keys, Groups, Order}
 use Rattle.match_core.specs.Signatures.{AreSpecs}
 use Rattle.match_core.specs.Best.{Filled, IsBest}
 use Rattle.match_core.specs.internal.Levels.{AreLevels}
 use Rattle.match_core.specs.internal.Codes.{are_plain, IsCodeIndex, number_found}
-use Rattle.match_core.specs.internal.Groups.{LevelsByGroup, AreGroups, group_found}
+use Rattle.match_core.specs.internal.Groups.{pairs_of, AreInOrder, AreGroups, group_found}
 use Rattle.match_core.specs.internal.Order.{IsOrder}
 
 abbrev pub is_exact : KeyKind → Bool
@@ -54,17 +55,17 @@ IsNumberIndex [] entries levels = ⊥
 IsNumberIndex (spec ∷ []) entries levels = IsLevelIndex (spec ∷ []) entries levels
 IsNumberIndex (spec ∷ _) entries levels = ⊥
 
--- groups, by the exact values of eight keys at most, that have the first entry of each length and code
-pub record IsGroupIndex (specs : List KeySpec) (entries : List Entry) (groups : LevelsByGroup) : Type 0 where
-  pub few : length specs ≤ 8
+-- groups, by their exact values in order, that have the first entry of each length and code
+pub record IsGroupIndex (specs : List KeySpec) (entries : List Entry) (groups : List Group) : Type 0 where
   pub plain : are_plain specs ≡ true
   pub specs_are : AreSpecs specs
-  pub are : AreGroups groups
-  pub index : IsCodeIndex specs entries (length entries) (group_found specs groups)
+  pub in_order : AreInOrder (pairs_of groups)
+  pub are : AreGroups (pairs_of groups)
+  pub index : IsCodeIndex specs entries (length entries) (group_found specs (pairs_of groups))
 
 -- what the index of a table says
 abbrev pub IsIndex : Filled → Index → Type 0
 IsIndex table (Numbers levels) = IsNumberIndex table.specs table.entries levels.items
 IsIndex table (Keys map) = IsKeyIndex table map
-IsIndex table (Groups groups) = IsGroupIndex table.specs table.entries groups
+IsIndex table (Groups groups) = IsGroupIndex table.specs table.entries groups.items
 IsIndex table (Order places) = IsOrder table places.items
