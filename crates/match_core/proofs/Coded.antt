@@ -66,7 +66,7 @@ not_more : (spec : KeySpec) (ones : List KeyMatch) (b n m : ℕ) (code : List �
 not_more spec [] b n m code fits = absurd fits
 not_more spec (one ∷ ones) b n m code fits = rw (and-false (nat_eq (code_one spec.width one) n)) (and-false _)
 
-number_leads : (spec : KeySpec) (entries : List Entry) (i bits number : ℕ) (old new : List (Level ℕ)) → i < length entries → All (FitsKeys (spec ∷ [])) entries → bits ≡ prefix_length (entry_at entries i).keys → code_of (spec ∷ []) (entry_at entries i).keys ≡ number ∷ [] → IsCodeIndex (spec ∷ []) entries i (number_found old) → IsLevelPut nat_cmp old new bits number i → (b : ℕ) (code : List ℕ) → IsLeader (λ j. has_code (spec ∷ []) b code (entry_at entries j).keys) (λ _. 0) (suc i) (number_found new b code)
+number_leads : (spec : KeySpec) (entries : List Entry) (i bits number : ℕ) (old new : List Level) → i < length entries → All (FitsKeys (spec ∷ [])) entries → bits ≡ prefix_length (entry_at entries i).keys → code_of (spec ∷ []) (entry_at entries i).keys ≡ number ∷ [] → IsCodeIndex (spec ∷ []) entries i (number_found old) → IsLevelPut nat_cmp old new bits number i → (b : ℕ) (code : List ℕ) → IsLeader (λ j. has_code (spec ∷ []) b code (entry_at entries j).keys) (λ _. 0) (suc i) (number_found new b code)
 number_leads spec entries i bits number old new within fits bits_are code_is index puts b [] = λ j lt. not_none spec (entry_at entries j).keys b (fits j _ (omega arith))
 number_leads spec entries i bits number old new within fits bits_are code_is index puts b (n ∷ []) =
     level_put_is nat_cmp exact_unsigned (λ m v j. has_code (spec ∷ []) m (v ∷ []) (entry_at entries j).keys) (λ _. 0) i bits number (found_in nat_cmp old) (found_in nat_cmp new)
@@ -74,7 +74,7 @@ number_leads spec entries i bits number old new within fits bits_are code_is ind
     (λ j lt. omega arith) (λ m v. index m (v ∷ [])) puts b n
 number_leads spec entries i bits number old new within fits bits_are code_is index puts b (n ∷ m ∷ code) = λ j lt. not_more spec (entry_at entries j).keys b n m code (fits j _ (omega arith))
 
-pub number_turn : (spec : KeySpec) (entries : List Entry) (i bits number : ℕ) (old new : List (Level ℕ)) → i < length entries → All (FitsKeys (spec ∷ [])) entries → bits ≡ prefix_length (entry_at entries i).keys → code_of (spec ∷ []) (entry_at entries i).keys ≡ number ∷ [] → IsCodeIndex (spec ∷ []) entries i (number_found old) → IsLevelPut nat_cmp old new bits number i → IsCodeIndex (spec ∷ []) entries (i + 1) (number_found new)
+pub number_turn : (spec : KeySpec) (entries : List Entry) (i bits number : ℕ) (old new : List Level) → i < length entries → All (FitsKeys (spec ∷ [])) entries → bits ≡ prefix_length (entry_at entries i).keys → code_of (spec ∷ []) (entry_at entries i).keys ≡ number ∷ [] → IsCodeIndex (spec ∷ []) entries i (number_found old) → IsLevelPut nat_cmp old new bits number i → IsCodeIndex (spec ∷ []) entries (i + 1) (number_found new)
 number_turn spec entries i bits number old new within fits bits_are code_is index puts b code = rw add-one (number_leads spec entries i bits number old new within fits bits_are code_is index puts b code)
 
 -- ---- prefixes of the entries of a table with one lpm key at most
@@ -232,7 +232,7 @@ module _ (specs : List KeySpec) (entries : List Entry) (found : ℕ → List ℕ
   longest_best (Some n) at = coded_best n at
 
 -- the same, where the table's keys and the key's values are lists of one
-pub number_best : (specs : List KeySpec) (entries : List Entry) (levels : List (Level ℕ)) (key : List ℕ) (result : Option ℕ) (d : KeySpec) → length key ≡ 1 → All (FitsKeys specs) entries → IsNumberIndex specs entries levels → IsLongest (number_found levels) (get_or specs 0 d ∷ []) (get_or key 0 0 ∷ []) result → IsBest (record { specs = specs; entries = entries }) key result
+pub number_best : (specs : List KeySpec) (entries : List Entry) (levels : List Level) (key : List ℕ) (result : Option ℕ) (d : KeySpec) → length key ≡ 1 → All (FitsKeys specs) entries → IsNumberIndex specs entries levels → IsLongest (number_found levels) (get_or specs 0 d ∷ []) (get_or key 0 0 ∷ []) result → IsBest (record { specs = specs; entries = entries }) key result
 number_best (spec ∷ []) entries levels (value ∷ []) result d one fits index longest =
     longest_best (spec ∷ []) entries (number_found levels) (value ∷ []) index.plain index.specs_are fits refl index.index result longest
 number_best [] entries levels key result d one fits index longest = absurd index

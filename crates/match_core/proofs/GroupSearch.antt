@@ -90,9 +90,9 @@ values_are : (groups : List Group) → keys_of (pairs_of groups) ≡ map (λ (g 
 values_are [] = refl
 values_are (g ∷ groups) = ap (λ (l : List (List ℕ)). g.values ∷ l) (values_are groups)
 
-keyed_at : (P : List ℕ → Type 0) (groups : List Group) (j : ℕ) (e : List ℕ × Vec (Level ℕ)) → slice_get (pairs_of groups) j ≡ Some e → ((d : Group) → j < length groups → P (get_or groups j d).values) → P e.0
+keyed_at : (P : List ℕ → Type 0) (groups : List Group) (j : ℕ) (e : List ℕ × Vec Level) → slice_get (pairs_of groups) j ≡ Some e → ((d : Group) → j < length groups → P (get_or groups j d).values) → P e.0
 keyed_at P [] j e is all = absurd (let never : None ≡ Some e = is in cc)
-keyed_at P (g ∷ groups) zero e is all = subst (λ (x : List ℕ × Vec (Level ℕ)). P x.0) (ap (λ (o : Option (List ℕ × Vec (Level ℕ))). unwrap_or o (g.values, g.levels)) is) (all g (omega arith))
+keyed_at P (g ∷ groups) zero e is all = subst (λ (x : List ℕ × Vec Level). P x.0) (ap (λ (o : Option (List ℕ × Vec Level)). unwrap_or o (g.values, g.levels)) is) (all g (omega arith))
 keyed_at P (g ∷ groups) (suc j) e is all = keyed_at P groups j e is (λ d lt. all d (omega arith))
 
 module _ (groups : List Group) (in_order : AreInOrder (pairs_of groups)) (q : List ℕ) where

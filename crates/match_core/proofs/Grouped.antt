@@ -93,14 +93,14 @@ prefix_at (spec ∷ specs) [] bits same = absurd (omega arith)
 prefix_at (spec ∷ specs) (v ∷ key) bits same =
     prefix_part spec.kind spec.width bits v (prefix_in specs (code_at specs bits key)) (prefix_in specs key) (width_in specs) (prefix_at specs key bits (omega arith))
 
-key_found : (specs : List KeySpec) (groups : LevelsByGroup) (key : List ℕ) (levels : List (Level ℕ)) (bits : ℕ) → length key ≡ length specs → levels_at groups (group_of specs key) ≡ levels → group_found specs groups bits (code_at specs bits key) ≡ found_in nat_cmp levels bits (prefix_in specs key / 2 ^ (width_in specs - bits))
+key_found : (specs : List KeySpec) (groups : LevelsByGroup) (key : List ℕ) (levels : List Level) (bits : ℕ) → length key ≡ length specs → levels_at groups (group_of specs key) ≡ levels → group_found specs groups bits (code_at specs bits key) ≡ found_in nat_cmp levels bits (prefix_in specs key / 2 ^ (width_in specs - bits))
 key_found specs groups key levels bits same is =
     ap (λ (group : List ℕ). found_in nat_cmp (levels_at groups group) bits (prefix_in specs (code_at specs bits key))) (group_at specs key bits same)
     ∙ ap (λ (p : ℕ). found_in nat_cmp (levels_at groups (group_of specs key)) bits p) (prefix_at specs key bits same)
-    ∙ ap (λ (l : List (Level ℕ)). found_in nat_cmp l bits (prefix_in specs key / 2 ^ (width_in specs - bits))) is
+    ∙ ap (λ (l : List Level). found_in nat_cmp l bits (prefix_in specs key / 2 ^ (width_in specs - bits))) is
 
 -- the longest prefix in the group of a key is the longest one of all
-pub groups_longest : (specs : List KeySpec) (groups : LevelsByGroup) (key : List ℕ) (levels : List (Level ℕ)) (result : Option ℕ) → length key ≡ length specs → levels_at groups (group_of specs key) ≡ levels → IsLongest (number_found levels) (record { kind = kind.Lpm; width = width_in specs } ∷ []) (prefix_in specs key ∷ []) result → IsLongest (group_found specs groups) specs key result
+pub groups_longest : (specs : List KeySpec) (groups : LevelsByGroup) (key : List ℕ) (levels : List Level) (result : Option ℕ) → length key ≡ length specs → levels_at groups (group_of specs key) ≡ levels → IsLongest (number_found levels) (record { kind = kind.Lpm; width = width_in specs } ∷ []) (prefix_in specs key ∷ []) result → IsLongest (group_found specs groups) specs key result
 groups_longest specs groups key levels None same is none = λ bits. key_found specs groups key levels bits same is ∙ none bits
 groups_longest specs groups key levels (Some n) same is at = record {
   bits = at.bits;
@@ -109,15 +109,15 @@ groups_longest specs groups key levels (Some n) same is at = record {
 }
 
 -- ---- a code is put into its group
-given_twice : (b : Bool) (new old rest : List (Level ℕ)) → cond b new (cond b old rest) ≡ cond b new rest
+given_twice : (b : Bool) (new old rest : List Level) → cond b new (cond b old rest) ≡ cond b new rest
 given_twice true new old rest = refl
 given_twice false new old rest = refl
 
-module _ (specs : List KeySpec) (old mid new : LevelsByGroup) (code group : List ℕ) (levels put : List (Level ℕ)) (taken : AreGiven old mid group []) (given : AreGiven mid new group put) where
+module _ (specs : List KeySpec) (old mid new : LevelsByGroup) (code group : List ℕ) (levels put : List Level) (taken : AreGiven old mid group []) (given : AreGiven mid new group put) where
   given_at : (other : List ℕ) → levels_at new other ≡ cond (is_eq (slice_cmp nat_cmp group other)) put (levels_at old other)
   given_at other =
       given other
-      ∙ ap (λ (l : List (Level ℕ)). cond (is_eq (slice_cmp nat_cmp group other)) put l) (taken other)
+      ∙ ap (λ (l : List Level). cond (is_eq (slice_cmp nat_cmp group other)) put l) (taken other)
       ∙ given_twice (is_eq (slice_cmp nat_cmp group other)) put [] (levels_at old other)
 
   put_by : (bits i many : ℕ) (other : List ℕ) (t : Bool) → count_by (λ (s : KeySpec). is_lpm s.kind) specs ≤ 1 → group ≡ group_of specs code → levels ≡ levels_at old group → IsLevelPut nat_cmp levels put bits (prefix_in specs code) i → is_eq (slice_cmp nat_cmp group (group_of specs other)) ≡ t → group_found specs new many other ≡ cond (bits == many && is_eq (slice_cmp nat_cmp code other)) (Some (unwrap_or (group_found specs old bits code) i)) (group_found specs old many other)
@@ -132,18 +132,18 @@ module _ (specs : List KeySpec) (old mid new : LevelsByGroup) (code group : List
       sym (texts_ties code other) ∙ split_is specs code other one ∙ ap (λ (b : Bool). b && nat_eq mine its) groups ∙ unsigned_ties mine its in
       let here : levels ≡ levels_at old (group_of specs code) = levels_are ∙ ap (λ (g : List ℕ). levels_at old g) group_is in
       let there : levels ≡ levels_at old (group_of specs other) = levels_are ∙ ap (λ (g : List ℕ). levels_at old g) same in
-      ap (λ (l : List (Level ℕ)). found_in nat_cmp l many its) at
+      ap (λ (l : List Level). found_in nat_cmp l many its) at
       ∙ puts many its
       ∙ ap (λ (b : Bool). cond (bits == many && b) (Some (unwrap_or (found_in nat_cmp levels bits mine) i)) (found_in nat_cmp levels many its)) (sym codes)
-      ∙ ap (λ (l : List (Level ℕ)). cond (bits == many && is_eq (slice_cmp nat_cmp code other)) (Some (unwrap_or (found_in nat_cmp l bits mine) i)) (found_in nat_cmp levels many its)) here
-      ∙ ap (λ (l : List (Level ℕ)). cond (bits == many && is_eq (slice_cmp nat_cmp code other)) (Some (unwrap_or (group_found specs old bits code) i)) (found_in nat_cmp l many its)) there
+      ∙ ap (λ (l : List Level). cond (bits == many && is_eq (slice_cmp nat_cmp code other)) (Some (unwrap_or (found_in nat_cmp l bits mine) i)) (found_in nat_cmp levels many its)) here
+      ∙ ap (λ (l : List Level). cond (bits == many && is_eq (slice_cmp nat_cmp code other)) (Some (unwrap_or (group_found specs old bits code) i)) (found_in nat_cmp l many its)) there
   put_by bits i many other false one group_is levels_are puts is =
       let at : levels_at new (group_of specs other) ≡ levels_at old (group_of specs other) = given_at (group_of specs other) ∙ ap (λ (b : Bool). cond b put (levels_at old (group_of specs other))) is in
       let groups : pointwise nat_eq (group_of specs code) (group_of specs other) ≡ false =
       texts_ties (group_of specs code) (group_of specs other) ∙ ap (λ (g : List ℕ). is_eq (slice_cmp nat_cmp g (group_of specs other))) (sym group_is) ∙ is in
       let codes : is_eq (slice_cmp nat_cmp code other) ≡ false =
       sym (texts_ties code other) ∙ split_is specs code other one ∙ ap (λ (b : Bool). b && nat_eq (prefix_in specs code) (prefix_in specs other)) groups in
-      ap (λ (l : List (Level ℕ)). found_in nat_cmp l many (prefix_in specs other)) at
+      ap (λ (l : List Level). found_in nat_cmp l many (prefix_in specs other)) at
       ∙ sym
       (ap (λ (b : Bool). cond b (Some (unwrap_or (group_found specs old bits code) i)) (group_found specs old many other))
       (ap (λ (b : Bool). bits == many && b) codes ∙ and-false (bits == many)))

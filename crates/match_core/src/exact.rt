@@ -1,9 +1,9 @@
 // The index of a table whose keys are all exact: a map from each key to its best entry.
-ghost use Rattle.std.specs.Prelude.{◌≡◌, ℕ, ◌^◌, ◌<◌, ◌≤◌, length, map, All, IfOk, OnOk, IsTrue};
+ghost use Rattle.std.specs.Prelude.{◌≡◌, ℕ, ◌^◌, ◌<◌, ◌≤◌, length, map, All, IfOk, OnOk, OnErr, IsTrue};
 ghost use Rattle.match_core.specs.Best.{Filled};
 ghost use Rattle.match_core.specs.Fits.{FitsKeys};
 ghost use Rattle.match_core.specs.internal.Index.{is_exact, are_exact, value_of, IsKeyIndex};
-ghost use Rattle.match_core.specs.internal.Maps.{IsPut};
+ghost use Rattle.match_core.specs.internal.Maps.{stored, IsPut};
 
 use crate::entries::{Entry, KeyMatch};
 use crate::key::Key;
@@ -54,7 +54,8 @@ pub fn put_first<K: Ord + Drop>(
     key: K,
     i: u32,
 ) -> Result<(), OutOfMemory>
-    ensures { OnOk result (IsPut K.cmp index.old index.new key i) }
+    ensures put { OnOk result (IsPut K.cmp index.old.entries index.new.entries key i) }
+    ensures err { OnErr result ((other : _) → stored K.cmp index.new.entries other ≡ stored K.cmp index.old.entries other) }
 {
     index.entry(key)?.or_insert(i);
     Ok(())

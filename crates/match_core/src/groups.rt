@@ -27,7 +27,7 @@ pub struct Group {
     /// The values, with 0 for the lpm key.
     pub values: Key,
     /// What one lpm key has: a map for each length of a prefix, the longest first.
-    pub levels: Vec<Level<u128>>,
+    pub levels: Vec<Level>,
 }
 
 /// The number that a group has for one of a code.
@@ -74,11 +74,7 @@ fn width_in(specs: &[KeySpec]) -> u8
 }
 
 /// Takes the levels of a group out.
-fn take_levels(
-    alloc: Global,
-    groups: &mut BTreeMap<Key, Vec<Level<u128>>>,
-    group: &Key,
-) -> Vec<Level<u128>>
+fn take_levels(alloc: Global, groups: &mut BTreeMap<Key, Vec<Level>>, group: &Key) -> Vec<Level>
     ensures levels { result.items ≡ levels_at groups.old.entries group.now }
     ensures others { AreGiven groups.old.entries groups.new.entries group.now [] }
 {
@@ -90,9 +86,9 @@ fn take_levels(
 
 /// Gives a group its levels.
 fn give_levels(
-    groups: &mut BTreeMap<Key, Vec<Level<u128>>>,
+    groups: &mut BTreeMap<Key, Vec<Level>>,
     group: Key,
-    levels: Vec<Level<u128>>,
+    levels: Vec<Level>,
 ) -> Result<(), OutOfMemory>
     ensures { OnOk result (AreGiven groups.old.entries groups.new.entries group levels.items) }
 {
@@ -103,7 +99,7 @@ fn give_levels(
 /// Puts the number of an entry at the code of so many bits, where none stands.
 fn put_code(
     alloc: Global,
-    groups: &mut BTreeMap<Key, Vec<Level<u128>>>,
+    groups: &mut BTreeMap<Key, Vec<Level>>,
     specs: &[KeySpec],
     bits: u8,
     code: &[u128],
@@ -117,7 +113,7 @@ fn put_code(
 {
     let group = group_of(alloc, specs, code)?;
     let mut levels = take_levels(alloc, groups, &group);
-    put(alloc, &mut levels, bits, prefix_in(specs, code), number)?;
+    put(alloc, &mut levels, 0, bits, prefix_in(specs, code), number)?;
     give_levels(groups, group, levels)?;
     Ok(())
 }
@@ -125,7 +121,7 @@ fn put_code(
 /// Puts the number of an entry that asks so of each key, where none stands.
 fn put_entry(
     alloc: Global,
-    groups: &mut BTreeMap<Key, Vec<Level<u128>>>,
+    groups: &mut BTreeMap<Key, Vec<Level>>,
     specs: &[KeySpec],
     ones: &[KeyMatch],
     number: u32,
@@ -147,7 +143,7 @@ fn levels_by_group(
     alloc: Global,
     specs: &[KeySpec],
     entries: &[Entry],
-) -> Result<BTreeMap<Key, Vec<Level<u128>>>, OutOfMemory>
+) -> Result<BTreeMap<Key, Vec<Level>>, OutOfMemory>
     requires specs { AreSpecs specs.now }
     requires few { length entries.now < 2 ^ 32 }
     requires fits { All (FitsKeys specs.now) entries.now }
@@ -163,7 +159,7 @@ fn levels_by_group(
 }
 
 /// The groups of a map, in the order of their values.
-fn in_order(alloc: Global, map: BTreeMap<Key, Vec<Level<u128>>>) -> Result<Vec<Group>, OutOfMemory>
+fn in_order(alloc: Global, map: BTreeMap<Key, Vec<Level>>) -> Result<Vec<Group>, OutOfMemory>
     ensures same { IfOk result (λ groups. pairs_of groups.items ≡ map.entries) }
     ensures order { AreInOrder map.entries }
 {
@@ -215,7 +211,7 @@ fn compare(group: &Group, specs: &[KeySpec], key: &[u128]) -> Ordering
 }
 
 /// The levels of the group of a key. It takes no memory.
-fn levels_of<'a>(groups: &'a [Group], specs: &[KeySpec], key: &[u128]) -> &'a [Level<u128>]
+fn levels_of<'a>(groups: &'a [Group], specs: &[KeySpec], key: &[u128]) -> &'a [Level]
     requires order { AreInOrder (pairs_of groups.now) }
     requires same { length key.now ≡ length specs.now }
     ensures { result.now ≡ levels_at (pairs_of groups.now) (group_of specs.now key.now) }

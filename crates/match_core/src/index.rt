@@ -22,7 +22,7 @@ use std::collections::BTreeMap;
 pub enum Index {
     /// The one key is exact or lpm: for each length that the prefixes of entries have, the longest first, a map from a
     /// number to its first entry. Exact keys are all of one length.
-    Numbers(Vec<Level<u128>>),
+    Numbers(Vec<Level>),
     /// All keys are exact: a map from a key to its first entry.
     Keys(BTreeMap<Key, u32>),
     /// One of several keys is lpm, and the others are exact: a group for each choice of exact values, in their order.
@@ -66,12 +66,7 @@ pub fn find(index: &Index, specs: &[KeySpec], entries: &[Entry], key: &Key) -> O
 }
 
 /// The number of the best entry of a key of one value.
-fn find_one(
-    levels: &[Level<u128>],
-    specs: &[KeySpec],
-    entries: &[Entry],
-    key: &[u128],
-) -> Option<u32>
+fn find_one(levels: &[Level], specs: &[KeySpec], entries: &[Entry], key: &[u128]) -> Option<u32>
     requires fits { All (FitsKeys specs.now) entries.now }
     requires index { IsNumberIndex specs.now entries.now levels.now }
     ensures { IsBest (record { specs = specs.now; entries = entries.now }) key.now result }

@@ -8,6 +8,7 @@ mod identity;
 mod index;
 mod key;
 mod levels;
+mod numbers;
 mod order;
 mod plain;
 mod scan;

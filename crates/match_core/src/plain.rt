@@ -4,16 +4,17 @@
 ghost use Rattle.std.specs.Prelude.{◌≡◌, ◌^◌, ◌<◌, [], ◌∷◌, length, All, IfOk};
 ghost use Rattle.std.specs.List.{AllZip};
 ghost use Rattle.std.specs.Ordering.{nat_cmp};
-ghost use Rattle.std.specs.BTreeMap.{get};
 ghost use Rattle.match_core.specs.Matching.{prefix_length};
 ghost use Rattle.match_core.specs.Signatures.{AreSpecs};
 ghost use Rattle.match_core.specs.Fits.{FitsKey, FitsKeys};
+ghost use Rattle.match_core.specs.internal.Maps.{stored};
 ghost use Rattle.match_core.specs.internal.Levels.{AreLevels};
 ghost use Rattle.match_core.specs.internal.Codes.{are_plain, code_one, code_of, part_by, IsCodeIndex, number_found, IsLongest};
 
 use crate::entries::{Entry, KeyMatch};
 use crate::key::Key;
 use crate::levels::{Level, put};
+use crate::numbers::MARKS;
 use crate::scan::{has_priority, high_bits, prefix_rank};
 use crate::signatures::{KeyKind, KeySpec};
 use p4x_bits::OutOfMemory;
@@ -78,37 +79,47 @@ pub fn prefix_bits(specs: &[KeySpec], ones: &[KeyMatch]) -> u8
     (128 - prefix_rank(ones)) as u8
 }
 
+/// How many marks a level has: many where a look-up asks several levels.
+fn marks_of(kind: KeyKind) -> usize {
+    match kind {
+        KeyKind::Lpm => MARKS,
+        _ => 0,
+    }
+}
+
 /// The index of a table of one key.
 pub fn number_levels(
     alloc: Global,
     spec: KeySpec,
     entries: &[Entry],
-) -> Result<Vec<Level<u128>>, OutOfMemory>
+) -> Result<Vec<Level>, OutOfMemory>
     requires specs { AreSpecs (spec ∷ []) }
     requires few { length entries.now < 2 ^ 32 }
     requires fits { All (FitsKeys (spec ∷ [])) entries.now }
     ensures levels { IfOk result (λ levels. AreLevels levels.items) }
     ensures index { IfOk result (λ levels. IsCodeIndex (spec ∷ []) entries.now (length entries.now) (number_found levels.items)) }
 {
+    let marks = marks_of(spec.kind);
     let mut levels = Vec::new(alloc);
     for i in 0..entries.len() {
         let ones = entries[i].keys.as_slice();
         let bits = prefix_bits(&[spec], ones);
-        put(alloc, &mut levels, bits, first_code(spec, ones), i as u32)?;
+        let number = first_code(spec, ones);
+        put(alloc, &mut levels, marks, bits, number, i as u32)?;
     }
     Ok(levels)
 }
 
 /// The number that a level has for a value.
-fn number_at(level: &Level<u128>, spec: KeySpec, value: u128) -> Option<u32>
-    ensures { result ≡ get nat_cmp level.now.map (part_by spec.kind spec.width level.now.bits value) }
+fn number_at(level: &Level, spec: KeySpec, value: u128) -> Option<u32>
+    ensures { result ≡ stored nat_cmp level.now.map (part_by spec.kind spec.width level.now.bits value) }
 {
     let number = part_of(spec, level.bits, value);
-    level.map.get(&number).copied()
+    level.map.get(number)
 }
 
 /// The number that the first level has for a value, the longest prefix first.
-pub fn find_number(levels: &[Level<u128>], spec: KeySpec, value: u128) -> Option<u32>
+pub fn find_number(levels: &[Level], spec: KeySpec, value: u128) -> Option<u32>
     requires { AreLevels levels.now }
     ensures { IsLongest (number_found levels.now) (spec ∷ []) (value ∷ []) result }
 {

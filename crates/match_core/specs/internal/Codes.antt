@@ -55,7 +55,7 @@ IsCodeIndex specs entries count found =
     IsLeader (λ i. has_code specs bits code (entry_at entries i).keys) (λ _. 0) count (found bits code)
 
 -- what levels have for a code of one number
-abbrev pub number_found : List (Level ℕ) → ℕ → List ℕ → Option ℕ
+abbrev pub number_found : List Level → ℕ → List ℕ → Option ℕ
 number_found levels bits [] = None
 number_found levels bits (number ∷ []) = found_in nat_cmp levels bits number
 number_found levels bits (number ∷ _) = None

@@ -31,18 +31,18 @@ width_in [] = 0
 width_in (spec ∷ specs) = if is_lpm spec.kind then spec.width else width_in specs
 
 -- the levels of a group; no levels where there is no such group
-abbrev pub levels_in : Option (Vec (Level ℕ)) → List (Level ℕ)
+abbrev pub levels_in : Option (Vec Level) → List Level
 levels_in None = []
 levels_in (Some levels) = levels.items
 
 -- groups with the levels of each
 abbrev pub LevelsByGroup : Type 0
-LevelsByGroup = List (List ℕ × Vec (Level ℕ))
+LevelsByGroup = List (List ℕ × Vec Level)
 
 abbrev pub pairs_of : List Group → LevelsByGroup
 pairs_of groups = map (λ group. (group.values, group.levels)) groups
 
-abbrev pub levels_at : LevelsByGroup → List ℕ → List (Level ℕ)
+abbrev pub levels_at : LevelsByGroup → List ℕ → List Level
 levels_at groups group = levels_in (lookup (is_at (slice_cmp nat_cmp group)) groups)
 
 -- the groups stand in the order of their numbers, each once
@@ -54,7 +54,7 @@ abbrev pub AreGroups : LevelsByGroup → Type 0
 AreGroups groups = (group : List ℕ) → AreLevels (levels_at groups group)
 
 -- the new groups have these levels for the group, and for each other one what the old groups had
-abbrev pub AreGiven : LevelsByGroup → LevelsByGroup → List ℕ → List (Level ℕ) → Type 0
+abbrev pub AreGiven : LevelsByGroup → LevelsByGroup → List ℕ → List Level → Type 0
 AreGiven old new group levels =
     (other : List ℕ) →
     levels_at new other ≡ (if is_eq (slice_cmp nat_cmp group other) then levels else levels_at old other)

@@ -43,14 +43,14 @@ value_of (Lpm value length) = 0
 value_of (Range low high) = 0
 
 -- levels that have the first entry of each length and number
-pub record IsLevelIndex (specs : List KeySpec) (entries : List Entry) (levels : List (Level ℕ)) : Type 0 where
+pub record IsLevelIndex (specs : List KeySpec) (entries : List Entry) (levels : List Level) : Type 0 where
   pub plain : are_plain specs ≡ true
   pub specs_are : AreSpecs specs
   pub are : AreLevels levels
   pub index : IsCodeIndex specs entries (length entries) (number_found levels)
 
 -- the same, of the one key of a table
-abbrev pub IsNumberIndex : List KeySpec → List Entry → List (Level ℕ) → Type 0
+abbrev pub IsNumberIndex : List KeySpec → List Entry → List Level → Type 0
 IsNumberIndex [] entries levels = ⊥
 IsNumberIndex (spec ∷ []) entries levels = IsLevelIndex (spec ∷ []) entries levels
 IsNumberIndex (spec ∷ _) entries levels = ⊥

@@ -8,4 +8,4 @@ pub loop-i-preserved : goal.loop-i-preserved
 loop-i-preserved c =
     key_index_turn (record { specs = c.args.specs.now; entries = c.args.entries.now }) c.loop-i.i c.in_ok-key.key c.index-entries-i.result
     c.loop-i.index c.put_first.new.index c.requires.exact c.requires.fits (omega arith) c.index-entries-i.is
-    (subst (λ (e : Entry). c.in_ok-key.key ≡ map value_of e.keys) (sym c.index-entries-i.is) (rw c.as_slice.ensures at c.in_ok-key.ensures)) c.loop-i.invariant c.in_ok-put_first.ensures
+    (subst (λ (e : Entry). c.in_ok-key.key ≡ map value_of e.keys) (sym c.index-entries-i.is) (rw c.as_slice.ensures at c.in_ok-key.ensures)) c.loop-i.invariant c.in_ok-put_first.ensures.put

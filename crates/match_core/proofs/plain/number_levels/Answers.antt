@@ -15,8 +15,8 @@ loop-i-preserved c =
     c.as_slice-ones.ensures ∙ ap (λ (e : Entry). e.keys) (get_or_default c.args.entries.now c.loop-i.i c.index-entries-i.result d within) in
     record {
       levels = c.in_ok-put.ensures.levels;
-      index = number_turn c.args.spec c.args.entries.now c.loop-i.i c.prefix_bits-bits.result c.first_code.result c.loop-i.levels.items c.put.new.levels.items within c.requires.fits
-          (c.prefix_bits-bits.ensures ∙ ap prefix_length ones) (sym (ap (code_of (c.args.spec ∷ [])) ones) ∙ c.first_code.ensures) c.loop-i.invariant.index c.in_ok-put.ensures.put;
+      index = number_turn c.args.spec c.args.entries.now c.loop-i.i c.prefix_bits-bits.result c.first_code-number.result c.loop-i.levels.items c.put.new.levels.items within c.requires.fits
+          (c.prefix_bits-bits.ensures ∙ ap prefix_length ones) (sym (ap (code_of (c.args.spec ∷ [])) ones) ∙ c.first_code-number.ensures) c.loop-i.invariant.index c.in_ok-put.ensures.put;
     }
 
 pub returns-clause-index : goal.returns-clause-index
