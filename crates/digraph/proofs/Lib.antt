@@ -1,0 +1,9 @@
+pub mod PartLaws
+pub mod Members
+pub mod Marking
+pub mod Walking
+pub mod Turning
+pub mod Listing
+pub mod Visiting
+pub mod Closing
+pub mod Cycles
