@@ -1,6 +1,13 @@
 // Hands the words, the files and the output to the top call, and ends with its status.
 #![tactic(auto)]
 
+mod advice;
+mod heard;
+#[cfg(test)]
+mod tests;
+
+use advice::{Advice, advice_on};
+use heard::Heard;
 use p4x_cmd::p4x;
 use p4x_io::{HostDesk, HostSink};
 use std::process::ExitCode;
@@ -23,9 +30,16 @@ fn main(rt: HostRuntime) -> ExitCode {
     match words(&rt) {
         Ok(words) => {
             let mut desk = HostDesk::new(&rt);
-            let mut sink = HostSink::new(&rt);
-            ExitCode::from(p4x(rt.alloc(), &words, &mut desk, &mut sink))
+            let mut sink = Heard::new(HostSink::new(&rt));
+            let status = p4x(rt.alloc(), &words, &mut desk, &mut sink);
+            if let Some(advice) = advice_on(&words, status, sink.front()) {
+                let _told = rt.eprintln(advice);
+            }
+            ExitCode::from(status)
         }
-        Err(_) => ExitCode::from(NO_WORDS),
+        Err(_) => {
+            let _told = rt.eprintln(Advice::NoWords);
+            ExitCode::from(NO_WORDS)
+        }
     }
 }

@@ -1,0 +1,154 @@
+// What the person at the terminal is told beside the printed line. It is outside of every contract; its words are those of
+// docs/MESSAGES.md.
+
+use std::{fmt, str};
+
+/// The forms of the commands.
+const FORMS: &str = "these words are no form of a command. The forms are:
+  carry PROGRAM ENTRIES CAPTURE --text F --sent F --report F [--ports F]
+The three names come first, then the options, in any order and each at most once. A name isn't empty, and PROGRAM, ENTRIES and
+CAPTURE don't begin with --. The outputs --text, --sent and --report are three other files than the inputs.";
+
+/// What a rule asks, and what was found in its place.
+fn rule_words(rule: &str) -> &'static str {
+    match rule {
+        "C25" =>
+            "the program isn't of the one form that is taken yet, or has more than 1,048,576 octets",
+        "E1" => "only an empty entries file is taken yet",
+        "P1" => "the line isn't one decimal number",
+        "P2" => "the port is over 510",
+        "K1" => "the file has fewer than 24 octets, so it is no capture",
+        "K2" =>
+            "the file doesn't begin with the magic number of a capture; pcapng and compressed files aren't taken",
+        "K3" => "the version of the capture isn't 2.4",
+        "K4" => "the capture ends inside a record; the packets in front of it were carried",
+        "K5" =>
+            "a record has a captured length over 65,535; the packets in front of it were carried",
+        _ => "the file breaks this rule",
+    }
+}
+
+/// What is told of a call of the program that didn't end with status 0.
+#[derive(Clone, Copy, Drop)]
+pub enum Advice<'a> {
+    /// A file or the output stream failed; the words name the files.
+    Fault(&'a [String]),
+    /// The words are no form of a command.
+    Forms,
+    /// A file breaks a rule, at a place where the printed line has one.
+    Refused {
+        file: &'a str,
+        rule: &'a str,
+        place: Option<&'a str>,
+    },
+    /// A file is over its limit, in octets.
+    Over {
+        file: &'a str,
+        limit: &'static str,
+    },
+    /// There was no memory left.
+    Memory,
+    /// The system doesn't give the words.
+    NoWords,
+}
+
+/// What is told of a call with these words that printed this line and ended with this status. Nothing is told of one that ended with status 0.
+pub fn advice_on<'a>(words: &'a [String], status: u8, line: &'a [u8]) -> Option<Advice<'a>> {
+    match status {
+        0 => None,
+        1 => Some(Advice::Fault(words)),
+        2 => Some(Advice::Forms),
+        7 => Some(Advice::Memory),
+        _ => of_file(words, str::from_utf8(line).ok()?.trim_end()),
+    }
+}
+
+/// What is told of a line that speaks of a file.
+fn of_file<'a>(words: &'a [String], line: &'a str) -> Option<Advice<'a>> {
+    if let Some(told) = line.strip_prefix("refused ") {
+        let (rule, place) = match told.split_once(" at ") {
+            Some((rule, place)) => (rule, Some(place)),
+            None => (told, None),
+        };
+        let file = file_of(words, rule)?;
+        return Some(Advice::Refused { file, rule, place });
+    }
+    match line {
+        "limit ports" => over(file_of(words, "P"), "4,194,304"),
+        "limit capture" => over(file_of(words, "K"), "1,073,741,824"),
+        _ => None,
+    }
+}
+
+fn over<'a>(file: Option<&'a str>, limit: &'static str) -> Option<Advice<'a>> {
+    let file = file?;
+    Some(Advice::Over { file, limit })
+}
+
+/// The file that the rules of a family are about, by the rule's first letter.
+fn file_of<'a>(words: &'a [String], rule: &str) -> Option<&'a str> {
+    if rule.starts_with('P') {
+        return option_of(words, "--ports");
+    }
+    let place = if rule.starts_with('E') {
+        2
+    } else if rule.starts_with('K') {
+        3
+    } else {
+        1
+    };
+    Some(words.get(place)?.as_str())
+}
+
+/// The value of an option: the options stand behind the command and its three names, each with its value behind it.
+fn option_of<'a>(words: &'a [String], option: &str) -> Option<&'a str> {
+    for (place, word) in words.iter().enumerate() {
+        if place >= 4 && place % 2 == 0 && word.as_str() == option {
+            return Some(words.get(place.saturating_add(1))?.as_str());
+        }
+    }
+    None
+}
+
+/// Tells of a fault, with the files that were in use.
+fn tell_fault<W: fmt::Write>(words: &[String], f: &mut fmt::Formatter<W>) -> fmt::Result {
+    f.write_str("a file couldn't be read, made or written, or the line couldn't be printed")?;
+    if let [_, program, entries, capture, ..] = words {
+        write!(f, "; it reads {program}, {entries}, {capture}")?;
+    }
+    if let Some(ports) = option_of(words, "--ports") {
+        write!(f, ", {ports}")?;
+    }
+    if let (Some(text), Some(sent), Some(report)) = (
+        option_of(words, "--text"),
+        option_of(words, "--sent"),
+        option_of(words, "--report"),
+    ) {
+        write!(f, ", and writes {text}, {sent}, {report}")?;
+    }
+    Ok(())
+}
+
+impl fmt::Display for Advice<'_> {
+    fn fmt<W: fmt::Write>(&self, f: &mut fmt::Formatter<W>) -> fmt::Result {
+        f.write_str("p4x: ")?;
+        match *self {
+            Advice::Fault(words) => tell_fault(words, f),
+            Advice::Forms => f.write_str(FORMS),
+            Advice::Refused { file, rule, place } => {
+                f.write_str(file)?;
+                if let Some(place) = place {
+                    write!(f, ":{place}")?;
+                }
+                let words = rule_words(rule);
+                write!(f, ": {words} ({rule})")
+            }
+            Advice::Over { file, limit } => write!(
+                f,
+                "{file}: the file has more than {limit} octets"
+            ),
+            Advice::Memory => f.write_str("there was no memory left"),
+            Advice::NoWords => f.write_str("the system doesn't give the words of the command line"),
+        }
+    }
+}
