@@ -1,0 +1,121 @@
+#!/bin/sh
+# Runs the examples of README.md, docs/MESSAGES.md and docs/CARRY14.md with the built program over real files: `sh docs/check.sh`, or
+# `sh docs/check.sh PROGRAM` for another place than crates/p4x/out/p4x, where `rt run` leaves it. It compares the status, the printed line
+# and which outputs are left, and looks the sentence of the standard error stream up in docs/MESSAGES.md. The gate doesn't run it.
+set -u
+top=$(cd "$(dirname "$0")/.." && pwd)
+program=${1:-$top/crates/p4x/out/p4x}
+[ -x "$program" ] || { echo "there is no program $program: see README.md, Try it"; exit 2; }
+program=$(cd "$(dirname "$program")" && pwd)/$(basename "$program")
+work=$(mktemp -d)
+trap 'rm -rf "$work"' EXIT
+cp "$top"/crates/p4x/data/* "$work"
+cd "$work" || exit 2
+wrong=0
+
+wrong() {
+    echo "$words: $1"
+    wrong=$((wrong + 1))
+}
+
+# What an output is to be: `none` is no file, `text` the file of the first run, and else a number of octets.
+output() {
+    case $2 in
+    none) [ ! -e "$1" ] || wrong "$1 is there" ;;
+    text) cmp -s "$1" text || wrong "$1 isn't the text" ;;
+    *) [ -e "$1" ] && [ "$(wc -c <"$1")" -eq "$2" ] || wrong "$1 hasn't $2 octets" ;;
+    esac
+}
+
+# The status, the printed line, and what out.p4, out.pcap and report.txt are to be; then the words.
+expect() {
+    status=$1 line=$2 text=$3 sent=$4 report=$5
+    shift 5
+    words=$*
+    rm -f out.p4 out.pcap report.txt
+    "$program" "$@" >printed 2>said
+    found=$?
+    [ $found -eq "$status" ] || wrong "status $found"
+    [ "$(cat printed)" = "$line" ] || wrong "the line $(cat printed)"
+    case $status in
+    0) [ ! -s said ] || wrong "the sentence $(cat said)" ;;
+    2) grep -q '^p4x: these words are no form of a command' said || wrong "the sentence $(cat said)" ;;
+    *) grep -qF -- "\`$(cat said)\`" "$top/docs/MESSAGES.md" || grep -qxF -- "$(cat said)" "$top/README.md" ||
+        wrong "the sentence $(cat said)" ;;
+    esac
+    output out.p4 "$text"
+    output out.pcap "$sent"
+    output report.txt "$report"
+}
+
+# The program, the entries, the capture, and maybe an option with its value.
+carry() {
+    status=$1 line=$2 text=$3 sent=$4 report=$5 program14=$6 entries=$7 capture=$8
+    shift 8
+    expect "$status" "$line" "$text" "$sent" "$report" \
+        carry "$program14" "$entries" "$capture" --text out.p4 --sent out.pcap --report report.txt "$@"
+}
+
+# The program with one line changed, under the name whose sentence docs/MESSAGES.md has.
+changed() {
+    awk -v line="$1" -v put="$2" 'NR == line { print put; next } { print }' p1.p4 >changed.p4
+    cmp -s changed.p4 p1.p4 && { words=$2; wrong "nothing is changed"; }
+    mv changed.p4 empty.p4
+    carry 3 'refused C25' none none none empty.p4 entries.txt in.pcap
+}
+
+HEAD='\324\303\262\241\002\000\004\000\000\000\000\000\000\000\000\000\377\377\000\000\001\000\000\000'
+ZEROS='\000\000\000\000\000\000\000\000\000\000\000\000\000\000\000\000\000\000\000\000'
+printf "$HEAD" >none.pcap
+: >empty.p4
+: >empty.pcap
+echo >line.txt
+printf x >x.txt
+printf 511 >511.txt
+printf '5\n511\n' >ports.txt
+printf "$ZEROS\000\000\000\000" >zeros.pcap
+printf "\324\303\262\241$ZEROS" >version.pcap
+printf "$HEAD\000" >short.pcap
+printf "$HEAD\001\000\000\000\002\000\000\000\000\000\001\000\000\000\001\000" >long.pcap
+truncate -s 4194305 big.txt
+truncate -s 1073741825 big.pcap
+
+# README.md: the run, and a port that is refused.
+"$program" carry p1.p4 entries.txt in.pcap --text text --sent out.pcap --report report.txt >/dev/null
+carry 0 'carried 1 1 0' text 54 34 p1.p4 entries.txt in.pcap
+printf 'sent 3 14\nin 1\nout 1\ncut 0\nwork 6\n' | cmp -s - report.txt || wrong 'the report is another'
+awk '/^```$/ { inside = !inside; next } inside' "$top/docs/LANGUAGE16.md" | sed -n "1,$(wc -l <text)p" | cmp -s - text ||
+    wrong 'docs/LANGUAGE16.md has another text'
+sed -n '/^```$/,/^```$/p' "$top/README.md" | sed -n 2,7p | cmp -s - p1.p4 || wrong 'README.md has another program'
+carry 5 'refused P2 at 2:1' none none none p1.p4 entries.txt in.pcap --ports ports.txt
+cp in.pcap kept.pcap
+words='an output that is the capture'
+"$program" carry p1.p4 entries.txt in.pcap --text out.p4 --sent ./in.pcap --report report.txt >printed 2>said
+[ $? -eq 5 ] && [ "$(cat printed)" = 'refused K1' ] && [ ! -s in.pcap ] || wrong 'the capture stands'
+mv kept.pcap in.pcap
+
+# docs/MESSAGES.md
+carry 0 'carried 0 0 0' text 24 24 p1.p4 entries.txt none.pcap
+carry 1 fault none none none none.p4 entries.txt in.pcap
+expect 2 usage none none none
+carry 3 'refused C25' none none none empty.p4 entries.txt in.pcap
+carry 4 'refused E1 at 1:1' none none none p1.p4 line.txt in.pcap
+carry 5 'refused P1 at 1:1' none none none p1.p4 entries.txt in.pcap --ports x.txt
+carry 5 'refused P2 at 1:1' none none none p1.p4 entries.txt in.pcap --ports 511.txt
+carry 5 'refused K1' text 0 0 p1.p4 entries.txt empty.pcap
+carry 5 'refused K2' text 0 0 p1.p4 entries.txt zeros.pcap
+carry 5 'refused K3' text 0 0 p1.p4 entries.txt version.pcap
+carry 5 'refused K4' text 24 0 p1.p4 entries.txt short.pcap
+carry 5 'refused K5' text 24 0 p1.p4 entries.txt long.pcap
+carry 6 'limit ports' none none none p1.p4 entries.txt in.pcap --ports big.txt
+carry 6 'limit capture' text 0 0 p1.p4 entries.txt big.pcap
+
+# docs/CARRY14.md
+changed 2 '/* one header */ header eth_t eth;'
+changed 4 'action out3() { modify_field(standard_metadata.egress_spec, 0x3); }'
+changed 4 'action out3() { drop(); }'
+changed 5 'table t { reads { eth.c : exact; } actions { out3; } default_action : out3(); }'
+changed 3 'parser start { extract(eth); return select(eth.c) { default : ingress; } }'
+changed 1 'header_type eth_t { fields { a : 48; b : 48; c : 15; } }'
+
+[ $wrong -eq 0 ] && echo 'all examples are as the documents say' || { echo "$wrong wrong"; exit 1; }
