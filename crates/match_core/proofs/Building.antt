@@ -5,14 +5,15 @@ use Rattle.std.proofs.lemmas.List.{take_more, length-take-le}
 use Rattle.std.proofs.lemmas.Slice.Zip.{AllZip-long}
 use Rattle.match_core.specs.declared.signatures.KeySpec.{KeySpec}
 use Rattle.match_core.specs.declared.signatures.TableSig.{TableSig}
+use Rattle.match_core.specs.declared.signatures.ObjectSig.{ObjectSig}
 use Rattle.match_core.specs.declared.signatures.Signature.{Signature}
 use Rattle.match_core.specs.declared.entries.Entry.{Entry}
 use Rattle.match_core.specs.declared.entries.TableFill.{TableFill}
 use Rattle.match_core.specs.declared.entries.Entries.{Entries}
 use Rattle.match_core.specs.Best.{Filled}
-use Rattle.match_core.specs.Signatures.{AreSpecs, IsTable, IsSignature}
-use Rattle.match_core.specs.Fits.{FitsKeys, FitsFill, Fits}
-use Rattle.match_core.specs.Tables.{filled_of, filled_tables}
+use Rattle.match_core.specs.Signatures.{IsTable, IsSignature}
+use Rattle.match_core.specs.Fits.{FitsFill, Fits}
+use Rattle.match_core.specs.Tables.{filled_of, filled_tables, CanBuild, AllCanBuild}
 
 -- two lists of one length, item by item
 pub zip_get : {X Y : Type 0} (R : X → Y → Type 0) (xs : List X) (ys : List Y) (i : ℕ) (d : X) (e : Y) → AllZip R xs ys → i < length xs → R (get_or xs i d) (get_or ys i e)
@@ -21,22 +22,26 @@ zip_get R (x ∷ xs) [] i d e all lt = absurd all
 zip_get R (x ∷ xs) (y ∷ ys) zero d e all lt = all.0
 zip_get R (x ∷ xs) (y ∷ ys) (suc i) d e all lt = zip_get R xs ys i d e all.1 (omega arith)
 
--- what `Table::build` requires
-pub record CanBuild (specs : List KeySpec) (entries : List Entry) : Type 0 where
-  pub specs_are : AreSpecs specs
-  pub few : length entries < 2 ^ 32
-  pub fits : All (FitsKeys specs) entries
+one_can_build : (objects : List ObjectSig) (table : TableSig) (fill : TableFill) → IsTable objects table → FitsFill table fill → CanBuild table.keys fill.entries
+one_can_build objects table fill is fits = record { specs_are = is.keys; few = omega (arith, is.size, fits.size); fits = λ k f inside. (fits.entries k f inside).keys }
 
 -- the table at each place of the signature, with the entries that fill it
 pub can_build : (signature : Signature) (entries : Entries) (i : ℕ) (d : TableSig) (e : TableFill) → IsSignature signature → Fits entries signature → i < length signature.tables → CanBuild (get_or signature.tables i d).keys (get_or entries.tables i e).entries
 can_build signature entries i d e is fits within =
     let table : IsTable signature.objects (get_or signature.tables i d) = is.tables i d within in
     let fill : FitsFill (get_or signature.tables i d) (get_or entries.tables i e) = zip_get FitsFill signature.tables entries.tables i d e fits.tables within in
-    record {
-      specs_are = table.keys;
-      few = omega (arith, table.size, fill.size);
-      fits = λ k f inside. (fill.entries k f inside).keys;
-    }
+    one_can_build signature.objects (get_or signature.tables i d) (get_or entries.tables i e) table fill
+
+each_can_build : (objects : List ObjectSig) (tables : List TableSig) (fills : List TableFill) → All (IsTable objects) tables → AllZip FitsFill tables fills → AllZip (λ (table : TableSig) (fill : TableFill). CanBuild table.keys fill.entries) tables fills
+each_can_build objects [] [] are fits = tt
+each_can_build objects [] (fill ∷ fills) are fits = absurd fits
+each_can_build objects (table ∷ tables) [] are fits = absurd fits
+each_can_build objects (table ∷ tables) (fill ∷ fills) are fits =
+    (one_can_build objects table fill (are 0 table (omega arith)) fits.0, each_can_build objects tables fills (λ k d lt. are (suc k) d (omega arith)) fits.1)
+
+-- each table of the signature
+pub all_can_build : (signature : Signature) (entries : Entries) → IsSignature signature → Fits entries signature → AllCanBuild signature entries
+all_can_build signature entries is fits = each_can_build signature.objects signature.tables entries.tables is.tables fits.tables
 
 pub as_many_fills : (signature : Signature) (entries : Entries) → Fits entries signature → length entries.tables ≡ length signature.tables
 as_many_fills signature entries fits = AllZip-long FitsFill signature.tables entries.tables fits.tables

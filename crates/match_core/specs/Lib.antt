@@ -3,7 +3,7 @@
 --     Fits            which entries fit a signature
 --     Matching        when an entry matches a key, and which of two entries counts first
 --     Best            the best entry of a key
---     Tables          the tables of a signature, filled with entries
+--     Tables          the tables of a signature, filled with entries, and what a table is built of
 --     Stores          the stores of a signature and entries, and the one that a run begins with
 --     Identity        what tells the entries of a table apart
 -- No contract of a public call names what stands in internal: how a table finds its best entry.

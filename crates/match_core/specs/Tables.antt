@@ -1,9 +1,14 @@
 -- The tables of a signature, filled with entries.
-use Rattle.std.specs.Prelude.{List, [], ◌∷◌}
+use Rattle.std.specs.Prelude.{ℕ, ◌^◌, ◌<◌, List, [], ◌∷◌, length, All}
+use Rattle.std.specs.List.{AllZip}
+use Rattle.match_core.specs.declared.signatures.KeySpec.{KeySpec}
 use Rattle.match_core.specs.declared.signatures.TableSig.{TableSig}
 use Rattle.match_core.specs.declared.signatures.Signature.{Signature}
+use Rattle.match_core.specs.declared.entries.Entry.{Entry}
 use Rattle.match_core.specs.declared.entries.TableFill.{TableFill}
 use Rattle.match_core.specs.declared.entries.Entries.{Entries}
+use Rattle.match_core.specs.Signatures.{AreSpecs}
+use Rattle.match_core.specs.Fits.{FitsKeys}
 use Rattle.match_core.specs.Best.{Filled}
 
 -- a table with the entries that fill it
@@ -18,3 +23,14 @@ filled_tables (table ∷ tables) (fill ∷ fills) = filled_of table fill ∷ fil
 
 abbrev pub tables_of : Signature → Entries → List Filled
 tables_of signature entries = filled_tables signature.tables entries.tables
+
+-- what a table asks of the keys and the entries that it is built of
+pub record CanBuild (specs : List KeySpec) (entries : List Entry) : Type 0 where
+  pub specs_are : AreSpecs specs
+  pub few : length entries < 2 ^ 32
+  pub fits : All (FitsKeys specs) entries
+
+-- each table of a signature can be built of what fills it
+abbrev pub AllCanBuild : Signature → Entries → Type 0
+AllCanBuild signature entries =
+    AllZip (λ (table : TableSig) (fill : TableFill). CanBuild table.keys fill.entries) signature.tables entries.tables
