@@ -41,10 +41,9 @@ use Rattle.p414_ast.specs.declared.syntax.Decl.TheVariants as decl
 use Rattle.p414_ast.specs.declared.syntax.Sort.{Sort}
 use Rattle.p414_ast.specs.declared.syntax.Sort.TheVariants as sort
 use Rattle.p414_ast.specs.Tree.{Expr, valid, field, Stmt, apply, apply_branches, if_then, call, branch}
-use Rattle.p414_ast.specs.Views.{TailTree}
-use Rattle.p414_ast.specs.Written.{tail_expr}
+use Rattle.p414_ast.specs.Views.{HeaderTypeTree}
 use Rattle.p414_ast.specs.Subtrees.{subexpressions, subtrees}
-use Rattle.p414_ast.specs.Attributes.{initials_of, direct_table_of}
+use Rattle.p414_ast.specs.Attributes.{length_of, max_length_of, initials_of, direct_table_of}
 use Rattle.p414_rules.specs.declared.place.ArgumentPlace.{ArgumentPlace}
 use Rattle.p414_rules.specs.declared.place.ArgumentPlace.TheVariants as place
 use Rattle.p414_rules.specs.Names.{Name, has_name}
@@ -85,8 +84,9 @@ own_operand _ = []
 abbrev pub uses_of_expr : Expr → List Use
 uses_of_expr e = flat_map own_operand (subexpressions e)
 
-abbrev pub uses_of_tail : TailTree → List Use
-uses_of_tail t = uses_of_expr (tail_expr t)
+-- the expressions behind `length` and `max_length`
+abbrev pub tail_expressions : HeaderTypeTree → List Expr
+tail_expressions t = option_to_list (length_of t.tails) ++ option_to_list (max_length_of t.tails)
 
 -- metadata: an initial value is that of a field of the instance's type
 
@@ -186,11 +186,20 @@ uses_of_arg parameters p (arg.Number n) = []
 uses_of_arg parameters p (arg.Field r) = of_field r ∷ []
 uses_of_arg parameters p (arg.Instance i) = uses_of_named parameters p i
 
+-- the first of these places, and those behind it
+abbrev pub first_place : List ArgumentPlace → Option ArgumentPlace
+first_place [] = None
+first_place (p ∷ ps) = Some p
+
+abbrev pub further_places : List ArgumentPlace → List ArgumentPlace
+further_places [] = []
+further_places (p ∷ ps) = ps
+
 -- the arguments of a primitive, one place after another
 abbrev pub uses_of_args : List Name → List ArgumentPlace → List Arg → List Use
 uses_of_args parameters ps [] = []
-uses_of_args parameters [] (a ∷ args) = uses_of_arg parameters None a ++ uses_of_args parameters [] args
-uses_of_args parameters (p ∷ ps) (a ∷ args) = uses_of_arg parameters (Some p) a ++ uses_of_args parameters ps args
+uses_of_args parameters ps (a ∷ args) =
+    uses_of_arg parameters (first_place ps) a ++ uses_of_args parameters (further_places ps) args
 
 -- each argument of an action that a program declares is a source
 abbrev pub uses_of_sources : List Name → List Arg → List Use
@@ -251,7 +260,7 @@ own_uses _ = []
 
 -- all uses in a declaration
 abbrev pub uses_of : Decl → List Use
-uses_of (decl.HeaderType x) = flat_map uses_of_tail x.tails
+uses_of (decl.HeaderType x) = flat_map uses_of_expr (tail_expressions x)
 uses_of (decl.Header x) = of_sort sort.HeaderType x.header_type ∷ []
 uses_of (decl.Metadata x) =
     of_sort sort.HeaderType x.header_type ∷ map (use_of_initial x.header_type) (initials_of x.initials)
