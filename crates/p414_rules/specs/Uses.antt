@@ -175,16 +175,16 @@ uses_of_placed (Some p) i = uses_of_bare p i
 uses_of_placed None i = []
 
 -- A name by itself that is a parameter means the parameter. What has an index is an instance.
-abbrev pub uses_of_named : List Name → Option ArgumentPlace → Inst → List Use
-uses_of_named parameters p i =
+abbrev pub uses_of_named : (Name → Bool) → Option ArgumentPlace → Inst → List Use
+uses_of_named is_parameter p i =
     if is_some i.index then of_instance i ∷ []
-    else if has_name parameters i.name then []
+    else if is_parameter i.name then []
     else uses_of_placed p i
 
-abbrev pub uses_of_arg : List Name → Option ArgumentPlace → Arg → List Use
-uses_of_arg parameters p (arg.Number n) = []
-uses_of_arg parameters p (arg.Field r) = of_field r ∷ []
-uses_of_arg parameters p (arg.Instance i) = uses_of_named parameters p i
+abbrev pub uses_of_arg : (Name → Bool) → Option ArgumentPlace → Arg → List Use
+uses_of_arg is_parameter p (arg.Number n) = []
+uses_of_arg is_parameter p (arg.Field r) = of_field r ∷ []
+uses_of_arg is_parameter p (arg.Instance i) = uses_of_named is_parameter p i
 
 -- the first of these places, and those behind it
 abbrev pub first_place : List ArgumentPlace → Option ArgumentPlace
@@ -196,25 +196,25 @@ further_places [] = []
 further_places (p ∷ ps) = ps
 
 -- the arguments of a primitive, one place after another
-abbrev pub uses_of_args : List Name → List ArgumentPlace → List Arg → List Use
-uses_of_args parameters ps [] = []
-uses_of_args parameters ps (a ∷ args) =
-    uses_of_arg parameters (first_place ps) a ++ uses_of_args parameters (further_places ps) args
+abbrev pub uses_of_args : (Name → Bool) → List ArgumentPlace → List Arg → List Use
+uses_of_args is_parameter ps [] = []
+uses_of_args is_parameter ps (a ∷ args) =
+    uses_of_arg is_parameter (first_place ps) a ++ uses_of_args is_parameter (further_places ps) args
 
 -- each argument of an action that a program declares is a source
-abbrev pub uses_of_sources : List Name → List Arg → List Use
-uses_of_sources parameters args = flat_map (uses_of_arg parameters (Some place.Source)) args
+abbrev pub uses_of_sources : (Name → Bool) → List Arg → List Use
+uses_of_sources is_parameter args = flat_map (uses_of_arg is_parameter (Some place.Source)) args
 
-abbrev pub uses_of_arguments : List Name → Name → List Arg → List Use
-uses_of_arguments parameters callee args =
-    if is_any_primitive callee then uses_of_args parameters (primitive_places callee) args
-    else uses_of_sources parameters args
+abbrev pub uses_of_arguments : (Name → Bool) → Name → List Arg → List Use
+uses_of_arguments is_parameter callee args =
+    if is_any_primitive callee then uses_of_args is_parameter (primitive_places callee) args
+    else uses_of_sources is_parameter args
 
-abbrev pub uses_of_call : List Name → Call → List Use
-uses_of_call parameters c = of_action c.name ∷ uses_of_arguments parameters c.name c.arguments
+abbrev pub uses_of_call : (Name → Bool) → Call → List Use
+uses_of_call is_parameter c = of_action c.name ∷ uses_of_arguments is_parameter c.name c.arguments
 
 abbrev pub uses_of_declared_action : Action → List Use
-uses_of_declared_action a = flat_map (uses_of_call a.parameters) a.calls
+uses_of_declared_action a = flat_map (uses_of_call (has_name a.parameters)) a.calls
 
 -- tables: what a table lists is an action that the program declares; its default may be a primitive, which a higher
 -- rule judges
