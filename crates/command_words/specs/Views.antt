@@ -1,0 +1,22 @@
+-- How contracts see the commands of the code.
+use Rattle.std.specs.Prelude.{option_map}
+use Rattle.command_words.specs.declared.command.CarryNames.{CarryNames}
+use Rattle.command_words.specs.declared.command.Command.{Command as Read}
+use Rattle.command_words.specs.declared.command.Command.TheVariants.{Carry}
+use Rattle.command_words.specs.Words.{CarryFiles, Command, carry}
+
+-- the files that names are of
+abbrev pub files_of : CarryNames → CarryFiles
+files_of n = record {
+  program = n.program.now;
+  entries = n.entries.now;
+  capture = n.capture.now;
+  ports = option_map (λ name. name.now) n.ports;
+  text = n.text.now;
+  sent = n.sent.now;
+  report = n.report.now;
+}
+
+-- the command that was read
+abbrev pub command_of : Read → Command
+command_of (Carry names) = carry (files_of names)
