@@ -9,31 +9,17 @@ use Rattle.pcap_io.specs.declared.head.Head.{Head}
 use Rattle.pcap_io.specs.declared.records.Record.{Record}
 use Rattle.pcap_io.specs.Captures.{Reading, IsCapture, refused, captured_length, record_of, is_too_long, is_whole, behind, ending, records_in, opened, head_of, reading_of, refusal, refusal_by, refusal_in, arrivals_of}
 use Rattle.pcap_io.specs.Sent.{sent_bytes_of}
-use Rattle.p4x_cmd.specs.declared.stop.Limited.TheVariants.{Capture}
-use Rattle.p4x_cmd.specs.declared.stop.Stop.{Stop}
-use Rattle.p4x_cmd.specs.declared.stop.Stop.TheVariants.{Fault, Usage, Program, Entries, Refused, Limit, Memory}
+use Rattle.file_work.specs.declared.stop.Limited.TheVariants.{Capture}
+use Rattle.file_work.specs.declared.stop.Stop.{Stop}
+use Rattle.file_work.specs.declared.stop.Stop.TheVariants.{Fault, Usage, Program, Entries, Refused, Limit, Memory}
+use Rattle.file_work.proofs.Ends.{stop_in, not_done}
 use Rattle.p4x_cmd.specs.Calls.{CaptureIs, GivesNothing, IsOver}
 use Rattle.p4x_cmd.specs.Carry.{Reports, capture_limit, stopped, run_reports, reading_reports, capture_reports}
 use Rattle.p4x_cmd.specs.Meaning16.{Run16}
 use Rattle.p4x_cmd.specs.Passes.{Ran}
 use Rattle.p4x_cmd.specs.Reports.{sent_lines, report_of, carried_line_of}
 use Rattle.p4x_cmd.specs.Runs.{this_run}
-use Rattle.p4x_cmd.specs.Stops.{code_of, stop_code}
-
--- what stops the work, if anything does
-abbrev pub stop_in : Result (List ℕ) Stop → Option Stop
-stop_in (Ok line) = None
-stop_in (Err stop) = Some stop
-
--- a stop has another status than 0
-pub not_done : (stop : Stop) → 0 ≡ stop_code stop → ⊥
-not_done Fault is = omega arith
-not_done Usage is = omega arith
-not_done Program is = omega arith
-not_done Entries is = omega arith
-not_done (Refused fault) is = omega arith
-not_done (Limit file) is = omega arith
-not_done Memory is = omega arith
+use Rattle.file_work.specs.Stops.{code_of}
 
 -- What stops the command at the capture, if anything does.
 

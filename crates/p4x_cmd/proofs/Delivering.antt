@@ -10,14 +10,14 @@ use Rattle.p4x_io.proofs.Desks.{grown_none}
 use Rattle.fabric.specs.declared.packets.Arrival.{Arrival}
 use Rattle.pcap_io.specs.Captures.{Reading, reading_of, refusal_by, refusal_in, arrivals_of}
 use Rattle.p4x_cmd.specs.declared.one_table.OneTable16.{OneTable16}
-use Rattle.p4x_cmd.specs.declared.stop.Limited.TheVariants as limited
-use Rattle.p4x_cmd.specs.declared.stop.Stop.{Stop}
-use Rattle.p4x_cmd.specs.declared.stop.Stop.TheVariants.{Fault, Refused, Limit, Memory}
+use Rattle.file_work.specs.declared.stop.Limited.TheVariants as limited
+use Rattle.file_work.specs.declared.stop.Stop.{Stop}
+use Rattle.file_work.specs.declared.stop.Stop.TheVariants.{Fault, Refused, Limit, Memory}
 use Rattle.p4x_cmd.specs.Carry.{Reports, capture_limit, capture_reports, reading_reports, run_reports, stopped}
 use Rattle.p4x_cmd.specs.internal.Phases.{Delivers}
 use Rattle.p4x_cmd.specs.Forms16.{program16}
-use Rattle.p4x_cmd.specs.Outcomes.{IsLoose}
-use Rattle.p4x_cmd.specs.internal.Phases.{GrownByFront, line_view}
+use Rattle.file_work.specs.Works.{IsLoose}
+use Rattle.file_work.specs.Phases.{GrownByFront, line_view}
 use Rattle.p4x_cmd.specs.Passes.{Pass, Ran}
 use Rattle.p4x_cmd.specs.Reports.{end_lines, carried_line_of}
 use Rattle.p4x_cmd.specs.Runs.{this_run}

@@ -1,40 +1,21 @@
 -- What `carry` leaves at each of its exits.
-use Rattle.std.proofs.Common.{◌≡◌, inl, inr, ℕ, List, [], length, take, Option, Some, Result, Err, refl, sym, ◌∙◌, ap, arith}
-use Rattle.std.proofs.lemmas.List.{take_all}
+use Rattle.std.proofs.Common.{◌≡◌, inl, inr, ℕ, List, [], Option, Some, Result, Err, refl, ◌∙◌, ap}
 use Rattle.p416_ast.specs.declared.syntax.Syntax16.{Syntax16}
-use Rattle.p4x_io.specs.Desk.{DeskView, put, grown}
-use Rattle.p4x_io.proofs.Desks.{grown-put}
+use Rattle.p4x_io.specs.Desk.{DeskView, put}
+use Rattle.file_work.specs.declared.stop.Stop.{Stop}
+use Rattle.file_work.specs.declared.stop.Stop.TheVariants.{Fault}
+use Rattle.file_work.specs.Phases.{Loosely}
+use Rattle.file_work.specs.Works.{IsPart, Leaves}
+use Rattle.file_work.proofs.Files.{part_whole, part_empty, put_whole, put_part}
+use Rattle.command_words.specs.Words.{CarryFiles, carry_outputs}
 use Rattle.p4x_cmd.specs.declared.one_table.OneTable14.{OneTable14}
-use Rattle.p4x_cmd.specs.declared.stop.Stop.{Stop}
-use Rattle.p4x_cmd.specs.declared.stop.Stop.TheVariants.{Fault}
 use Rattle.p4x_cmd.specs.Carry.{CarryDue, StopsBefore, Begins, Written, Reports, capture_reports, untouched, delivered}
 use Rattle.p4x_cmd.specs.internal.Phases.{Delivers}
-use Rattle.p4x_cmd.specs.Outcomes.{IsPart, Leaves}
-use Rattle.p4x_cmd.specs.internal.Phases.{GrownByFront, Loosely}
-use Rattle.p4x_cmd.specs.Words.{Files, outputs_of}
 
-pub part_whole : (old new : Option (Option (List ℕ))) (content : List ℕ) → new ≡ put old content → IsPart old new (Some content)
-part_whole old new content is = inr (length content, is ∙ ap (put old) (sym (take_all (length content) content (omega arith))))
-
--- an empty file holds a front of any content
-pub part_empty : (old new : Option (Option (List ℕ))) (content : List ℕ) → IsPart old new (Some []) → IsPart old new (Some content)
-part_empty old new content (inl same) = inl same
-part_empty old new content (inr some) = inr (0, some.1 ∙ ap (put old) (no_front some.0))
-  where
-    no_front : (n : ℕ) → take n [] ≡ take 0 content
-    no_front n = sym (ap (λ (l : List ℕ). take n l) refl) ∙ take_all n [] (omega arith)
-
--- a file that was made and has grown
-pub put_whole : (old mid new : Option (Option (List ℕ))) (content : List ℕ) → mid ≡ put old [] → new ≡ grown mid content → new ≡ put old content
-put_whole old mid new content made now = now ∙ ap (λ t. grown t content) made ∙ grown-put old [] content
-
-pub put_part : (old mid new : Option (Option (List ℕ))) (content : List ℕ) → mid ≡ put old [] → GrownByFront mid content new → IsPart old new (Some content)
-put_part old mid new content made some = inr (some.0, put_whole old mid new (take some.0 content) made some.1)
-
-module _ (f : Files) (files : List ℕ → Option (List ℕ)) (old new : DeskView) where
+module _ (f : CarryFiles) (files : List ℕ → Option (List ℕ)) (old new : DeskView) where
   -- nothing was touched
   pub left_early : (stop : Stop) → Loosely stop (StopsBefore f files stop) → new.told f.text ≡ old.told f.text → new.told f.sent ≡ old.told f.sent → new.told f.report ≡ old.told f.report
-      → Leaves (outputs_of f) (CarryDue f files) (Err stop) old new
+      → Leaves (carry_outputs f) (CarryDue f files) (Err stop) old new
   left_early stop (inl fault) text sent report = inr (inl (inl (ap (λ x. Err x) fault), (text, (sent, (report, tt)))))
   left_early stop (inr (inl memory)) text sent report = inr (inl (inr (ap (λ x. Err x) memory), (text, (sent, (report, tt)))))
   left_early stop (inr (inr is)) text sent report = inl (untouched f stop, inl (stop, is, refl), refl, (text, (sent, (report, tt))))
@@ -42,14 +23,14 @@ module _ (f : Files) (files : List ℕ → Option (List ℕ)) (old new : DeskVie
   -- a fault while the files were made or the text was appended
   part_begun : (text : List ℕ) (r : Reports) → CarryDue f files (delivered f text r)
       → IsPart (old.told f.text) (new.told f.text) (Some text) → IsPart (old.told f.sent) (new.told f.sent) (Some []) → IsPart (old.told f.report) (new.told f.report) (Some [])
-      → Leaves (outputs_of f) (CarryDue f files) (Err Fault) old new
+      → Leaves (carry_outputs f) (CarryDue f files) (Err Fault) old new
   part_begun text r due wrote sent report = inr (inr (inl refl, (delivered f text r, due, (wrote, (part_empty _ _ r.sent sent, (part_empty _ _ r.report report, tt))))))
 
   -- the text was written, and then the capture was run
   run_whole : (text : List ℕ) (r : Reports) → CarryDue f files (delivered f text r) → (end : Result (List ℕ) Stop) (mid : DeskView)
       → new.told f.text ≡ put (old.told f.text) text → mid.told f.sent ≡ put (old.told f.sent) [] → mid.told f.report ≡ put (old.told f.report) []
       → Delivers r end (mid.told f.sent) (new.told f.sent) (mid.told f.report) (new.told f.report)
-      → Leaves (outputs_of f) (CarryDue f files) end old new
+      → Leaves (carry_outputs f) (CarryDue f files) end old new
   run_whole text r due end mid wrote sent report (inl d) =
       inl (delivered f text r, due, d.0, (wrote, (put_whole _ _ _ r.sent sent d.1, (put_whole _ _ _ r.report report d.2, tt))))
   run_whole text r due end mid wrote sent report (inr d) =
@@ -61,11 +42,11 @@ module _ (f : Files) (files : List ℕ → Option (List ℕ)) (old new : DeskVie
     due_of r is = inr (p, ports, text, s, begins, written, ap (delivered f text) is)
 
     pub left_begin : IsPart (old.told f.text) (new.told f.text) (Some text) → IsPart (old.told f.sent) (new.told f.sent) (Some []) → IsPart (old.told f.report) (new.told f.report) (Some [])
-        → Leaves (outputs_of f) (CarryDue f files) (Err Fault) old new
+        → Leaves (carry_outputs f) (CarryDue f files) (Err Fault) old new
     left_begin = part_begun text (capture_reports s ports (files f.capture)) (due_of _ refl)
 
     pub left_run : (end : Result (List ℕ) Stop) (mid : DeskView)
         → new.told f.text ≡ put (old.told f.text) text → mid.told f.sent ≡ put (old.told f.sent) [] → mid.told f.report ≡ put (old.told f.report) []
         → Delivers (capture_reports s ports (files f.capture)) end (mid.told f.sent) (new.told f.sent) (mid.told f.report) (new.told f.report)
-        → Leaves (outputs_of f) (CarryDue f files) end old new
+        → Leaves (carry_outputs f) (CarryDue f files) end old new
     left_run = run_whole text (capture_reports s ports (files f.capture)) (due_of _ refl)

@@ -1,13 +1,15 @@
+pub mod Blaming
 pub mod Captured
 pub mod Carrying
 pub mod Causes
 pub mod Delivering
 pub mod Dividing
 pub mod Filling
-pub mod Forms
 pub mod HeaderLaws
 pub mod Judging14
 pub mod Left
+pub mod Named
+pub mod Packets
 pub mod Pass16
 pub mod Phases
 pub mod Pieces

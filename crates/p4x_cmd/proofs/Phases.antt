@@ -1,37 +1,13 @@
 -- How the phases of `carry` that only read follow one another.
-use Rattle.std.proofs.Common.{◌≡◌, inl, inr, ℕ, List, [], ◌∷◌, Option, Result, Err, ◌∙◌}
-use Rattle.p4x_io.specs.Desk.{DeskView, Moves}
-use Rattle.p4x_io.proofs.Desks.{rose_since}
+use Rattle.std.proofs.Common.{◌≡◌, inl, inr, ℕ, List, Option, Err}
+use Rattle.file_work.specs.declared.stop.Stop.{Stop}
+use Rattle.file_work.specs.Phases.{Loosely}
+use Rattle.command_words.specs.Words.{CarryFiles}
 use Rattle.p4x_cmd.specs.declared.one_table.OneTable14.{OneTable14}
-use Rattle.p4x_cmd.specs.declared.stop.Stop.{Stop}
 use Rattle.p4x_cmd.specs.Carry.{HasProgram, StopsBefore, ports_end}
-use Rattle.p4x_cmd.specs.Outcomes.{Blames, Tells, ReadsRose}
-use Rattle.p4x_cmd.specs.internal.Phases.{Loosely}
-use Rattle.p4x_cmd.specs.Words.{Files}
-
--- what the desk tells stays, where nothing is written
-pub tells_on : (names : List (List ℕ)) (old new : DeskView) (files : List ℕ → Option (List ℕ)) → Moves [] old new → Tells names old files → Tells names new files
-tells_on [] old new files moves told = tt
-tells_on (name ∷ names) old new files moves told = (moves.others name tt ∙ told.0, tells_on names old new files moves told.1)
-
--- a read count that rose behind some calls
-pub reads_since : (outs names : List (List ℕ)) (a b c : DeskView) → Moves outs a b → ReadsRose names b c → ReadsRose names a c
-reads_since outs [] a b c moves rose = rose
-reads_since outs (name ∷ names) a b c moves (inl rose) = inl (rose_since _ _ _ (moves.reads name) rose)
-reads_since outs (name ∷ names) a b c moves (inr rose) = inr (reads_since outs names a b c moves rose)
-
--- what is blamed, by what follows from it
-pub blames_as : {A B : Type 0} (stop : Stop) (P Q : Type 0) → (P → Q) → Blames {A = A} (Err stop) P → Blames {A = B} (Err stop) Q
-blames_as {A} {B} stop P Q so blames = record {
-  fault = λ is. so (blames.fault (again _ is));
-  usage = λ is. blames.usage (again _ is);
-}
-  where
-    again : (other : Stop) → ◌≡◌ {A = Result B Stop} (Err stop) (Err other) → ◌≡◌ {A = Result A Stop} (Err stop) (Err other)
-    again other is = cc
 
 -- the ports stop the command
-pub stops_at_ports : (f : Files) (files : List ℕ → Option (List ℕ)) (p : OneTable14) (stop : Stop) → HasProgram f files p → Loosely stop (ports_end files f.ports ≡ Err stop) → Loosely stop (StopsBefore f files stop)
+pub stops_at_ports : (f : CarryFiles) (files : List ℕ → Option (List ℕ)) (p : OneTable14) (stop : Stop) → HasProgram f files p → Loosely stop (ports_end files f.ports ≡ Err stop) → Loosely stop (StopsBefore f files stop)
 stops_at_ports f files p stop has (inl fault) = inl fault
 stops_at_ports f files p stop has (inr (inl memory)) = inr (inl memory)
 stops_at_ports f files p stop has (inr (inr is)) = inr (inr (inr (inr (p, has, is))))

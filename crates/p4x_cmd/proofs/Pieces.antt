@@ -3,6 +3,7 @@ use Rattle.std.proofs.Common.{◌≡◌, ◌⊎◌, inl, inr, ℕ, suc, ◌+◌,
 use Rattle.std.proofs.lemmas.Bool.Decides.{nat_tests}
 use Rattle.std.proofs.lemmas.List.{append-nil, take_all, take-append-le, take-append-drop}
 use Rattle.std.specs.List.{All}
+use Rattle.std.proofs.lemmas.List.Elements.{All-append}
 use Rattle.std.proofs.Math.Seq.{take-append-add}
 use Rattle.p4x_fault.specs.declared.Fault.{Fault as Refusal}
 use Rattle.p4x_io.specs.Desk.{grown}
@@ -14,10 +15,10 @@ use Rattle.pcap_io.specs.Reader.{fed, fed_by}
 use Rattle.pcap_io.proofs.Feeding.{fed_more}
 use Rattle.pcap_io.proofs.Opening.{unread}
 use Rattle.fabric.specs.declared.packets.Arrival.{Arrival}
-use Rattle.p4x_cmd.specs.declared.stop.Stop.{Stop}
-use Rattle.p4x_cmd.specs.declared.stop.Stop.TheVariants.{Fault, Refused, Memory}
+use Rattle.file_work.specs.declared.stop.Stop.{Stop}
+use Rattle.file_work.specs.declared.stop.Stop.TheVariants.{Fault, Refused, Memory}
 use Rattle.p4x_cmd.specs.Carry.{capture_limit}
-use Rattle.p4x_cmd.specs.internal.Phases.{GrownByFront}
+use Rattle.file_work.specs.Phases.{GrownByFront}
 use Rattle.p4x_cmd.specs.declared.stream.Plain.{Plain}
 use Rattle.p4x_cmd.specs.Passes.{Pass}
 use Rattle.p4x_cmd.specs.internal.Plain.{plain_pass}
@@ -139,6 +140,9 @@ module _ (pass : Arrival → Pass) (ports octets piece : List ℕ) (unbroken : (
         stream_is = now ∙ ap emptied (stream_added ran) ∙ ap emptied (sym later_is);
         sent_is = grown_whole sent sent0 sent1 whole.sent stream1.sent later.sent (later_sent ran) so.sent_is now_sent;
         report_is = grown_whole report report0 report1 whole.report stream1.report later.report (later_report ran) so.report_is now_report;
+        known =
+            subst (λ (r : Reading). All IsRecord r.records) (sym reading_is)
+            (All-append IsRecord (reading_of octets).records (more pass ports octets piece).records so.known (subst (λ (r : Reading). All IsRecord r.records) (read_is ∙ fed_is) ran.0));
       },
     )
 
@@ -240,13 +244,14 @@ streamed_start pass ports sent report reader stream unread started =
       stream_is = started ∙ sym (ap emptied view);
       sent_is = sym (grown_none sent) ∙ ap (λ (v : View). grown sent v.sent) (sym view);
       report_is = sym (grown_none report) ∙ ap (λ (v : View). grown report v.report) (sym view);
+      known = subst (λ (r : Reading). All IsRecord r.records) (sym nothing) (λ k d inside. absurd (omega arith));
     }
 
 -- the same with other names of the files, which are as they were
 pub streamed_still : (pass : Arrival → Pass) (ports octets : List ℕ) (sent report sent' report' sent'' report'' : Option (Option (List ℕ))) (reader : Reading) (stream : View)
     → sent'' ≡ sent' → report'' ≡ report' → Streamed pass ports octets sent report sent' report' reader stream → Streamed pass ports octets sent report sent'' report'' reader stream
 streamed_still pass ports octets sent report sent' report' sent'' report'' reader stream same_sent same_report so =
-    record { reader_is = so.reader_is; stream_is = so.stream_is; sent_is = same_sent ∙ so.sent_is; report_is = same_report ∙ so.report_is }
+    record { reader_is = so.reader_is; stream_is = so.stream_is; sent_is = same_sent ∙ so.sent_is; report_is = same_report ∙ so.report_is; known = so.known }
 
 front_split : (octets text : List ℕ) → take (length octets) text ≡ octets → text ≡ octets ++ drop (length octets) text
 front_split octets text front = sym (take-append-drop (length octets) text) ∙ ap (λ (l : List ℕ). l ++ drop (length octets) text) front

@@ -3,24 +3,18 @@ use Rattle.std.proofs.Common.{◌≡◌, ◌⊎◌, inl, inr, ◌≤◌, ℕ, na
 use Rattle.p4x_fault.specs.declared.Fault.{Fault as Refusal}
 use Rattle.pcap_io.specs.Ports.{ports_of}
 use Rattle.p4x_cmd.specs.declared.one_table.OneTable14.{OneTable14}
-use Rattle.p4x_cmd.specs.declared.stop.Limited.TheVariants.{Ports, Capture}
-use Rattle.p4x_cmd.specs.declared.stop.Stop.{Stop}
-use Rattle.p4x_cmd.specs.declared.stop.Stop.TheVariants.{Fault, Usage, Program, Entries, Refused, Limit, Memory}
-use Rattle.p4x_cmd.specs.Calls.{ComesWhere, Accepts, RefusesProgram, RefusesEntries, RefusesPorts, RefusesCapture, OverPorts, OverCapture}
+use Rattle.file_work.specs.declared.stop.Limited.TheVariants.{Ports, Capture}
+use Rattle.file_work.specs.declared.stop.Stop.{Stop}
+use Rattle.file_work.specs.declared.stop.Stop.TheVariants.{Fault, Usage, Program, Entries, Refused, Limit, Memory}
+use Rattle.p4x_cmd.specs.Calls.{CarryStatuses, Accepts, RefusesProgram, RefusesEntries, RefusesPorts, RefusesCapture, OverPorts, OverCapture}
 use Rattle.p4x_cmd.specs.Carry.{CarryDue, ProgramIs, IsRefused, HasProgram, Begins, StopsBefore, entries_stop, taken_ports, ports_in, ports_end, ports_limit, program_limit}
-use Rattle.p4x_cmd.specs.Outcomes.{Due}
-use Rattle.p4x_cmd.specs.Stops.{code_of, stop_code}
-use Rattle.p4x_cmd.specs.Words.{Files}
-use Rattle.p4x_cmd.proofs.Captured.{stop_in, capture_stop, reports_stop, CaptureEnd, capture_ends, capture_taken, capture_over}
-
--- the status that comes of what stops the work, if anything does
-abbrev code_at : Option Stop → ℕ
-code_at None = 0
-code_at (Some stop) = stop_code stop
-
-code_stop : (end : Result (List ℕ) Stop) → code_of end ≡ code_at (stop_in end)
-code_stop (Ok line) = refl
-code_stop (Err stop) = refl
+use Rattle.file_work.specs.Clauses.{ComesWhere}
+use Rattle.file_work.specs.Works.{Due}
+use Rattle.file_work.proofs.Ends.{stop_in, code_at, code_stop}
+use Rattle.file_work.proofs.Ways.{Ends, Known, comes_where}
+use Rattle.file_work.specs.Stops.{code_of, stop_code}
+use Rattle.command_words.specs.Words.{CarryFiles}
+use Rattle.p4x_cmd.proofs.Captured.{capture_stop, reports_stop, CaptureEnd, capture_ends, capture_taken, capture_over}
 
 -- What the file of the program can come to.
 
@@ -89,7 +83,7 @@ ports_ends files (Some name) = in_file (files name)
     in_file None = tt
     in_file (Some text) = by_limit (nat_lt ports_limit (length text)) text
 
-module _ (f : Files) (files : List ℕ → Option (List ℕ)) where
+module _ (f : CarryFiles) (files : List ℕ → Option (List ℕ)) where
   -- The work stops here, or nowhere.
   abbrev Comes : Option Stop → Type 0
   Comes end =
@@ -181,46 +175,41 @@ module _ (f : Files) (files : List ℕ → Option (List ℕ)) where
   cause_of end (inl early) = subst (λ (x : Option Stop). CauseOf (code_at x)) (sym early.2) (early_cause early.0 early.1)
   cause_of end (inr went) = subst (λ (x : Option Stop). CauseOf (code_at x)) (sym went.3) (capture_cause went.0 went.1 went.2 (capture_stop (files f.capture)) (capture_ends (files f.capture)))
 
-  -- the work ends with this status
-  abbrev Ends : ℕ → Type 0
-  Ends code = (end : Option Stop) × Comes end × (code ≡ code_at end)
+  abbrev pub EndsSo : ℕ → Type 0
+  EndsSo code = Ends Comes CauseOf code
 
-  pub program_ends : RefusesProgram f files → Ends 3
+  pub program_ends : RefusesProgram f files → EndsSo 3
   program_ends is = (Some Program, inl (Program, inl is, refl), refl)
 
-  pub entries_end : RefusesEntries f files → Ends 4
+  pub entries_end : RefusesEntries f files → EndsSo 4
   entries_end is = (Some Entries, inl (Entries, inr (inl is), refl), refl)
 
-  pub refused_ends : RefusesPorts f files ⊎ RefusesCapture f files → Ends 5
+  pub refused_ends : RefusesPorts f files ⊎ RefusesCapture f files → EndsSo 5
   refused_ends (inl is) = (Some (Refused is.2.0), inl (Refused is.2.0, inr (inr (is.0, is.1, is.2.1)), refl), refl)
   refused_ends (inr is) = (Some (Refused is.3.0), inr (is.0, is.1, is.2, sym (capture_taken (files f.capture) (Some is.3.0) is.3.1)), refl)
 
-  pub over_ends : OverPorts f files ⊎ OverCapture f files → Ends 6
+  pub over_ends : OverPorts f files ⊎ OverCapture f files → EndsSo 6
   over_ends (inl is) = (Some (Limit Ports), inl (Limit Ports, inr (inr is), refl), refl)
   over_ends (inr is) = (Some (Limit Capture), inr (is.0, is.1, is.2, sym (capture_over (files f.capture) is.3)), refl)
 
-  pub accepted_ends : Accepts f files → Ends 0
+  pub accepted_ends : Accepts f files → EndsSo 0
   accepted_ends is = (None, inr (is.0, is.1, is.2, sym (capture_taken (files f.capture) None is.3)), refl)
 
-  -- what a call knows of its status
-  abbrev pub Known : ℕ → Type 0
-  Known status = (status ≡ 1) ⊎ (status ≡ 7) ⊎ Ends status
+  abbrev pub KnownSo : ℕ → Type 0
+  KnownSo status = Known Comes CauseOf status
 
-  pub due_ends : (status : ℕ) (d : Due) → CarryDue f files d → status ≡ code_of d.end → Ends status
+  pub due_ends : (status : ℕ) (d : Due) → CarryDue f files d → status ≡ code_of d.end → EndsSo status
   due_ends status d due is = (stop_in d.end, due_comes d due, is ∙ code_stop d.end)
 
-  -- a status other than 1 and 7 comes exactly where its cause holds, since no two causes hold at once
-  pub comes_where : (status code : ℕ) → (code ≡ 1 → ⊥) → (code ≡ 7 → ⊥) → Known status → (CauseOf code → Ends code) → ComesWhere status code (CauseOf code)
-  comes_where status code not_one not_seven known ends = (forth known, back known)
-    where
-      forth : Known status → status ≡ code → CauseOf code
-      forth (inl one) is = absurd (not_one (sym is ∙ one))
-      forth (inr (inl seven)) is = absurd (not_seven (sym is ∙ seven))
-      forth (inr (inr here)) is = subst (λ (n : ℕ). CauseOf n) (sym here.2 ∙ is) (cause_of here.0 here.1)
+  pub comes : (status code : ℕ) → (code ≡ 1 → ⊥) → (code ≡ 7 → ⊥) → KnownSo status → (CauseOf code → EndsSo code) → ComesWhere status code (CauseOf code)
+  comes = comes_where Comes CauseOf comes_once cause_of
 
-      back : Known status → CauseOf code → (status ≡ code) ⊎ (status ≡ 1) ⊎ (status ≡ 7)
-      back (inl one) cause = inr (inl one)
-      back (inr (inl seven)) cause = inr (inr seven)
-      back (inr (inr here)) cause =
-          let due : Ends code = ends cause in
-          inl (here.2 ∙ ap code_at (comes_once here.0 due.0 here.1 due.1) ∙ sym due.2)
+  -- each status comes exactly where its cause holds
+  pub statuses_are : (status : ℕ) → KnownSo status → CarryStatuses f files status
+  statuses_are status known = record {
+    accepted = comes status 0 (λ e. omega arith) (λ e. omega arith) known accepted_ends;
+    program = comes status 3 (λ e. omega arith) (λ e. omega arith) known program_ends;
+    entries = comes status 4 (λ e. omega arith) (λ e. omega arith) known entries_end;
+    refused = comes status 5 (λ e. omega arith) (λ e. omega arith) known refused_ends;
+    limit = comes status 6 (λ e. omega arith) (λ e. omega arith) known over_ends;
+  }

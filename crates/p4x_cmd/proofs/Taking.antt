@@ -2,7 +2,7 @@
 use Rattle.std.proofs.Common.{◌≡◌, ℕ, ◌<◌, List, [], ◌∷◌, length, true, false, Option, Some, None, refl, arith}
 use Rattle.std.specs.Bool.{IsTrue}
 use Rattle.std.specs.Prelude.{◌↔◌}
-use Rattle.p4x_cmd.specs.declared.stop.Stop.TheVariants.{Entries}
+use Rattle.file_work.specs.declared.stop.Stop.TheVariants.{Entries}
 use Rattle.p4x_cmd.specs.Carry.{entries_stop}
 
 pub entries_none : (file : Option (List ℕ)) → (file ≡ None → ⊥) → ((text : List ℕ) → file ≡ Some text → IsTrue false ↔ (0 < length text)) → entries_stop file ≡ None

@@ -1,9 +1,10 @@
 -- What holds of the text of a program that was made from another one.
-use Rattle.std.proofs.Common.{◌≡◌, true, ℕ, List, Option, Some, None, Ok, sym, ◌∙◌, ap, subst}
+use Rattle.std.proofs.Common.{◌≡◌, true, ℕ, List, Option, Some, None, Ok, refl, sym, ◌∙◌, ap, subst}
 use Rattle.p4x_cmd.specs.declared.one_table.OneTable14.{OneTable14}
 use Rattle.p4x_cmd.specs.declared.one_table.OneTable16.{OneTable16}
 use Rattle.p4x_cmd.specs.Carries.{Carries}
 use Rattle.p4x_cmd.specs.Carry.{ProgramIs, Written}
+use Rattle.p4x_cmd.specs.FirstCut.{is_first_cut}
 use Rattle.p4x_cmd.specs.Forms14.{is_one_table}
 use Rattle.p4x_cmd.specs.Forms16.{Reads16, program16}
 use Rattle.p4x_cmd.specs.internal.Lowering.{lowered}
@@ -11,6 +12,11 @@ use Rattle.p4x_cmd.specs.Typed16.{is_well_typed}
 use Rattle.p4x_cmd.proofs.Carrying.{carries_is}
 use Rattle.p4x_cmd.proofs.Reading16.{reads16_once}
 use Rattle.p4x_cmd.proofs.Typing16.{well_typed_is}
+
+-- a program of the one-table form is one on which the meaning is whole
+first_cut_is : (q : OneTable16) → is_first_cut (program16 q) ≡ true
+unfolding program16
+first_cut_is q = refl
 
 taken_form : (program : Option (List ℕ)) (p : OneTable14) → ProgramIs program (Ok p) → is_one_table p ≡ true
 taken_form None p is = absurd is
@@ -23,5 +29,6 @@ written_is program p q text is same reads =
       reads = reads;
       only = λ other r. reads16_once text other (program16 q) r reads;
       typed = ap (λ (x : OneTable16). is_well_typed (program16 x)) same ∙ well_typed_is p form;
+      whole = first_cut_is q;
       carries = subst (λ (x : OneTable16). Carries p (program16 x)) (sym same) (carries_is p form);
     }

@@ -1,59 +1,48 @@
--- What a call of the program comes to, by its words (this project's own).
-use Rattle.std.specs.Prelude.{◌≡◌, ◌⊎◌, ◌<◌, ◌≤◌, ◌%◌, ◌^◌, ℕ, Bool, List, [], length, Option, Some, None, Result, Ok, Err}
+-- What the clauses of `p4x` say, by its words (this project's own).
+use Rattle.std.specs.Prelude.{◌≡◌, ◌⊎◌, ◌<◌, ◌≤◌, ◌%◌, ◌^◌, ℕ, Bool, List, [], ◌∷◌, All, length, Option, Some, None, Result, Ok, Err, OnOk}
 use Rattle.p416_ast.specs.declared.syntax.Syntax16.{Syntax16}
 use Rattle.p4x_fault.specs.declared.Fault.{Fault as Refusal}
 use Rattle.p4x_io.specs.Desk.{DeskView, SinkView, Rose, put, said}
-use Rattle.p4x_io.specs.Files.{Says}
+use Rattle.command_words.specs.Words.{CarryFiles, Command, carry, carry_inputs, carry_outputs, inputs_of, outputs_of}
+use Rattle.file_work.specs.declared.stop.Limited.TheVariants as limited
+use Rattle.file_work.specs.declared.stop.Stop.{Stop}
+use Rattle.file_work.specs.declared.stop.Stop.TheVariants.{Usage, Program, Entries, Refused, Limit}
+use Rattle.file_work.specs.Clauses.{ComesWhere, EndsAsDue, OwnRose, OnlyThese, Fronts, AsDue}
+use Rattle.file_work.specs.Works.{Held, Due, Works, AllKept, Tells}
+use Rattle.fabric.specs.Numbers.{IsArrival}
 use Rattle.fabric.specs.declared.packets.Arrival.{Arrival}
-use Rattle.pcap_io.specs.Captures.{IsCapture, refused, refusal}
+use Rattle.pcap_io.specs.Captures.{IsCapture, reading_of, arrivals_of, refused, refusal}
 use Rattle.pcap_io.specs.Sent.{sent_bytes_of}
 use Rattle.match_core.specs.Signatures.{IsSignature}
 use Rattle.match_core.specs.Fits.{Fits}
 use Rattle.p4x_cmd.specs.declared.one_table.OneTable14.{OneTable14}
-use Rattle.p4x_cmd.specs.declared.stop.Limited.TheVariants as limited
-use Rattle.p4x_cmd.specs.declared.stop.Stop.{Stop}
-use Rattle.p4x_cmd.specs.declared.stop.Stop.TheVariants.{Usage, Program, Entries, Refused, Limit}
-use Rattle.p4x_cmd.specs.Carry.{CarryDue, ProgramIs, HasProgram, Begins, Written, entries_stop, ports_end, capture_limit, capture_reports}
-use Rattle.p4x_cmd.specs.Forms14.{Reads14}
-use Rattle.p4x_cmd.specs.Outcomes.{Held, Due, Works, AllExact, AllPart, AllKept, DeskRose}
-use Rattle.p4x_cmd.specs.Reports.{report_of, carried_line_of}
+use Rattle.p4x_cmd.specs.Carries.{SameRuns}
+use Rattle.p4x_cmd.specs.Carry.{CarryDue, ProgramIs, HasProgram, Begins, StopsBefore, Written, entries_stop, ports_end, capture_limit, capture_reports}
 use Rattle.p4x_cmd.specs.Entries.{no_entries}
+use Rattle.p4x_cmd.specs.Forms14.{Reads14}
 use Rattle.p4x_cmd.specs.Meaning16.{signature16}
 use Rattle.p4x_cmd.specs.Passes.{Ran}
-use Rattle.p4x_cmd.specs.Runs.{this_run}
-use Rattle.p4x_cmd.specs.Stops.{line_of, code_of, stop_line, stop_code}
-use Rattle.p4x_cmd.specs.Words.{Files, inputs_of, outputs_of}
+use Rattle.p4x_cmd.specs.Reports.{report_of, carried_line_of}
+use Rattle.p4x_cmd.specs.Runs.{this_run, this_run14}
 
--- the work of any words: those of `carry`, or words that are no form of a command
-abbrev pub WorksFor : Option Files → DeskView → DeskView → Result (List ℕ) Stop → Type 0
-WorksFor None old new end = (end ≡ Err Usage) × (new ≡ old)
-WorksFor (Some f) old new end = Works (inputs_of f) (outputs_of f) (CarryDue f) old new end
+-- The premise of what is said of content: the words are a form of this command, and the desk tells what its input files
+-- hold.
+abbrev pub OnTold : Option Command → DeskView → (Command → Held → Type 0) → Type 0
+OnTold found old P = (c : Command) (files : Held) → found ≡ Some c → Tells (inputs_of c) old files → P c files
 
--- What a call comes to: the work ends, with its files, and then the line of its end is printed.
-pub record Outcome (found : Option Files) (old new : DeskView) (before after : SinkView) (status : ℕ) : Type 0 where
-  pub end : Result (List ℕ) Stop
-  pub works : WorksFor found old new end
-  pub says : Says (line_of end) (code_of end) status before after
+-- the desk tells of these files whether they are there, and what they hold
+abbrev pub AreTold : List (List ℕ) → DeskView → Type 0
+AreTold [] desk = Unit {0}
+AreTold (name ∷ names) desk = (desk.told name ≡ None → ⊥) × AreTold names desk
 
--- an own count of the call rose
-abbrev pub OwnRose : Option Files → DeskView → DeskView → SinkView → SinkView → Type 0
-OwnRose None old new before after = Rose before.writes after.writes
-OwnRose (Some f) old new before after = DeskRose (inputs_of f) (outputs_of f) old new ⊎ Rose before.writes after.writes
-
--- The status, the line that was printed and the files are those of something that is due.
-pub record IsDue (f : Files) (files : Held) (old new : DeskView) (before after : SinkView) (status : ℕ) : Type 0 where
-  pub what : Due
-  pub due : CarryDue f files what
-  pub code : status ≡ code_of what.end
-  pub line : after.printed ≡ said before.printed (line_of what.end)
-  pub outs : AllExact what.outs old new
+-- The clause `carried`.
 
 -- The program was carried. It is the one program that its file reads as. The text that stands in its file reads as one
 -- well-typed program of P4_16 which does with every packet, on all entries and under every bound, what the program of
--- P4_14 does. The capture is a whole one, with these packets on the ports that were named; and the sent file, the
--- report and the line that was printed are those of the written program's run over them, with entries that fit its
--- signature, which is well formed.
-pub record Carried (f : Files) (files : Held) (old new : DeskView) (before after : SinkView) : Type 0 where
+-- P4_14 does. The capture is a whole one, with these packets on the ports that were named. The sent file, the report and
+-- the line that was printed are those of the written program's run over them, with entries that fit its signature, which
+-- is well formed; and this run is the one that the program of P4_14 makes of them.
+pub record Carried (f : CarryFiles) (files : Held) (new : DeskView) (before after : SinkView) : Type 0 where
   pub source : OneTable14
   pub ports : List ℕ
   pub text : List ℕ
@@ -68,37 +57,41 @@ pub record Carried (f : Files) (files : Held) (old new : DeskView) (before after
   pub capture : files f.capture ≡ Some octets
   pub fits : length octets ≤ capture_limit
   pub whole : IsCapture octets ports link nano arrivals
+  pub packets : All IsArrival arrivals
   pub formed : IsSignature (signature16 program)
   pub given : Fits (no_entries (signature16 program)) (signature16 program)
   pub ran : Ran
   pub runs : ran ≡ this_run program arrivals
-  pub text_is : new.told f.text ≡ put (old.told f.text) text
-  pub sent_is : new.told f.sent ≡ put (old.told f.sent) (sent_bytes_of link nano arrivals ran.sent)
+  pub same : SameRuns (this_run14 source arrivals) ran
+  pub text_is : new.told f.text ≡ Some (Some text)
+  pub sent_is : new.told f.sent ≡ Some (Some (sent_bytes_of link nano arrivals ran.sent))
   pub report_is : new.told f.report
-      ≡ put (old.told f.report) (report_of (length arrivals) ran.sent (ran.cut % 2 ^ 64) (ran.work % 2 ^ 64))
+      ≡ Some (Some (report_of (length arrivals) ran.sent (ran.cut % 2 ^ 64) (ran.work % 2 ^ 64)))
   pub line_is : after.printed
       ≡ said before.printed (carried_line_of (length arrivals) (length ran.sent) (ran.cut % 2 ^ 64))
 
--- The status comes where its cause holds, and nowhere else. Only a fault or want of memory may come in its place.
-abbrev pub ComesWhere : ℕ → ℕ → Type 0 → Type 0
-ComesWhere status code cause = (status ≡ code → cause) × (cause → (status ≡ code) ⊎ (status ≡ 1) ⊎ (status ≡ 7))
+-- what status 0 says of a command
+abbrev pub Done : Command → Held → DeskView → SinkView → SinkView → Type 0
+Done (carry f) files new before after = Carried f files new before after
+
+-- The clauses `statuses` and `complete`: the cause of each status.
 
 -- the program isn't taken
-abbrev pub RefusesProgram : Files → Held → Type 0
+abbrev pub RefusesProgram : CarryFiles → Held → Type 0
 RefusesProgram f files = ProgramIs (files f.program) (Err Program)
 
 -- the program is taken, and the entries aren't
-abbrev pub RefusesEntries : Files → Held → Type 0
+abbrev pub RefusesEntries : CarryFiles → Held → Type 0
 RefusesEntries f files =
     (p : OneTable14) × ProgramIs (files f.program) (Ok p) × (entries_stop (files f.entries) ≡ Some Entries)
 
 -- the program and the entries are taken, and a P rule holds of the ports
-abbrev pub RefusesPorts : Files → Held → Type 0
+abbrev pub RefusesPorts : CarryFiles → Held → Type 0
 RefusesPorts f files =
     (p : OneTable14) × HasProgram f files p × ((fault : Refusal) × (ports_end files f.ports ≡ Err (Refused fault)))
 
 -- the program and the entries are taken, and the ports file is over its limit
-abbrev pub OverPorts : Files → Held → Type 0
+abbrev pub OverPorts : CarryFiles → Held → Type 0
 OverPorts f files = (p : OneTable14) × HasProgram f files p × (ports_end files f.ports ≡ Err (Limit limited.Ports))
 
 -- the capture is there, not over its limit, and this is the first of its K rules that holds, if any
@@ -107,7 +100,7 @@ CaptureIs None found = ⊥
 CaptureIs (Some octets) found = (length octets ≤ capture_limit) × (refusal octets ≡ found)
 
 -- the files before the capture are taken, and a K rule holds of it
-abbrev pub RefusesCapture : Files → Held → Type 0
+abbrev pub RefusesCapture : CarryFiles → Held → Type 0
 RefusesCapture f files =
     (p : OneTable14) × (ports : List ℕ) × Begins f files p ports
     × ((fault : Refusal) × CaptureIs (files f.capture) (Some fault))
@@ -118,20 +111,47 @@ IsOver None = ⊥
 IsOver (Some octets) = capture_limit < length octets
 
 -- the files before the capture are taken, and it is over its limit
-abbrev pub OverCapture : Files → Held → Type 0
+abbrev pub OverCapture : CarryFiles → Held → Type 0
 OverCapture f files = (p : OneTable14) × (ports : List ℕ) × Begins f files p ports × IsOver (files f.capture)
 
 -- all are taken
-abbrev pub Accepts : Files → Held → Type 0
+abbrev pub Accepts : CarryFiles → Held → Type 0
 Accepts f files = (p : OneTable14) × (ports : List ℕ) × Begins f files p ports × CaptureIs (files f.capture) None
 
--- The line of a stop with this status is printed whole, or else the sink failed. Statuses 5 and 6 have several lines,
--- the others one.
-abbrev pub Prints : ℕ → SinkView → SinkView → Type 0
-Prints status before after =
-    (status ≡ 0)
-    ⊎ ((stop : Stop) × (status ≡ stop_code stop) × (after.printed ≡ said before.printed (stop_line stop)))
-    ⊎ Rose before.writes after.writes
+-- The statuses of `carry`, each with its cause: the first in the order of the work.
+pub record CarryStatuses (f : CarryFiles) (files : Held) (status : ℕ) : Type 0 where
+  pub accepted : ComesWhere status 0 (Accepts f files)
+  pub program : ComesWhere status 3 (RefusesProgram f files)
+  pub entries : ComesWhere status 4 (RefusesEntries f files)
+  pub refused : ComesWhere status 5 (RefusesPorts f files ⊎ RefusesCapture f files)
+  pub limit : ComesWhere status 6 (OverPorts f files ⊎ OverCapture f files)
+
+-- the table of a command's statuses
+abbrev pub Statuses : Command → Held → ℕ → Type 0
+Statuses (carry f) files status = CarryStatuses f files status
+
+-- all input files of a command are taken
+abbrev pub AcceptsAll : Command → Held → Type 0
+AcceptsAll (carry f) files = Accepts f files
+
+-- The clauses `usage` and `fault`.
+
+-- the files that words name as inputs and as outputs; none where they are no form
+abbrev pub inputs_in : Option Command → List (List ℕ)
+inputs_in None = []
+inputs_in (Some c) = inputs_of c
+
+abbrev pub outputs_in : Option Command → List (List ℕ)
+outputs_in None = []
+outputs_in (Some c) = outputs_of c
+
+-- Words that are no form have status 2, or 1 where the sink failed, and the desk is as it was. No others have status 2.
+abbrev pub Usages : Option Command → DeskView → DeskView → SinkView → SinkView → ℕ → Type 0
+Usages None old new before after status =
+    ((status ≡ 2) ⊎ ((status ≡ 1) × Rose before.writes after.writes)) × (new ≡ old)
+Usages (Some c) old new before after status = status ≡ 2 → ⊥
+
+-- The clause `files`.
 
 -- nothing of the capture is run: one of the rules K1 to K3 is the first that holds of it, or it is over its limit
 abbrev pub GivesNothing : Option (List ℕ) → Type 0
@@ -139,7 +159,7 @@ GivesNothing file = ((rule : ℕ) × (rule ≤ 3) × CaptureIs file (Some (refus
 
 -- The text was written and the capture refused: the text is whole, and the sent file and the report hold what the whole
 -- records before the refused one give. They are empty where nothing of the capture is run.
-pub record Translated (f : Files) (files : Held) (old new : DeskView) : Type 0 where
+pub record Translated (f : CarryFiles) (files : Held) (old new : DeskView) : Type 0 where
   pub source : OneTable14
   pub ports : List ℕ
   pub text : List ℕ
@@ -152,6 +172,45 @@ pub record Translated (f : Files) (files : Held) (old new : DeskView) : Type 0 w
   pub empty : GivesNothing (files f.capture)
       → (new.told f.sent ≡ put (old.told f.sent) []) × (new.told f.report ≡ put (old.told f.report) [])
 
--- each output is as it was, or holds a front of its content as it is due
-abbrev pub Fronts : Files → Held → DeskView → DeskView → Type 0
-Fronts f files old new = AllKept (outputs_of f) old new ⊎ ((d : Due) × CarryDue f files d × AllPart d.outs old new)
+-- What the output files of `carry` hold. Where the program, the entries or the ports aren't taken, none is made or
+-- changed, whatever the status. Where the capture isn't taken, the text is whole, and the others hold what the whole
+-- records in front give. With every status each is as it was, or holds a front of its content; but for 1 and 7 it is
+-- exactly as it is due.
+pub record CarryLeft (f : CarryFiles) (files : Held) (old new : DeskView) (status : ℕ) : Type 0 where
+  pub kept : (stop : Stop) → StopsBefore f files stop → AllKept (carry_outputs f) old new
+  pub translated : RefusesCapture f files ⊎ OverCapture f files → (status ≡ 5) ⊎ (status ≡ 6)
+      → Translated f files old new
+  pub fronts : Fronts (carry_outputs f) (CarryDue f files) old new
+  pub as_due : AsDue (CarryDue f files) old new status
+
+-- the output files of a command
+abbrev pub Left : Command → Held → DeskView → DeskView → ℕ → Type 0
+Left (carry f) files old new status = CarryLeft f files old new status
+
+-- no file but the outputs changes, and where the inputs are told the outputs are these
+pub record FilesLeft (found : Option Command) (old new : DeskView) (status : ℕ) : Type 0 where
+  pub only : OnlyThese (outputs_in found) old new
+  pub outputs : OnTold found old (λ c files. Left c files old new status)
+
+-- The clauses `line` and `outcome`.
+
+-- what is due for what the input files of a command hold
+abbrev pub DueOf : Command → Held → Due → Type 0
+DueOf (carry f) files d = CarryDue f files d
+
+-- how the work of any words ends: as it is due, or with a fault or want of memory
+abbrev pub IsEnd : Option Command → DeskView → Result (List ℕ) Stop → Type 0
+IsEnd None old end = end ≡ Err Usage
+IsEnd (Some c) old end = (files : Held) → Tells (inputs_of c) old files → EndsAsDue (DueOf c files) end
+
+-- the packets of a capture that was run to its end are such as come in
+abbrev pub PacketsFit : CarryFiles → DeskView → Result (List ℕ) Stop → Type 0
+PacketsFit f old end = OnOk end ((files : Held) (octets ports : List ℕ) → Tells (carry_inputs f) old files
+    → files f.capture ≡ Some octets → ports_end files f.ports ≡ Ok ports
+    → All IsArrival (arrivals_of ports (reading_of octets).records))
+
+-- the work of any words: that of a command, or words that are no form
+abbrev pub WorksFor : Option Command → DeskView → DeskView → Result (List ℕ) Stop → Type 0
+WorksFor None old new end = (end ≡ Err Usage) × (new ≡ old)
+WorksFor (Some (carry f)) old new end =
+    Works (carry_inputs f) (carry_outputs f) (CarryDue f) old new end × PacketsFit f old end

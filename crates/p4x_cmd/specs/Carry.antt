@@ -9,18 +9,19 @@ use Rattle.pcap_io.specs.Captures.{Reading, reading_of, refusal_in, arrivals_of}
 use Rattle.pcap_io.specs.Ports.{ports_of}
 use Rattle.pcap_io.specs.Sent.{sent_bytes_of}
 use Rattle.p4x_cmd.specs.declared.one_table.OneTable14.{OneTable14}
-use Rattle.p4x_cmd.specs.declared.stop.Limited.TheVariants as limited
-use Rattle.p4x_cmd.specs.declared.stop.Stop.{Stop}
-use Rattle.p4x_cmd.specs.declared.stop.Stop.TheVariants.{Fault, Program, Entries, Refused, Limit}
+use Rattle.file_work.specs.declared.stop.Limited.TheVariants as limited
+use Rattle.file_work.specs.declared.stop.Stop.{Stop}
+use Rattle.file_work.specs.declared.stop.Stop.TheVariants.{Fault, Program, Entries, Refused, Limit}
 use Rattle.p4x_cmd.specs.Carries.{Carries}
 use Rattle.p4x_cmd.specs.Typed16.{is_well_typed}
+use Rattle.p4x_cmd.specs.FirstCut.{is_first_cut}
 use Rattle.p4x_cmd.specs.Forms14.{Reads14}
 use Rattle.p4x_cmd.specs.Forms16.{Reads16}
-use Rattle.p4x_cmd.specs.Outcomes.{Held, Due}
+use Rattle.file_work.specs.Works.{Held, Due}
 use Rattle.p4x_cmd.specs.Passes.{Ran}
 use Rattle.p4x_cmd.specs.Reports.{sent_lines, report_of, carried_line_of}
 use Rattle.p4x_cmd.specs.Runs.{this_run}
-use Rattle.p4x_cmd.specs.Words.{Files}
+use Rattle.command_words.specs.Words.{CarryFiles}
 
 -- the greatest length in octets of a program
 abbrev pub program_limit : ℕ
@@ -73,26 +74,27 @@ ports_end files None = Ok []
 ports_end files (Some name) = ports_in (files name)
 
 -- the command has a program, and entries that are taken
-abbrev pub HasProgram : Files → Held → OneTable14 → Type 0
+abbrev pub HasProgram : CarryFiles → Held → OneTable14 → Type 0
 HasProgram f files p = ProgramIs (files f.program) (Ok p) × (entries_stop (files f.entries) ≡ None)
 
 -- the command stops before it writes anything: at the program, at the entries or at the ports
-abbrev pub StopsBefore : Files → Held → Stop → Type 0
+abbrev pub StopsBefore : CarryFiles → Held → Stop → Type 0
 StopsBefore f files stop =
     ProgramIs (files f.program) (Err stop)
     ⊎ ((p : OneTable14) × ProgramIs (files f.program) (Ok p) × (entries_stop (files f.entries) ≡ Some stop))
     ⊎ ((p : OneTable14) × HasProgram f files p × (ports_end files f.ports ≡ Err stop))
 
 -- the command has a program, entries that are taken, and these ports
-abbrev pub Begins : Files → Held → OneTable14 → List ℕ → Type 0
+abbrev pub Begins : CarryFiles → Held → OneTable14 → List ℕ → Type 0
 Begins f files p ports = HasProgram f files p × (ports_end files f.ports ≡ Ok ports)
 
--- The text reads as this program of P4_16, and as no other; the program is well-typed, and it carries the program of
--- P4_14.
+-- The text reads as this program of P4_16, and as no other; the program is well-typed, it is one on which the meaning is
+-- whole, and it carries the program of P4_14.
 pub record Written (p : OneTable14) (text : List ℕ) (s : Syntax16) : Type 0 where
   pub reads : Reads16 text s
   pub only : (other : Syntax16) → Reads16 text other → other ≡ s
   pub typed : is_well_typed s ≡ true
+  pub whole : is_first_cut s ≡ true
   pub carries : Carries p s
 
 -- what a capture comes to: the sent file, the report, and the line of the command or why it stops
@@ -138,11 +140,11 @@ capture_reports s ports (Some octets) =
     else reading_reports s ports (reading_of octets)
 
 -- nothing is written
-abbrev pub untouched : Files → Stop → Due
+abbrev pub untouched : CarryFiles → Stop → Due
 untouched f stop = record { outs = (f.text, None) ∷ (f.sent, None) ∷ (f.report, None) ∷ []; end = Err stop }
 
 -- the text is written, and with it what the capture comes to
-abbrev pub delivered : Files → List ℕ → Reports → Due
+abbrev pub delivered : CarryFiles → List ℕ → Reports → Due
 delivered f text r = record {
   outs = (f.text, Some text) ∷ (f.sent, Some r.sent) ∷ (f.report, Some r.report) ∷ [];
   end = r.end;
@@ -150,7 +152,7 @@ delivered f text r = record {
 
 -- What is due: the first cause in the order of the work, or a text that reads as one program, with the files of this
 -- program's run.
-abbrev pub CarryDue : Files → Held → Due → Type 0
+abbrev pub CarryDue : CarryFiles → Held → Due → Type 0
 CarryDue f files d =
     ((stop : Stop) × StopsBefore f files stop × (d ≡ untouched f stop))
     ⊎ ((p : OneTable14) × (ports : List ℕ) × (text : List ℕ) × (s : Syntax16) × Begins f files p ports

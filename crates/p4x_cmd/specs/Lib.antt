@@ -1,11 +1,9 @@
 -- What the clauses of `p4x` say. Read in this order.
 --
--- What a call comes to:
+-- What a call comes to (`command_words` says which words are which command, and `file_work` what a call says of any
+-- command):
 --   Calls      what each clause says: `Carried`, the cause of each status, the line, and what stands in the files
---   Outcomes   the same for any command: what is due, and what it leaves
---   Words      the words of the command line, and the files that they name
 --   Carry      what is due for the files that `carry` reads: what stops it, and the written text with this run's files
---   Stops      the status and the line of what stops it
 --   Runs       the run over the capture
 --   Reports    the report and the line of a run
 --
@@ -14,6 +12,7 @@
 --   Passes     what a run over arrivals gives
 --   Meaning14  what the P4_14 program does with a packet
 --   Meaning16  what the P4_16 program does with a packet
+--   FirstCut   the programs on which that is the whole meaning
 --   Entries    what stands in the tables
 --   Headers    the bits of a header's fields
 --   Forms14    which text reads as which P4_14 program
@@ -28,6 +27,7 @@ pub mod Carries
 pub mod Carry
 pub mod Division
 pub mod Entries
+pub mod FirstCut
 pub mod Forms14
 pub mod Forms16
 pub mod Headers
@@ -35,10 +35,7 @@ pub mod internal
 pub mod Kinds16
 pub mod Meaning14
 pub mod Meaning16
-pub mod Outcomes
 pub mod Passes
 pub mod Reports
 pub mod Runs
-pub mod Stops
 pub mod Typed16
-pub mod Words

@@ -1,15 +1,21 @@
--- The run of a program over the packets of a capture, as the command makes it (this project's own).
+-- The runs of programs over the packets of a capture, as the command makes them (this project's own).
 use Rattle.std.specs.Prelude.{ℕ, List}
 use Rattle.p416_ast.specs.declared.syntax.Syntax16.{Syntax16}
 use Rattle.fabric.specs.declared.packets.Arrival.{Arrival}
+use Rattle.p4x_cmd.specs.declared.one_table.OneTable14.{OneTable14}
 use Rattle.p4x_cmd.specs.Passes.{Ran}
 use Rattle.p4x_cmd.specs.Entries.{no_entries}
+use Rattle.p4x_cmd.specs.Meaning14.{Run14, signature14}
 use Rattle.p4x_cmd.specs.Meaning16.{Run16, signature16}
 
 -- the bound on the passes of a packet that holds where no other is given
 abbrev pub default_bound : ℕ
 default_bound = 256
 
--- the run without entries over these arrivals
+-- the run of a program of P4_16 without entries over these arrivals
 abbrev pub this_run : Syntax16 → List Arrival → Ran
 this_run s arrivals = Run16 s (no_entries (signature16 s)) default_bound arrivals
+
+-- the same of a program of P4_14
+abbrev pub this_run14 : OneTable14 → List Arrival → Ran
+this_run14 p arrivals = Run14 p (no_entries (signature14 p)) default_bound arrivals

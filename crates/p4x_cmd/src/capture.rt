@@ -1,24 +1,24 @@
 // The capture, as it is read and run.
-ghost use Rattle.std.specs.Prelude.{◌≡◌, ◌≤◌, ◌⊎◌, ◌∷◌, ◌++◌, [], ℕ, List, Some, None, Option, Ok, Err, IfErr, OnOk, OnErr, MatchResult, All};
+ghost use Rattle.std.specs.Prelude.{◌≡◌, ◌≢◌, ◌≤◌, ◌⊎◌, ◌∷◌, ◌++◌, [], ℕ, List, Some, None, Option, Ok, Err, IfErr, OnOk, OnErr, MatchResult, All};
 ghost use Rattle.state_store.specs.Ports.{IsPort, drop_port};
 ghost use Rattle.p4x_fault.specs.declared.Fault.{Fault as Refusal};
 ghost use Rattle.fabric.specs.declared.packets.Arrival.{Arrival};
 ghost use Rattle.p4x_io.specs.Desk.{Rose, Moves, grown};
-ghost use Rattle.pcap_io.specs.Captures.{reading_of, refusal_in};
+ghost use Rattle.pcap_io.specs.Captures.{reading_of, refusal_in, IsRecord};
 ghost use Rattle.p4x_cmd.specs.Carry.{capture_limit, capture_reports};
 ghost use Rattle.p4x_cmd.specs.internal.Phases.{Delivers};
 ghost use Rattle.p4x_cmd.specs.Forms16.{program16};
-ghost use Rattle.p4x_cmd.specs.Outcomes.{Blames};
-ghost use Rattle.p4x_cmd.specs.internal.Phases.{GrownByFront, line_view};
+ghost use Rattle.file_work.specs.Works.{Blames};
+ghost use Rattle.file_work.specs.Phases.{GrownByFront, line_view};
 ghost use Rattle.p4x_cmd.specs.Passes.{Pass};
 ghost use Rattle.p4x_cmd.specs.internal.Plain.{IsSized};
 ghost use Rattle.p4x_cmd.specs.Reports.{end_lines, carried_line_of};
 ghost use Rattle.p4x_cmd.specs.internal.Streams.{view_of, start, emptied, nothing_read, Agrees, Streamed, PieceEnds, PiecesEnd};
 
-use crate::names::Names;
 use crate::one_table::OneTable16;
-use crate::stop::{Limited, Stop};
 use crate::stream::{Counts, Plain, Stream, carried_line, end_part, plain_of};
+use command_words::CarryNames;
+use file_work::{Limited, Stop};
 use p4x_io::{Desk, PIECE, append_all, has_octet};
 use pcap_io::{CaptureFault, CaptureReader};
 use std::alloc::Global;
@@ -27,7 +27,8 @@ use std::alloc::Global;
 const CAPTURE_LIMIT: u64 = 1073741824;
 
 // Appends what the run hasn't appended yet.
-fn flush<D: Desk>(desk: &mut D, names: &Names<'_>, stream: &mut Stream<'_>) -> Result<(), Stop>
+fn flush<D: Desk>(desk: &mut D, names: &CarryNames<'_>, stream: &mut Stream<'_>) -> Result<(), Stop>
+    requires apart { names.now.sent.now ≢ names.now.report.now }
     requires sent_there { (D.view desk.old).told names.now.sent.now ≡ Some None → ⊥ }
     requires report_there { (D.view desk.old).told names.now.report.now ≡ Some None → ⊥ }
     ensures moves { Moves (names.now.sent.now ∷ names.now.report.now ∷ []) (D.view desk.old) (D.view desk.new) }
@@ -51,7 +52,7 @@ fn flush<D: Desk>(desk: &mut D, names: &Names<'_>, stream: &mut Stream<'_>) -> R
 // Runs the packets whose records end in a piece of the capture.
 fn run_piece<D: Desk>(
     desk: &mut D,
-    names: &Names<'_>,
+    names: &CarryNames<'_>,
     plain: Plain,
     piece: &[u8],
     reader: &mut CaptureReader,
@@ -60,6 +61,7 @@ fn run_piece<D: Desk>(
     requires bits { plain.bits ≤ 8192 }
     requires port { plain.port ≤ drop_port }
     requires ports { All IsPort stream.old.ports.now }
+    requires apart { names.now.sent.now ≢ names.now.report.now }
     requires sent_there { (D.view desk.old).told names.now.sent.now ≡ Some None → ⊥ }
     requires report_there { (D.view desk.old).told names.now.report.now ≡ Some None → ⊥ }
     ensures moves { Moves (names.now.sent.now ∷ names.now.report.now ∷ []) (D.view desk.old) (D.view desk.new) }
@@ -81,7 +83,7 @@ fn run_piece<D: Desk>(
 // Reads the capture in pieces, and runs each packet as soon as its record is whole.
 fn run_pieces<D: Desk>(
     desk: &mut D,
-    names: &Names<'_>,
+    names: &CarryNames<'_>,
     plain: Plain,
     reader: &mut CaptureReader,
     stream: &mut Stream<'_>,
@@ -91,6 +93,7 @@ fn run_pieces<D: Desk>(
     requires ports { All IsPort stream.old.ports.now }
     requires reader { reader.old ≡ nothing_read }
     requires stream { view_of stream.old ≡ start stream.old.ports.now }
+    requires apart { names.now.sent.now ≢ names.now.report.now }
     requires sent_there { (D.view desk.old).told names.now.sent.now ≡ Some None → ⊥ }
     requires report_there { (D.view desk.old).told names.now.report.now ≡ Some None → ⊥ }
     ensures moves { Moves (names.now.sent.now ∷ names.now.report.now ∷ []) (D.view desk.old) (D.view desk.new) }
@@ -130,7 +133,7 @@ fn end_capture(reader: &CaptureReader) -> Result<(), Stop>
 fn end_report<D: Desk>(
     alloc: Global,
     desk: &mut D,
-    names: &Names<'_>,
+    names: &CarryNames<'_>,
     counts: Counts,
 ) -> Result<Vec<u8>, Stop>
     requires there { (D.view desk.old).told names.now.report.now ≡ Some None → ⊥ }
@@ -151,17 +154,19 @@ fn end_report<D: Desk>(
 pub(crate) fn run_capture<D: Desk>(
     alloc: Global,
     desk: &mut D,
-    names: &Names<'_>,
+    names: &CarryNames<'_>,
     program: &OneTable16,
     ports: &[u128],
 ) -> Result<Vec<u8>, Stop>
     requires sized { IsSized program.now }
     requires ports { All IsPort ports.now }
+    requires apart { names.now.sent.now ≢ names.now.report.now }
     requires sent_there { (D.view desk.old).told names.now.sent.now ≡ Some None → ⊥ }
     requires report_there { (D.view desk.old).told names.now.report.now ≡ Some None → ⊥ }
     ensures moves { Moves (names.now.sent.now ∷ names.now.report.now ∷ []) (D.view desk.old) (D.view desk.new) }
     ensures gives { (file : Option (List ℕ)) → (D.view desk.old).told names.now.capture.now ≡ Some file
         → Delivers (capture_reports (program16 program.now) ports.now file) (line_view result) ((D.view desk.old).told names.now.sent.now) ((D.view desk.new).told names.now.sent.now) ((D.view desk.old).told names.now.report.now) ((D.view desk.new).told names.now.report.now) }
+    ensures known { OnOk result ((text : List ℕ) → (D.view desk.old).told names.now.capture.now ≡ Some (Some text) → All IsRecord (reading_of text).records) }
     ensures cause { Blames result (Rose ((D.view desk.old).reads names.now.capture.now) ((D.view desk.new).reads names.now.capture.now)
         ⊎ Rose ((D.view desk.old).writes names.now.sent.now) ((D.view desk.new).writes names.now.sent.now)
         ⊎ Rose ((D.view desk.old).writes names.now.report.now) ((D.view desk.new).writes names.now.report.now)) }

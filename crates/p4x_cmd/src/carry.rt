@@ -1,25 +1,26 @@
 // The command `carry`.
-ghost use Rattle.std.specs.Prelude.{◌≡◌, ◌≤◌, ◌⊎◌, ◌∷◌, [], ℕ, List, true, Some, None, Option, Ok, Err, IfOk, OnOk, OnErr, IfErr, MatchResult, All, option_to_list};
+ghost use Rattle.std.specs.Prelude.{◌≡◌, ◌≢◌, ◌≤◌, ◌⊎◌, ◌∷◌, [], ℕ, List, true, Some, None, Option, Ok, Err, IfOk, OnOk, OnErr, IfErr, MatchResult, All, option_to_list};
 ghost use Rattle.state_store.specs.Ports.{IsPort};
 ghost use Rattle.p4x_io.specs.Desk.{Rose, Moves, put, grown};
 ghost use Rattle.p4x_cmd.specs.declared.one_table.OneTable14.{OneTable14};
+ghost use Rattle.p4x_cmd.specs.Calls.{PacketsFit};
 ghost use Rattle.p4x_cmd.specs.Carry.{ProgramIs, entries_stop, ports_in, ports_end, StopsBefore, Begins, CarryDue};
 ghost use Rattle.p4x_cmd.specs.Forms14.{is_one_table};
 ghost use Rattle.p4x_cmd.specs.Forms16.{program16, Reads16};
 ghost use Rattle.p4x_cmd.specs.internal.Lowering.{lowered};
-ghost use Rattle.p4x_cmd.specs.Outcomes.{Blames, DeskRose, ReadsRose, Tells, Leaves, Works, IsPart};
-ghost use Rattle.p4x_cmd.specs.internal.Phases.{GrownByFront, Loosely, line_view};
+ghost use Rattle.file_work.specs.Works.{Blames, DeskRose, ReadsRose, Tells, Leaves, Works, IsPart};
+ghost use Rattle.file_work.specs.Phases.{GrownByFront, Loosely, line_view};
 ghost use Rattle.p4x_cmd.specs.internal.Plain.{IsSized};
-ghost use Rattle.p4x_cmd.specs.Words.{inputs_of, outputs_of};
-ghost use Rattle.p4x_cmd.specs.internal.Views.{files_of};
+ghost use Rattle.command_words.specs.Words.{carry_inputs, carry_outputs};
+ghost use Rattle.command_words.specs.Views.{files_of};
 
 use crate::capture::run_capture;
 use crate::lowering::lower;
-use crate::names::Names;
 use crate::one_table::{OneTable14, OneTable16};
 use crate::reader::read14;
-use crate::stop::{Limited, Stop};
 use crate::writer::write16;
+use command_words::CarryNames;
+use file_work::{Limited, Stop};
 use p4x_bits::{Numbers, Octets, OutOfMemory};
 use p4x_io::{Desk, Failed, ReadFault, append_all, has_octet, read_file};
 use pcap_io::PortFault;
@@ -97,16 +98,16 @@ fn translate(alloc: Global, program: &OneTable14) -> Result<Translation, OutOfMe
 }
 
 // Reads and judges the program, the entries and the ports, and makes the text in memory.
-fn prepare<D: Desk>(alloc: Global, desk: &mut D, names: &Names<'_>) -> Result<Beginning, Stop>
+fn prepare<D: Desk>(alloc: Global, desk: &mut D, names: &CarryNames<'_>) -> Result<Beginning, Stop>
     ensures moves { Moves [] (D.view desk.old) (D.view desk.new) }
-    ensures stops { (files : List ℕ → Option (List ℕ)) → Tells (inputs_of (files_of names.now)) (D.view desk.old) files
+    ensures stops { (files : List ℕ → Option (List ℕ)) → Tells (carry_inputs (files_of names.now)) (D.view desk.old) files
         → IfErr result (λ e. Loosely e (StopsBefore (files_of names.now) files e)) }
-    ensures begins { (files : List ℕ → Option (List ℕ)) → Tells (inputs_of (files_of names.now)) (D.view desk.old) files
+    ensures begins { (files : List ℕ → Option (List ℕ)) → Tells (carry_inputs (files_of names.now)) (D.view desk.old) files
         → IfOk result (λ w. (p : OneTable14) × Begins (files_of names.now) files p w.ports × (w.program ≡ lowered p)) }
     ensures text { IfOk result (λ w. Reads16 w.text (program16 w.program)) }
     ensures sized { IfOk result (λ w. IsSized w.program) }
     ensures fits { IfOk result (λ w. All IsPort w.ports) }
-    ensures cause { Blames result (ReadsRose (inputs_of (files_of names.now)) (D.view desk.old) (D.view desk.new)) }
+    ensures cause { Blames result (ReadsRose (carry_inputs (files_of names.now)) (D.view desk.old) (D.view desk.new)) }
 {
     let program = read_program(alloc, desk, names.program)?;
     check_entries(desk, names.entries)?;
@@ -120,7 +121,10 @@ fn prepare<D: Desk>(alloc: Global, desk: &mut D, names: &Names<'_>) -> Result<Be
 }
 
 // Makes the three files, and appends the text.
-fn begin<D: Desk>(desk: &mut D, names: &Names<'_>, text: &[u8]) -> Result<(), Stop>
+fn begin<D: Desk>(desk: &mut D, names: &CarryNames<'_>, text: &[u8]) -> Result<(), Stop>
+    requires text_sent { names.now.text.now ≢ names.now.sent.now }
+    requires text_report { names.now.text.now ≢ names.now.report.now }
+    requires sent_report { names.now.sent.now ≢ names.now.report.now }
     ensures moves { Moves (names.now.text.now ∷ names.now.sent.now ∷ names.now.report.now ∷ []) (D.view desk.old) (D.view desk.new) }
     ensures text { OnOk result ((D.view desk.new).told names.now.text.now ≡ put ((D.view desk.old).told names.now.text.now) text.now) }
     ensures sent { OnOk result ((D.view desk.new).told names.now.sent.now ≡ put ((D.view desk.old).told names.now.sent.now) []) }
@@ -141,7 +145,7 @@ fn begin<D: Desk>(desk: &mut D, names: &Names<'_>, text: &[u8]) -> Result<(), St
 }
 
 // The ports that packets come in on, where a file of them is named.
-fn read_ports<D: Desk>(alloc: Global, desk: &mut D, names: &Names<'_>) -> Result<Numbers, Stop>
+fn read_ports<D: Desk>(alloc: Global, desk: &mut D, names: &CarryNames<'_>) -> Result<Numbers, Stop>
     ensures moves { Moves [] (D.view desk.old) (D.view desk.new) }
     ensures gives { (files : List ℕ → Option (List ℕ)) → Tells (option_to_list (files_of names.now).ports) (D.view desk.old) files
         → MatchResult result (λ ports. ports_end files (files_of names.now).ports ≡ Ok ports) (λ e. Loosely e (ports_end files (files_of names.now).ports ≡ Err e)) }
@@ -176,11 +180,12 @@ fn read_ports_file<D: Desk>(alloc: Global, desk: &mut D, name: &str) -> Result<N
 }
 
 // All the work of the command, with its parts one after another.
-fn work<D: Desk>(alloc: Global, desk: &mut D, names: &Names<'_>) -> Result<Vec<u8>, Stop>
-    ensures moves { Moves (outputs_of (files_of names.now)) (D.view desk.old) (D.view desk.new) }
-    ensures cause { Blames result (DeskRose (inputs_of (files_of names.now)) (outputs_of (files_of names.now)) (D.view desk.old) (D.view desk.new)) }
-    ensures leaves { (files : List ℕ → Option (List ℕ)) → Tells (inputs_of (files_of names.now)) (D.view desk.old) files
-        → Leaves (outputs_of (files_of names.now)) (CarryDue (files_of names.now) files) (line_view result) (D.view desk.old) (D.view desk.new) }
+fn work<D: Desk>(alloc: Global, desk: &mut D, names: &CarryNames<'_>) -> Result<Vec<u8>, Stop>
+    ensures moves { Moves (carry_outputs (files_of names.now)) (D.view desk.old) (D.view desk.new) }
+    ensures cause { Blames result (DeskRose (carry_inputs (files_of names.now)) (carry_outputs (files_of names.now)) (D.view desk.old) (D.view desk.new)) }
+    ensures leaves { (files : List ℕ → Option (List ℕ)) → Tells (carry_inputs (files_of names.now)) (D.view desk.old) files
+        → Leaves (carry_outputs (files_of names.now)) (CarryDue (files_of names.now) files) (line_view result) (D.view desk.old) (D.view desk.new) }
+    ensures packets { PacketsFit (files_of names.now) (D.view desk.old) (line_view result) }
 {
     let beginning = prepare(alloc, desk, names)?;
     begin(desk, names, beginning.text.as_slice())?;
@@ -192,9 +197,10 @@ fn work<D: Desk>(alloc: Global, desk: &mut D, names: &Names<'_>) -> Result<Vec<u
 pub(crate) fn carry<D: Desk>(
     alloc: Global,
     desk: &mut D,
-    names: &Names<'_>,
+    names: &CarryNames<'_>,
 ) -> Result<Vec<u8>, Stop>
-    ensures { Works (inputs_of (files_of names.now)) (outputs_of (files_of names.now)) (CarryDue (files_of names.now)) (D.view desk.old) (D.view desk.new) (line_view result) }
+    ensures works { Works (carry_inputs (files_of names.now)) (carry_outputs (files_of names.now)) (CarryDue (files_of names.now)) (D.view desk.old) (D.view desk.new) (line_view result) }
+    ensures packets { PacketsFit (files_of names.now) (D.view desk.old) (line_view result) }
 {
     work(alloc, desk, names)
 }

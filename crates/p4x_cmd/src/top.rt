@@ -1,16 +1,14 @@
 // The top call.
-ghost use Rattle.std.specs.Prelude.{◌≡◌, ◌⊎◌, Some, None, map, string_bytes};
-ghost use Rattle.p4x_io.specs.Desk.{Rose};
-ghost use Rattle.p4x_cmd.specs.Calls.{WorksFor, Outcome, OwnRose, IsDue, Carried, Prints, Translated, ComesWhere, Accepts, RefusesProgram, RefusesEntries, RefusesPorts, RefusesCapture, OverPorts, OverCapture, Fronts};
-ghost use Rattle.p4x_cmd.specs.Carry.{StopsBefore};
-ghost use Rattle.p4x_cmd.specs.Outcomes.{Held, Tells, AllKept};
-ghost use Rattle.p4x_cmd.specs.internal.Phases.{line_view};
-ghost use Rattle.p4x_cmd.specs.Words.{Files, form, inputs_of, outputs_of};
+ghost use Rattle.std.specs.Prelude.{◌≡◌, ◌⊎◌, map, string_bytes};
+ghost use Rattle.command_words.specs.Words.{form, outputs_of};
+ghost use Rattle.file_work.specs.Clauses.{Ended, OwnRose};
+ghost use Rattle.file_work.specs.Phases.{line_view};
+ghost use Rattle.p4x_cmd.specs.Calls.{OnTold, AreTold, Done, Statuses, AcceptsAll, Usages, FilesLeft, IsEnd, WorksFor, inputs_in, outputs_in};
 
 use crate::carry::carry;
-use crate::stop::{Stop, say_stop};
-use crate::words::read_words;
-use p4x_io::{Desk, Sink, say};
+use command_words::{Command, read_words};
+use file_work::{Stop, say_end};
+use p4x_io::{Desk, Sink};
 use std::alloc::Global;
 
 // The work of any words: the line that it prints, or why it stops.
@@ -18,20 +16,18 @@ fn work<D: Desk>(alloc: Global, words: &[String], desk: &mut D) -> Result<Vec<u8
     ensures { WorksFor (form (map string_bytes words.now)) (D.view desk.old) (D.view desk.new) (line_view result) }
 {
     match read_words(words) {
-        Some(names) => carry(alloc, desk, &names),
+        Some(Command::Carry(names)) => carry(alloc, desk, &names),
         None => Err(Stop::Usage),
     }
 }
 
 // The work, and then the line of its end.
 fn run<D: Desk, K: Sink>(alloc: Global, words: &[String], desk: &mut D, out: &mut K) -> u8
-    ensures { Outcome (form (map string_bytes words.now)) (D.view desk.old) (D.view desk.new) (K.view out.old) (K.view out.new)
+    ensures { Ended (WorksFor (form (map string_bytes words.now)) (D.view desk.old) (D.view desk.new)) (K.view out.old) (K.view out.new)
         result }
 {
-    match work(alloc, words, desk) {
-        Ok(line) => say(out, &line, 0),
-        Err(stop) => say_stop(out, stop),
-    }
+    let end = work(alloc, words, desk);
+    say_end(out, end)
 }
 
 /// Runs a command line over a desk of files, prints one line to a sink and answers the status.
@@ -42,47 +38,28 @@ fn run<D: Desk, K: Sink>(alloc: Global, words: &[String], desk: &mut D, out: &mu
 /// rules P1 and P2, or the capture one of the rules K1 to K5; 6 where the ports file or the capture is over its limit; and 7 for want of
 /// memory.
 pub fn p4x<D: Desk, K: Sink>(alloc: Global, words: &[String], desk: &mut D, out: &mut K) -> u8
-    ensures outcome { Outcome (form (map string_bytes words.now)) (D.view desk.old) (D.view desk.new)
-        (K.view out.old) (K.view out.new) result }
-    // 0: the text reads as one program, and the files and the line are those of this program's run.
-    ensures carried { (f : Files) (files : Held) → form (map string_bytes words.now) ≡ Some f
-        → Tells (inputs_of f) (D.view desk.old) files → result ≡ 0
-        → Carried f files (D.view desk.old) (D.view desk.new) (K.view out.old) (K.view out.new) }
-    // 1 comes only where an own count rose.
-    ensures fault { result ≡ 1
-        → OwnRose (form (map string_bytes words.now)) (D.view desk.old) (D.view desk.new) (K.view out.old) (K.view out.new) }
-    // 2 comes exactly where the words are no form, or else the sink failed; then the desk is as it was.
-    ensures usage { result ≡ 2 → form (map string_bytes words.now) ≡ None }
-    ensures words { form (map string_bytes words.now) ≡ None
-        → ((result ≡ 2) ⊎ Rose (K.view out.old).writes (K.view out.new).writes) × (D.view desk.new ≡ D.view desk.old) }
-    // 0, 3, 4, 5 and 6 come exactly where the first cause in the order of the work says so, or else 1 or 7.
-    ensures accepts { (f : Files) (files : Held) → form (map string_bytes words.now) ≡ Some f
-        → Tells (inputs_of f) (D.view desk.old) files → ComesWhere result 0 (Accepts f files) }
-    ensures program { (f : Files) (files : Held) → form (map string_bytes words.now) ≡ Some f
-        → Tells (inputs_of f) (D.view desk.old) files → ComesWhere result 3 (RefusesProgram f files) }
-    ensures entries { (f : Files) (files : Held) → form (map string_bytes words.now) ≡ Some f
-        → Tells (inputs_of f) (D.view desk.old) files → ComesWhere result 4 (RefusesEntries f files) }
-    ensures refuses { (f : Files) (files : Held) → form (map string_bytes words.now) ≡ Some f
-        → Tells (inputs_of f) (D.view desk.old) files → ComesWhere result 5 (RefusesPorts f files ⊎ RefusesCapture f files) }
-    ensures limits { (f : Files) (files : Held) → form (map string_bytes words.now) ≡ Some f
-        → Tells (inputs_of f) (D.view desk.old) files → ComesWhere result 6 (OverPorts f files ⊎ OverCapture f files) }
-    // The line of a status other than 0 is printed whole, or else the sink failed.
-    ensures prints { Prints result (K.view out.old) (K.view out.new) }
-    // Where the program, the entries or the ports aren't taken, no output is made or changed, whatever the status.
-    ensures kept { (f : Files) (files : Held) → form (map string_bytes words.now) ≡ Some f
-        → Tells (inputs_of f) (D.view desk.old) files → (stop : Stop)
-        → StopsBefore f files stop → AllKept (outputs_of f) (D.view desk.old) (D.view desk.new) }
-    // Where the capture isn't taken, the text is whole, and the others hold what the whole records before the refused one give.
-    ensures translated { (f : Files) (files : Held) → form (map string_bytes words.now) ≡ Some f
-        → Tells (inputs_of f) (D.view desk.old) files → RefusesCapture f files ⊎ OverCapture f files
-        → (result ≡ 5) ⊎ (result ≡ 6) → Translated f files (D.view desk.old) (D.view desk.new) }
-    // With every status each output is as it was, or holds a front of what is due.
-    ensures fronts { (f : Files) (files : Held) → form (map string_bytes words.now) ≡ Some f
-        → Tells (inputs_of f) (D.view desk.old) files → Fronts f files (D.view desk.old) (D.view desk.new) }
-    // But for 1 and 7 the status is one that is due, with exactly the line and the files that are due.
-    ensures due { (f : Files) (files : Held) → form (map string_bytes words.now) ≡ Some f
-        → Tells (inputs_of f) (D.view desk.old) files → (result ≡ 1) ⊎ (result ≡ 7)
-        ⊎ IsDue f files (D.view desk.old) (D.view desk.new) (K.view out.old) (K.view out.new) result }
+    // Status 0: the text reads as one program that carries the program of P4_14, and the files and the line are this run's.
+    ensures carried { OnTold (form (map string_bytes words.now)) (D.view desk.old) (λ c files. AreTold (outputs_of c) (D.view desk.old)
+        → result ≡ 0 → Done c files (D.view desk.new) (K.view out.old) (K.view out.new)) }
+    // Which cause gives 0, 3, 4, 5 and 6; 1 or 7 may come in their place.
+    ensures statuses { OnTold (form (map string_bytes words.now)) (D.view desk.old) (λ c files. Statuses c files result) }
+    // All input files are taken and no own count rose: 0, or 7.
+    ensures complete { OnTold (form (map string_bytes words.now)) (D.view desk.old) (λ c files. AcceptsAll c files
+        → (OwnRose (inputs_in (form (map string_bytes words.now))) (outputs_in (form (map string_bytes words.now))) (D.view desk.old)
+        (D.view desk.new) (K.view out.old) (K.view out.new) → ⊥)
+        → (result ≡ 0) ⊎ (result ≡ 7)) }
+    // Status 2 comes exactly where the words are no form, or 1 in its place where the sink failed; then the desk is as it was.
+    ensures usage { Usages (form (map string_bytes words.now)) (D.view desk.old) (D.view desk.new) (K.view out.old) (K.view out.new) result }
+    // Status 1 comes only where an own count rose.
+    ensures fault { result ≡ 1 → OwnRose (inputs_in (form (map string_bytes words.now))) (outputs_in (form (map string_bytes words.now)))
+        (D.view desk.old) (D.view desk.new) (K.view out.old) (K.view out.new) }
+    // No file but the outputs changes, and what these hold by the status.
+    ensures files { FilesLeft (form (map string_bytes words.now)) (D.view desk.old) (D.view desk.new) result }
+    // One line is printed, that of the status; or a front of it, with status 1, where the sink failed.
+    ensures line { Ended (IsEnd (form (map string_bytes words.now)) (D.view desk.old)) (K.view out.old) (K.view out.new) result }
+    // All of it in one: the work ends with its files, and then its line is printed.
+    ensures outcome { Ended (WorksFor (form (map string_bytes words.now)) (D.view desk.old) (D.view desk.new)) (K.view out.old)
+        (K.view out.new) result }
 {
     run(alloc, words, desk, out)
 }

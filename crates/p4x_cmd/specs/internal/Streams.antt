@@ -1,19 +1,19 @@
 -- What a run over a capture that comes in pieces has come to: the run's code beside its meaning.
-use Rattle.std.specs.Prelude.{◌≡◌, ◌⊎◌, ℕ, ◌+◌, ◌%◌, ◌^◌, ◌≤◌, Bool, true, false, List, [], ◌∷◌, ◌++◌, length, drop, string_bytes, Option, Some, None, Result, Ok, Err, IsErrAnd}
+use Rattle.std.specs.Prelude.{◌≡◌, ◌⊎◌, ℕ, ◌+◌, ◌%◌, ◌^◌, ◌≤◌, Bool, true, false, All, List, [], ◌∷◌, ◌++◌, length, drop, string_bytes, Option, Some, None, Result, Ok, Err, IsErrAnd}
 use Rattle.p4x_fault.specs.declared.Fault.{Fault as Refusal}
 use Rattle.p4x_io.specs.Desk.{grown}
 use Rattle.fabric.specs.declared.packets.Arrival.{Arrival}
 use Rattle.pcap_io.specs.declared.head.Head.{Head}
 use Rattle.pcap_io.specs.declared.records.Record.{Record}
-use Rattle.pcap_io.specs.Captures.{Reading, reading_of, arrival_of}
+use Rattle.pcap_io.specs.Captures.{Reading, reading_of, arrival_of, IsRecord}
 use Rattle.pcap_io.specs.Sent.{file_header_of, record_header_of}
 use Rattle.p4x_bits.specs.BitLists.{IsOctets}
 use Rattle.p4x_cmd.specs.declared.stream.Plain.{Plain}
 use Rattle.p4x_cmd.specs.declared.stream.Stream.{Stream}
-use Rattle.p4x_cmd.specs.declared.stop.Stop.{Stop}
-use Rattle.p4x_cmd.specs.declared.stop.Stop.TheVariants.{Fault, Refused, Memory}
+use Rattle.file_work.specs.declared.stop.Stop.{Stop}
+use Rattle.file_work.specs.declared.stop.Stop.TheVariants.{Fault, Refused, Memory}
 use Rattle.p4x_cmd.specs.Carry.{capture_limit}
-use Rattle.p4x_cmd.specs.internal.Phases.{Told, GrownByFront}
+use Rattle.file_work.specs.Phases.{Told, GrownByFront}
 use Rattle.p4x_cmd.specs.Passes.{PassEnd, Pass, dropped, leaves}
 use Rattle.p4x_cmd.specs.internal.Plain.{plain_pass}
 use Rattle.p4x_cmd.specs.Reports.{sent_line}
@@ -106,13 +106,15 @@ Agrees pass plain = (a : Arrival) → IsOctets a.octets → pass a ≡ plain_pas
 abbrev pub nothing_read : Reading
 nothing_read = record { head = None; records = []; left = []; fault = None }
 
--- The octets were read and run, and what came of that was appended to the sent file and the report.
+-- The octets were read and run, and what came of that was appended to the sent file and the report. The numbers of each
+-- record fit the words that hold them.
 pub record Streamed (pass : Arrival → Pass) (ports octets : List ℕ) (sent report sent' report' : Told)
     (reader : Reading) (stream : View) : Type 0 where
   pub reader_is : reader ≡ drained (reading_of octets)
   pub stream_is : stream ≡ emptied (run_view pass ports (reading_of octets))
   pub sent_is : sent' ≡ grown sent (run_view pass ports (reading_of octets)).sent
   pub report_is : report' ≡ grown report (run_view pass ports (reading_of octets)).report
+  pub known : All IsRecord (reading_of octets).records
 
 -- A fault or want of memory ended it: the files have grown by fronts of what was to be appended.
 abbrev pub Cut : View → Told → Told → Told → Told → Stop → Type 0

@@ -5,6 +5,7 @@ use Rattle.p4x_io.proofs.Desks.{moves_none, moves_on, moves_within, grown_there}
 use Rattle.p4x_io.proofs.Reading.{front_none, front_more, front_end, reads_at}
 use Rattle.p4x_cmd.specs.internal.Plain.{plain_pass}
 use Rattle.p4x_cmd.proofs.Pieces.{unbroken_start, streamed_start, streamed_still, pieces_cut, pieces_end, pieces_all, pieces_stop}
+use Rattle.p4x_cmd.proofs.Named.{apart_of}
 use Rattle.p4x_cmd.proofs.capture.run_pieces.Goals as goal
 
 pub pieces-init : goal.pieces-init
@@ -28,7 +29,7 @@ returns-then-count-eq0-clause-gives g c = λ pass file agrees told.
     let r = c.pieces.invariant.read in
     let n = c.args.names.now in
     let kept = c.read.ensures.moves.others in
-    let here = c.pieces.invariant.moves.others n.capture.now ((λ is. n.sent_not_capture (sym is)), ((λ is. n.report_not_capture (sym is)), tt)) ∙ told in
+    let here = c.pieces.invariant.moves.others n.capture.now ((λ is. (apart_of n).2.0.1.1.0 (sym is)), ((λ is. (apart_of n).2.2.0.1.1.0 (sym is)), tt)) ∙ told in
     let reads = reads_at _ _ _ _ file (length r.0) 0 c.in_ok-count.ensures.octets here (sym r.1) c.if-count-eq0.true in
     pieces_end pass _ r.0 _ _ _ _ _ _ _ agrees r.3 (r.4 pass agrees) file _ _ (kept n.sent.now tt) (kept n.report.now tt) (front_end file r.0 _ (r.2 file told) reads)
 
@@ -52,7 +53,7 @@ pieces-preserved g c =
         omega (arith, length-append r.0 (take count slice), length-take count slice, c.in_ok-count.ensures.octets.fits, r.1),
         (λ file told. front_more file r.0 slice count (r.2 file told)
             (reads_at _ _ _ _ file (length r.0) count c.in_ok-count.ensures.octets
-            (c.pieces.invariant.moves.others n.capture.now ((λ is. n.sent_not_capture (sym is)), ((λ is. n.report_not_capture (sym is)), tt)) ∙ told) (sym r.1) refl)),
+            (c.pieces.invariant.moves.others n.capture.now ((λ is. (apart_of n).2.0.1.1.0 (sym is)), ((λ is. (apart_of n).2.2.0.1.1.0 (sym is)), tt)) ∙ told) (sym r.1) refl)),
         (c.in_ok-run_piece.ensures.ran plain _ r.0 _ _ (λ a octets. refl) r.3 (streamed_still plain _ r.0 _ _ _ _ _ _ _ _ (kept n.sent.now tt) (kept n.report.now tt) (r.4 plain (λ a octets. refl)))).0,
         (λ pass agrees. (c.in_ok-run_piece.ensures.ran pass _ r.0 _ _ agrees r.3 (streamed_still pass _ r.0 _ _ _ _ _ _ _ _ (kept n.sent.now tt) (kept n.report.now tt) (r.4 pass agrees))).1),
       );
@@ -67,7 +68,7 @@ returns-in_err-run_piece-clause-gives g c = λ pass file agrees told.
     let kept = c.read.ensures.moves.others in
     let slice = c.read.new.into in
     let count = c.in_ok-count.count in
-    let here = c.pieces.invariant.moves.others n.capture.now ((λ is. n.sent_not_capture (sym is)), ((λ is. n.report_not_capture (sym is)), tt)) ∙ told in
+    let here = c.pieces.invariant.moves.others n.capture.now ((λ is. (apart_of n).2.0.1.1.0 (sym is)), ((λ is. (apart_of n).2.2.0.1.1.0 (sym is)), tt)) ∙ told in
     let reads = reads_at _ _ _ _ file (length r.0) count c.in_ok-count.ensures.octets here (sym r.1) refl in
     let so = streamed_still pass _ r.0 _ _ _ _ _ _ _ _ (kept n.sent.now tt) (kept n.report.now tt) (r.4 pass agrees) in
     let ends = c.in_err-run_piece.ensures.ran pass _ r.0 _ _ agrees r.3 so in

@@ -2,8 +2,9 @@ use Rattle.std.proofs.Common.{inr, [], option_to_list, ◌∙◌}
 use Rattle.std.proofs.lemmas.Result.{err_from_is_err_and}
 use Rattle.p4x_io.proofs.Desks.{moves_on}
 use Rattle.p4x_cmd.specs.Carry.{HasProgram}
-use Rattle.p4x_cmd.specs.internal.Views.{files_of}
-use Rattle.p4x_cmd.proofs.Phases.{tells_on, reads_since, blames_as, stops_at_ports}
+use Rattle.command_words.specs.Views.{files_of}
+use Rattle.file_work.proofs.Phases.{tells_on, reads_since, blames_as}
+use Rattle.p4x_cmd.proofs.Phases.{stops_at_ports}
 use Rattle.p4x_cmd.proofs.carry.prepare.Goals as goal
 
 pub returns-in_err-ports-clause-stops : goal.returns-in_err-ports-clause-stops

@@ -1,15 +1,18 @@
 use Rattle.std.proofs.Common.{◌≡◌, ℕ, List, [], Some, sym, ◌∙◌, ap, subst}
 use Rattle.std.proofs.lemmas.Result.{err_from_is_err_and}
 use Rattle.p4x_io.specs.Desk.{put}
-use Rattle.p4x_cmd.specs.declared.stop.Stop.TheVariants.{Fault}
+use Rattle.file_work.specs.declared.stop.Stop.TheVariants.{Fault}
 use Rattle.p4x_cmd.specs.Carry.{capture_reports}
 use Rattle.p4x_cmd.specs.internal.Phases.{Delivers}
 use Rattle.p4x_cmd.specs.Forms16.{program16}
-use Rattle.p4x_cmd.specs.Outcomes.{IsPart}
-use Rattle.p4x_cmd.specs.internal.Phases.{line_view}
-use Rattle.p4x_cmd.specs.internal.Views.{files_of}
+use Rattle.file_work.specs.Works.{IsPart}
+use Rattle.file_work.specs.Phases.{line_view}
+use Rattle.command_words.specs.Views.{files_of}
+use Rattle.p4x_cmd.proofs.Blaming.{run_blames}
 use Rattle.p4x_cmd.proofs.Left.{left_early, left_begin, left_run}
+use Rattle.p4x_cmd.proofs.Packets.{packets_of}
 use Rattle.p4x_cmd.proofs.Writing.{written_is}
+use Rattle.p4x_cmd.proofs.Named.{apart_of}
 use Rattle.p4x_cmd.proofs.carry.work.Goals as goal
 
 pub returns-in_err-beginning-clause-leaves : goal.returns-in_err-beginning-clause-leaves
@@ -46,10 +49,46 @@ returns-clause-leaves g c = λ files told.
     let kept = c.prepare.ensures.moves.others in
     let some = c.in_ok-beginning.ensures.begins files told in
     let written = written_is (files n.program.now) some.0 w.program w.text some.1.0.0 some.2 c.in_ok-beginning.ensures.text in
-    let here = c.in_ok-begin.ensures.moves.others n.capture.now ((λ is. n.text_not_capture (sym is)), ((λ is. n.sent_not_capture (sym is)), ((λ is. n.report_not_capture (sym is)), tt))) ∙ kept n.capture.now tt ∙ told.1.1.0 in
+    let here = c.in_ok-begin.ensures.moves.others n.capture.now ((λ is. (apart_of n).0.1.1.0 (sym is)), ((λ is. (apart_of n).2.0.1.1.0 (sym is)), ((λ is. (apart_of n).2.2.0.1.1.0 (sym is)), tt))) ∙ kept n.capture.now tt ∙ told.1.1.0 in
     left_run (files_of n) files before after some.0 w.ports w.text (program16 w.program) some.1 written (line_view c.run_capture.result) mid
-    (c.run_capture.ensures.moves.others n.text.now (n.text_not_sent, (n.text_not_report, tt)) ∙ c.in_ok-begin.ensures.text ∙ ap (λ t. put t c.as_slice.result.now) (kept n.text.now tt) ∙ ap (λ (x : List ℕ). put (before.told n.text.now) x) c.as_slice.ensures)
+    (c.run_capture.ensures.moves.others n.text.now ((apart_of n).1.0, ((apart_of n).1.1.0, tt)) ∙ c.in_ok-begin.ensures.text ∙ ap (λ t. put t c.as_slice.result.now) (kept n.text.now tt) ∙ ap (λ (x : List ℕ). put (before.told n.text.now) x) c.as_slice.ensures)
     (c.in_ok-begin.ensures.sent ∙ ap (λ t. put t []) (kept n.sent.now tt))
     (c.in_ok-begin.ensures.report ∙ ap (λ t. put t []) (kept n.report.now tt))
     (subst (λ (x : List ℕ). Delivers (capture_reports (program16 w.program) x (files n.capture.now)) (line_view c.run_capture.result) (mid.told n.sent.now) (after.told n.sent.now) (mid.told n.report.now) (after.told n.report.now))
     c.as_slice-ports.ensures (c.run_capture.ensures.gives (files n.capture.now) here))
+
+pub returns-in_err-beginning-clause-packets : goal.returns-in_err-beginning-clause-packets
+returns-in_err-beginning-clause-packets g c =
+    let p = err_from_is_err_and c.from_residual.result c.from_residual.ensures.1 in
+    rw p.1 tt
+
+pub returns-in_err-begin-clause-packets : goal.returns-in_err-begin-clause-packets
+returns-in_err-begin-clause-packets g c =
+    let p = err_from_is_err_and c.from_residual-in_err-begin.result c.from_residual-in_err-begin.ensures.1 in
+    rw p.1 tt
+
+pub returns-clause-packets : goal.returns-clause-packets
+returns-clause-packets g c =
+    let n = c.args.names.now in
+    let w = c.in_ok-beginning.beginning in
+    let kept = c.prepare.ensures.moves.others in
+    packets_of (files_of n) (g.D.Desk.view c.args.desk.now) (g.D.Desk.view c.begin.new.desk) w.ports c.run_capture.result
+    (λ files told. let some = c.in_ok-beginning.ensures.begins files told in some.1.1)
+    (λ file told. c.in_ok-begin.ensures.moves.others n.capture.now ((λ is. (apart_of n).0.1.1.0 (sym is)), ((λ is. (apart_of n).2.0.1.1.0 (sym is)), ((λ is. (apart_of n).2.2.0.1.1.0 (sym is)), tt))) ∙ kept n.capture.now tt ∙ told)
+    c.in_ok-beginning.ensures.fits c.run_capture.ensures.known
+
+pub begin-requires-clause-text_sent : goal.begin-requires-clause-text_sent
+begin-requires-clause-text_sent g c = (apart_of c.args.names.now).1.0
+
+pub begin-requires-clause-text_report : goal.begin-requires-clause-text_report
+begin-requires-clause-text_report g c = (apart_of c.args.names.now).1.1.0
+
+pub begin-requires-clause-sent_report : goal.begin-requires-clause-sent_report
+begin-requires-clause-sent_report g c = (apart_of c.args.names.now).2.1.0
+
+pub run_capture-requires-clause-apart : goal.run_capture-requires-clause-apart
+run_capture-requires-clause-apart g c = (apart_of c.args.names.now).2.1.0
+
+pub returns-clause-cause : goal.returns-clause-cause
+returns-clause-cause g c =
+    run_blames (files_of c.args.names.now) _ _ _ _ _ _ c.prepare.ensures.moves c.begin.ensures.moves c.run_capture.ensures.cause

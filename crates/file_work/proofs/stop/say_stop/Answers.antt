@@ -5,7 +5,7 @@ use Rattle.p4x_fault.specs.declared.Rule.TheVariants.{C, E}
 use Rattle.p4x_fault.specs.Fault.{refusal_line}
 use Rattle.p4x_io.specs.Desk.{SinkView}
 use Rattle.p4x_io.specs.Files.{Says}
-use Rattle.p4x_cmd.proofs.stop.say_stop.Goals as goal
+use Rattle.file_work.proofs.stop.say_stop.Goals as goal
 
 one : decimal 1 ≡ 49 ∷ []
 one = decimal_digit 1 (omega arith)

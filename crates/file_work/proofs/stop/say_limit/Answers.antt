@@ -1,4 +1,4 @@
-use Rattle.p4x_cmd.proofs.stop.say_limit.Goals as goal
+use Rattle.file_work.proofs.stop.say_limit.Goals as goal
 
 pub returns-in-Ports : goal.returns-in-Ports
 returns-in-Ports g c = rw c.in-Ports.is c.say.ensures

@@ -1,10 +1,10 @@
 -- Why a command ends without status 0: its status and its line (this project's own).
 use Rattle.std.specs.Prelude.{ℕ, List, codes, Result, Ok, Err}
 use Rattle.p4x_fault.specs.Fault.{refusal_line}
-use Rattle.p4x_cmd.specs.declared.stop.Limited.{Limited}
-use Rattle.p4x_cmd.specs.declared.stop.Limited.TheVariants.{Ports, Capture}
-use Rattle.p4x_cmd.specs.declared.stop.Stop.{Stop}
-use Rattle.p4x_cmd.specs.declared.stop.Stop.TheVariants.{Fault, Usage, Program, Entries, Refused, Limit, Memory}
+use Rattle.file_work.specs.declared.stop.Limited.{Limited}
+use Rattle.file_work.specs.declared.stop.Limited.TheVariants.{Ports, Capture}
+use Rattle.file_work.specs.declared.stop.Stop.{Stop}
+use Rattle.file_work.specs.declared.stop.Stop.TheVariants.{Fault, Usage, Program, Entries, Refused, Limit, Memory}
 
 -- the status
 abbrev pub stop_code : Stop → ℕ

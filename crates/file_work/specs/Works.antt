@@ -1,8 +1,8 @@
 -- What a call of the program comes to, for any command (this project's own).
 use Rattle.std.specs.Prelude.{◌≡◌, ◌⊎◌, ℕ, List, [], ◌∷◌, take, Option, Some, None, Result, Err}
 use Rattle.p4x_io.specs.Desk.{DeskView, Rose, Moves, put}
-use Rattle.p4x_cmd.specs.declared.stop.Stop.{Stop}
-use Rattle.p4x_cmd.specs.declared.stop.Stop.TheVariants.{Fault, Usage, Memory}
+use Rattle.file_work.specs.declared.stop.Stop.{Stop}
+use Rattle.file_work.specs.declared.stop.Stop.TheVariants.{Fault, Usage, Memory}
 
 -- what stands in the files of each name; None where there is no such file
 abbrev pub Held : Type 0

@@ -2,8 +2,9 @@
 ghost use Rattle.std.specs.Prelude.{◌≡◌};
 ghost use Rattle.p4x_fault.specs.Fault.{refusal_line};
 ghost use Rattle.p4x_io.specs.Files.{Says};
-ghost use Rattle.p4x_cmd.specs.Stops.{limit_line, stop_code, stop_line};
-ghost use Rattle.p4x_cmd.specs.declared.stop.Stop.TheVariants.{Fault, Memory};
+ghost use Rattle.file_work.specs.Phases.{line_view};
+ghost use Rattle.file_work.specs.Stops.{limit_line, stop_code, stop_line, code_of, line_of};
+ghost use Rattle.file_work.specs.declared.stop.Stop.TheVariants.{Fault, Memory};
 
 use p4x_bits::OutOfMemory;
 use p4x_fault::{Fault, Place, Rule, print};
@@ -53,8 +54,19 @@ impl From<Failed> for Stop {
     }
 }
 
+/// Prints the line that the work of a command ended with, or that of what stopped it, and gives the status that comes of it: 0 or that of the
+/// stop, and 1 where the printing fails.
+pub fn say_end<K: Sink>(out: &mut K, end: Result<Vec<u8>, Stop>) -> u8
+    ensures { Says (line_of (line_view end)) (code_of (line_view end)) result (K.view out.old) (K.view out.new) }
+{
+    match end {
+        Ok(line) => say(out, &line, 0),
+        Err(stop) => say_stop(out, stop),
+    }
+}
+
 /// Prints the line of a stop, and gives the status that comes of it.
-pub(crate) fn say_stop<K: Sink>(out: &mut K, stop: Stop) -> u8
+fn say_stop<K: Sink>(out: &mut K, stop: Stop) -> u8
     ensures { Says (stop_line stop) (stop_code stop) result (K.view out.old) (K.view out.new) }
 {
     match stop {

@@ -1,0 +1,56 @@
+-- The ends of the work by their statuses.
+use Rattle.std.proofs.Common.{◌≡◌, ◌⊎◌, inl, inr, ℕ, List, Option, Some, None, Result, Ok, Err, refl, ap, arith}
+use Rattle.file_work.specs.declared.stop.Stop.{Stop}
+use Rattle.file_work.specs.declared.stop.Stop.TheVariants.{Fault, Usage, Program, Entries, Refused, Limit, Memory}
+use Rattle.file_work.specs.Stops.{code_of, stop_code}
+use Rattle.file_work.specs.Works.{IsLoose}
+
+-- what stops the work, if anything does
+abbrev pub stop_in : Result (List ℕ) Stop → Option Stop
+stop_in (Ok line) = None
+stop_in (Err stop) = Some stop
+
+-- the status that comes of what stops the work, if anything does
+abbrev pub code_at : Option Stop → ℕ
+code_at None = 0
+code_at (Some stop) = stop_code stop
+
+pub code_stop : (end : Result (List ℕ) Stop) → code_of end ≡ code_at (stop_in end)
+code_stop (Ok line) = refl
+code_stop (Err stop) = refl
+
+-- a stop has another status than 0
+pub not_done : (stop : Stop) → 0 ≡ stop_code stop → ⊥
+not_done Fault is = omega arith
+not_done Usage is = omega arith
+not_done Program is = omega arith
+not_done Entries is = omega arith
+not_done (Refused fault) is = omega arith
+not_done (Limit file) is = omega arith
+not_done Memory is = omega arith
+
+-- how the work ended, from its status
+pub is_fault : (end : Result (List ℕ) Stop) → code_of end ≡ 1 → end ≡ Err Fault
+is_fault (Ok line) is = absurd (omega arith)
+is_fault (Err Fault) is = refl
+is_fault (Err Usage) is = absurd (omega arith)
+is_fault (Err Program) is = absurd (omega arith)
+is_fault (Err Entries) is = absurd (omega arith)
+is_fault (Err (Refused fault)) is = absurd (omega arith)
+is_fault (Err (Limit file)) is = absurd (omega arith)
+is_fault (Err Memory) is = absurd (omega arith)
+
+pub is_usage : (end : Result (List ℕ) Stop) → code_of end ≡ 2 → end ≡ Err Usage
+is_usage (Ok line) is = absurd (omega arith)
+is_usage (Err Fault) is = absurd (omega arith)
+is_usage (Err Usage) is = refl
+is_usage (Err Program) is = absurd (omega arith)
+is_usage (Err Entries) is = absurd (omega arith)
+is_usage (Err (Refused fault)) is = absurd (omega arith)
+is_usage (Err (Limit file)) is = absurd (omega arith)
+is_usage (Err Memory) is = absurd (omega arith)
+
+-- a loose end has status 1 or 7
+pub loose_code : (end : Result (List ℕ) Stop) → IsLoose end → (code_of end ≡ 1) ⊎ (code_of end ≡ 7)
+loose_code end (inl x) = inl (ap code_of x)
+loose_code end (inr x) = inr (ap code_of x)

@@ -1,0 +1,5 @@
+pub mod Ends
+pub mod Files
+pub mod Laws
+pub mod Phases
+pub mod Ways

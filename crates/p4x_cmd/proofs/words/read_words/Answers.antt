@@ -1,6 +1,0 @@
-use Rattle.std.proofs.Common.{string_bytes, sym}
-use Rattle.p4x_cmd.proofs.Forms.{too_few}
-use Rattle.p4x_cmd.proofs.words.read_words.Goals as goal
-
-pub returns-in_default : goal.returns-in_default
-returns-in_default c = sym (too_few string_bytes c.args.words.now c.in_default.len_below)
