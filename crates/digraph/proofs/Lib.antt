@@ -7,3 +7,5 @@ pub mod Listing
 pub mod Visiting
 pub mod Closing
 pub mod Cycles
+pub mod Sizing
+pub mod Spreading

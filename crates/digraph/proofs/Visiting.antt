@@ -37,7 +37,7 @@ left_turn g f s new h l zero_left (Stays p is not e) =
 took_by : (g : List (List ℕ)) (node left x : ℕ) (s : State) (o : Option Mark) → IsClosed g → Searching g None (led_by (record { node = node; left = suc left }) s) → IsListed s → slice_get (successors g node) left ≡ Some x → slice_get s.marks x ≡ o
     → IsTurn g (led_by (record { node = node; left = suc left }) s) (came_by o (led_by (record { node = node; left = left }) s) x (length (successors g x)))
 took_by g node left x s None closed_g h l e is =
-    let within = closed_g node x (among_at (successors g node) left x e) in
+    let within = closed_g.within node x (among_at (successors g node) left x e) in
     absurd (let some = slice_get-get_or s.marks x New (omega (arith, within, h.size)) in cc)
 took_by g node left x s (Some New) closed_g h l e is =
     let edge = among_at (successors g node) left x e in
@@ -52,7 +52,7 @@ took_by g node left x s (Some New) closed_g h l e is =
           ));
       listed = listed_entered (led_by (record { node = node; left = left }) s) x (length (successors g x)) (listed_on s (record { node = node; left = left }) l) is;
       reached = λ a n. new_was s.marks x a (length s.waiting) n;
-      lighter = lighter_entered g node left x s is (closed_g node x edge);
+      lighter = lighter_entered g node left x s is (closed_g.within node x edge);
     }
 took_by g node left x s (Some (Open q)) closed_g h l e is =
     let edge = among_at (successors g node) left x e in

@@ -1,5 +1,5 @@
 -- Directed graphs, and the walks in them.
-use Rattle.std.specs.Prelude.{◌≡◌, ℕ, ◌<◌, ◌≤◌, ◌⊎◌, List, [], ◌∷◌, ◌++◌, length, slice_index_or}
+use Rattle.std.specs.Prelude.{◌≡◌, ℕ, ◌<◌, ◌≤◌, ◌⊎◌, List, [], ◌∷◌, ◌++◌, length, slice_index_or, Bool, true, false, ◌↔◌}
 
 -- x is one of these numbers
 abbrev pub Among : ℕ → List ℕ → Type 0
@@ -36,11 +36,16 @@ abbrev pub IsLeastOnCycle : List (List ℕ) → ℕ → Type 0
 IsLeastOnCycle g a = OnCycle g a × ((b : ℕ) → OnCycle g b → a ≤ b)
 
 -- each edge leads to a node of the graph
-abbrev pub IsClosed : List (List ℕ) → Type 0
-IsClosed g = (a b : ℕ) → IsEdge g a b → b < length g
+pub record IsClosed (g : List (List ℕ)) : Type 0 where
+  pub within : (a b : ℕ) → IsEdge g a b → b < length g
 
 -- the graph with a further edge from its last node
 abbrev pub with_edge : List (List ℕ) → ℕ → List (List ℕ)
 with_edge [] target = []
 with_edge (targets ∷ []) target = (targets ++ target ∷ []) ∷ []
 with_edge (targets ∷ next ∷ rest) target = targets ∷ with_edge (next ∷ rest) target
+
+-- these say of each node whether it is reached
+pub record AreReached (g : List (List ℕ)) (from : ℕ) (reached : List Bool) : Type 0 where
+  pub each : length reached ≡ length g
+  pub exact : (a : ℕ) → a < length g → (slice_index_or reached a false ≡ true) ↔ Reaches g from a

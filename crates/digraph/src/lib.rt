@@ -2,7 +2,9 @@
 #![tactic(auto)]
 
 mod condensation;
+mod expansion;
 mod graph;
+mod reach;
 mod search;
 mod stack;
 

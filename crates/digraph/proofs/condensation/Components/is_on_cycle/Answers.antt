@@ -10,7 +10,7 @@ edge_read xs ys k e lt = subst (λ zs. Among (get_or xs k 0) zs) e (among_place 
 
 pub number-requires : goal.number-requires
 number-requires c =
-    let lt = c.requires.closed c.args.node (get_or c.successors-next-items.result.now c.loop-next.next-index 0) (edge_read c.successors-next-items.result.now (successors c.args.graph.now c.args.node) c.loop-next.next-index c.successors-next-items.ensures c.loop-next-test.true) in
+    let lt = c.requires.closed.within c.args.node (get_or c.successors-next-items.result.now c.loop-next.next-index 0) (edge_read c.successors-next-items.result.now (successors c.args.graph.now c.args.node) c.loop-next.next-index c.successors-next-items.ensures c.loop-next-test.true) in
     omega (arith, lt, c.requires.components.each)
 
 pub returns-then-number : goal.returns-then-number

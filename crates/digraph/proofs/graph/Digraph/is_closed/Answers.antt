@@ -9,7 +9,7 @@ returns-then-not-all_below c = (
   λ never. absurd (cc),
   λ closed.
       let far = c.if-not-all_below.ensures in
-      let lt = closed c.loop-node.node far.0 (subst (λ xs. Among far.0 xs) c.successors.ensures far.1) in
+      let lt = closed.within c.loop-node.node far.0 (subst (λ xs. Among far.0 xs) c.successors.ensures far.1) in
       absurd (omega (arith, lt, far.2, c.len.ensures)),
 )
 
@@ -24,8 +24,10 @@ loop-node-preserved c a b lt edge =
 
 pub returns : goal.returns
 returns c = (
-  λ _. λ a b edge.
-      let lt = edge_within c.args.self.now a b edge in
-      c.loop-node.invariant a b (omega (arith, lt, c.loop-node-test.false, c.len-node-end.ensures)) edge,
+  λ _. record {
+    within = λ a b edge.
+        let lt = edge_within c.args.self.now a b edge in
+        c.loop-node.invariant a b (omega (arith, lt, c.loop-node-test.false, c.len-node-end.ensures)) edge;
+  },
   λ _. refl,
 )

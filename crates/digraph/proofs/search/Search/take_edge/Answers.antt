@@ -15,11 +15,11 @@ edge_at xs ys left e more le =
 
 pub come_to-requires-clause-node : goal.come_to-requires-clause-node
 come_to-requires-clause-node c =
-    c.requires.closed c.args.frame.node _ (among_at (successors c.args.graph.now c.args.frame.node) (c.args.frame.left - 1) _ (edge_at c.successors.result.now (successors c.args.graph.now c.args.frame.node) c.args.frame.left c.successors.ensures c.requires.left c.requires.searching.path.3))
+    c.requires.closed.within c.args.frame.node _ (among_at (successors c.args.graph.now c.args.frame.node) (c.args.frame.left - 1) _ (edge_at c.successors.result.now (successors c.args.graph.now c.args.frame.node) c.args.frame.left c.successors.ensures c.requires.left c.requires.searching.path.3))
 
 pub come_to-requires-clause-marks : goal.come_to-requires-clause-marks
 come_to-requires-clause-marks c =
-    let lt = c.requires.closed c.args.frame.node _ (among_at (successors c.args.graph.now c.args.frame.node) (c.args.frame.left - 1) _ (edge_at c.successors.result.now (successors c.args.graph.now c.args.frame.node) c.args.frame.left c.successors.ensures c.requires.left c.requires.searching.path.3)) in
+    let lt = c.requires.closed.within c.args.frame.node _ (among_at (successors c.args.graph.now c.args.frame.node) (c.args.frame.left - 1) _ (edge_at c.successors.result.now (successors c.args.graph.now c.args.frame.node) c.args.frame.left c.successors.ensures c.requires.left c.requires.searching.path.3)) in
     let same = ap (λ (s : State). length s.marks) c.self.view_is in
     omega (arith, lt, same, c.requires.searching.size)
 
