@@ -1,0 +1,41 @@
+//! That a wrong program is refused: for the first sample program, written programs that `Carries` doesn't hold of. Each law is the contract of a
+//! function that does nothing.
+#![tactic(auto)]
+
+ghost use Rattle.p4x_cmd.specs.Carries.{Carries};
+ghost use Rattle.p4x_cmd.specs.Forms14.{Reads14};
+ghost use Rattle.p4x_cmd.specs.Forms16.{program16};
+ghost use Rattle.p4x_cmd.specs.internal.Lowering.{lowered};
+ghost use Rattle.refusal_laws.specs.Wrong.{sample, sample_text, dropping, next_port, emitting_nothing, not_asking};
+
+/// The text of the sample reads as it.
+#[tactic(auto, using(crate::proofs::Refused::sample_reads))]
+pub fn the_sample_is_read()
+    ensures { Reads14 sample_text sample }
+{}
+
+/// The program that the sample becomes carries it.
+#[tactic(auto, using(crate::proofs::Refused::sample_is))]
+pub fn the_sample_is_carried()
+    ensures { Carries sample (program16 (lowered sample)) }
+{}
+
+/// One whose action drops doesn't.
+pub fn dropping_is_refused()
+    ensures { Carries sample dropping → ⊥ }
+{}
+
+/// One that sends to the next port doesn't.
+pub fn the_next_port_is_refused()
+    ensures { Carries sample next_port → ⊥ }
+{}
+
+/// One whose deparser emits nothing doesn't.
+pub fn emitting_nothing_is_refused()
+    ensures { Carries sample emitting_nothing → ⊥ }
+{}
+
+/// One that doesn't ask for `parser_error`, and so sends what is too short, doesn't.
+pub fn not_asking_for_errors_is_refused()
+    ensures { Carries sample not_asking → ⊥ }
+{}
