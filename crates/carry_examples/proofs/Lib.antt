@@ -1,3 +1,4 @@
+pub mod Counting
 pub mod DeskLaws
 pub mod Sending
 pub mod Steps

@@ -1,6 +1,6 @@
 // Each cause of a status other than 0, with the line that is printed and the files that are left.
-use crate::expected::{Expected, expect_end, expect_files, stopped};
-use crate::setting::{WORDS, capture, desk, program, text};
+use crate::expected::{Expected, begun, expect_end, expect_files, expect_run, stopped};
+use crate::setting::{WORDS, capture, desk, inputs, program, sent, text};
 use std::alloc::Global;
 use std::process::Abort;
 use std::test::Fail;
@@ -95,6 +95,64 @@ fn a_missing_file(rt: HostRuntime) -> Result<(), Fail> {
     words[1] = "p";
     words[2] = "none";
     expect_words(&rt, rt.alloc(), &words, 1, b"fault\n")
+}
+
+#[test]
+fn an_absent_capture(rt: HostRuntime) -> Result<(), Fail> {
+    let mut words = WORDS;
+    words[3] = "none";
+    let mut desk = desk(rt.alloc(), program(), b"", capture())?;
+    let expected = begun(1, b"fault\n", b"", b"");
+    expect_run(&rt, rt.alloc(), &words, &mut desk, expected)
+}
+
+#[test]
+fn a_report_that_is_not_appended_to(rt: HostRuntime) -> Result<(), Fail> {
+    let mut desk = desk(rt.alloc(), program(), b"", capture())?;
+    desk.fail_append("r", 1)?;
+    let expected = begun(1, b"fault\n", sent(), b"");
+    expect_run(&rt, rt.alloc(), &WORDS, &mut desk, expected)
+}
+
+/// A desk that has room for these outputs alone, and what each holds after the fault.
+fn expect_unmade(
+    rt: &impl Abort,
+    alloc: Global,
+    rooms: &[&str],
+    text: Option<&[u8]>,
+    sent: Option<&[u8]>,
+) -> Result<(), Fail> {
+    let mut desk = inputs(alloc, program(), b"", capture())?;
+    for name in rooms {
+        desk.room(name, 4096)?;
+    }
+    let expected = Expected {
+        status: 1,
+        line: b"fault\n",
+        text,
+        sent,
+        report: None,
+    };
+    expect_run(rt, alloc, &WORDS, &mut desk, expected)
+}
+
+#[test]
+fn an_output_that_cannot_be_made(rt: HostRuntime) -> Result<(), Fail> {
+    let alloc = rt.alloc();
+    expect_unmade(&rt, alloc, &["s", "r"], None, None)?;
+    expect_unmade(&rt, alloc, &["t", "r"], Some(b""), None)?;
+    expect_unmade(&rt, alloc, &["t", "s"], Some(b""), Some(b""))
+}
+
+#[test]
+fn a_sink_that_is_full_after_the_work(rt: HostRuntime) -> Result<(), Fail> {
+    let alloc = rt.alloc();
+    let mut desk = desk(alloc, program(), b"", capture())?;
+    let report = b"sent 3 14\nin 1\nout 1\ncut 0\nwork 6\n";
+    let expected = begun(1, b"carri", sent(), report);
+    expect_end(&rt, alloc, &WORDS, 5, &mut desk, expected)?;
+    expect_files(&rt, &desk, expected);
+    Ok(())
 }
 
 #[test]

@@ -6,11 +6,14 @@ mod captures;
 #[cfg(test)]
 mod causes;
 #[cfg(test)]
+mod counts;
+#[cfg(test)]
 mod desks;
 #[cfg(test)]
 mod expected;
 #[cfg(test)]
 mod memory;
+pub mod named;
 #[cfg(test)]
 mod options;
 pub mod plain;
@@ -22,5 +25,7 @@ mod runs;
 mod same;
 #[cfg(test)]
 mod setting;
+#[cfg(test)]
+mod sizes;
 #[cfg(test)]
 mod texts;

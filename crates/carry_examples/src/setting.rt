@@ -107,8 +107,8 @@ pub fn sent() -> &'static [u8] {
     ]
 }
 
-/// A desk that has the three input files, room for the three outputs, and one more file.
-pub fn desk(
+/// A desk that has the three input files and one more, and room for no output.
+pub fn inputs(
     alloc: Global,
     program: &[u8],
     entries: &[u8],
@@ -119,6 +119,17 @@ pub fn desk(
     desk.put("e", entries)?;
     desk.put("c", capture)?;
     desk.put("else", b"x")?;
+    Ok(desk)
+}
+
+/// A desk that has the three input files, room for the three outputs, and one more file.
+pub fn desk(
+    alloc: Global,
+    program: &[u8],
+    entries: &[u8],
+    capture: &[u8],
+) -> Result<MemoryDesk, Fail> {
+    let mut desk = inputs(alloc, program, entries, capture)?;
     desk.room("t", 4096)?;
     desk.room("s", 4096)?;
     desk.room("r", 4096)?;
