@@ -13,12 +13,13 @@ pub record Condensation : Type 0 where
   pub order : List ℕ
   pub count : ℕ
 
--- these are the strongly connected components of the graph, in a finishing order: a component stands behind those that it
--- leads to
+-- these are the strongly connected components of the graph, in a finishing order: a component stands behind those that
+-- it leads to
 pub record AreComponents (g : List (List ℕ)) (c : Condensation) : Type 0 where
   pub each : length c.numbers ≡ length g
   -- two nodes have one number exactly where each reaches the other
-  pub same : (a b : ℕ) → a < length g → b < length g → (slice_index c.numbers a ≡ slice_index c.numbers b) ↔ (Reaches g a b × Reaches g b a)
+  pub same : (a b : ℕ) → a < length g → b < length g
+      → (slice_index c.numbers a ≡ slice_index c.numbers b) ↔ (Reaches g a b × Reaches g b a)
   -- no edge leads to a greater number
   pub falls : (a b : ℕ) → IsEdge g a b → slice_index c.numbers b ≤ slice_index c.numbers a
   -- the numbers are those below the count

@@ -2,8 +2,8 @@
 use Rattle.std.specs.Prelude.{◌≡◌, ℕ, ◌<◌, List, [], ◌∷◌, ◌++◌, length, min, slice_index, sum_by}
 use Rattle.digraph.specs.Graphs.{successors, OnCycle}
 
--- calls of these nodes, one after another, expand to these nodes: each call to its node, and behind it what that node's own
--- calls expand to
+-- calls of these nodes, one after another, expand to these nodes: each call to its node, and behind it what that node's
+-- own calls expand to
 pub data Expands (g : List (List ℕ)) : List ℕ → List ℕ → Type 0 where
   Nothing : Expands g [] []
   Call : (a : ℕ) (rest nodes more : List ℕ) → Expands g (successors g a) nodes → Expands g rest more
@@ -17,7 +17,8 @@ HasCycle g = (a : ℕ) × OnCycle g a
 abbrev pub size_of : List ℕ → List ℕ → ℕ
 size_of own nodes = sum_by (slice_index own) nodes
 
--- no node lies on a cycle, each node's calls expand, and these are the sizes of the expanded nodes, each but at most the limit
+-- no node lies on a cycle, each node's calls expand, and these are the sizes of the expanded nodes, each but at most the
+-- limit
 pub record AreSizes (g : List (List ℕ)) (own : List ℕ) (limit : ℕ) (sizes : List ℕ) : Type 0 where
   pub acyclic : (a : ℕ) → OnCycle g a → ⊥
   pub each : length sizes ≡ length g

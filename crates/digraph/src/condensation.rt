@@ -9,8 +9,8 @@ use p4x_bits::OutOfMemory;
 use std::alloc::Global;
 use std::marker::Model;
 
-/// The strongly connected components of a graph: two nodes are in one of them exactly where each reaches the other. They are
-/// numbered from 0, and no edge leads to a greater number.
+/// The strongly connected components of a graph: two nodes are in one of them exactly where each reaches the other.
+/// They are numbered from 0, and no edge leads to a greater number.
 #[derive(Drop)]
 pub struct Components {
     numbers: Vec<usize>,
@@ -27,8 +27,8 @@ impl Model for Components {
 }
 
 impl Components {
-    /// The strongly connected components of a graph each of whose edges leads to one of its nodes, in time linear in nodes
-    /// and edges. The one error is want of memory.
+    /// The strongly connected components of a graph each of whose edges leads to one of its nodes, in time linear in
+    /// nodes and edges. The one error is want of memory.
     pub fn of(alloc: Global, graph: &Digraph) -> Result<Self, OutOfMemory>
         requires { IsClosed graph.now }
         ensures { IfOk result (AreComponents graph.now) }
@@ -60,8 +60,8 @@ impl Components {
         self.numbers[node]
     }
 
-    /// The nodes, by the numbers of their components: a node stands behind all nodes that it reaches, but for those that
-    /// reach it.
+    /// The nodes, by the numbers of their components: a node stands behind all nodes that it reaches, but for those
+    /// that reach it.
     pub fn order(&self) -> &[usize]
         ensures { result.now ≡ self.now.order }
     {
@@ -84,7 +84,8 @@ impl Components {
         false
     }
 
-    /// The least node that lies on a cycle of the graph whose components these are, and None exactly where no node does.
+    /// The least node that lies on a cycle of the graph whose components these are, and None exactly where no node
+    /// does.
     pub fn least_on_cycle(&self, graph: &Digraph) -> Option<usize>
         requires closed { IsClosed graph.now }
         requires components { AreComponents graph.now self.now }

@@ -42,9 +42,9 @@ fn total(calls: &[usize], sizes: &[u64], own: u64, limit: u64) -> u64
 }
 
 impl Components {
-    /// The size of each expanded node of the graph whose components these are, but at most the limit: what the node does
-    /// itself, and the sizes of the nodes that its calls expand to. None exactly where a node lies on a cycle. In time linear
-    /// in nodes and edges; the one error is want of memory.
+    /// The size of each expanded node of the graph whose components these are, but at most the limit: what the node
+    /// does itself, and what the nodes that its calls expand to do. None exactly where a node lies on a cycle. In time
+    /// linear in nodes and edges; the one error is want of memory.
     pub fn sizes(
         &self,
         alloc: Global,

@@ -57,8 +57,8 @@ impl Reached {
 }
 
 impl Digraph {
-    /// For each node of a graph, each of whose edges leads to one of its nodes, whether it is the node `from` or a walk leads
-    /// to it from there. In time linear in nodes and edges; the one error is want of memory.
+    /// For each node of a graph, each of whose edges leads to one of its nodes, whether it is the node `from` or a walk
+    /// leads to it from there. In time linear in nodes and edges; the one error is want of memory.
     pub fn reachable(&self, alloc: Global, from: usize) -> Result<Vec<bool>, OutOfMemory>
         requires closed { IsClosed self.now }
         requires from { from < length self.now }

@@ -13,7 +13,8 @@ WasReached r a = slice_index_or r.reached a false ≡ true
 
 -- a node is reached, for the first time or again
 abbrev pub reach_node : Reach → ℕ → Reach
-reach_node r a = if slice_index_or r.reached a false then r else record { reached = slice_set r.reached a true; left = a ∷ r.left }
+reach_node r a =
+    if slice_index_or r.reached a false then r else record { reached = slice_set r.reached a true; left = a ∷ r.left }
 
 abbrev pub reach_all : Reach → List ℕ → Reach
 reach_all r nodes = fold reach_node r nodes
@@ -23,7 +24,8 @@ pub record Spreading (g : List (List ℕ)) (from a : ℕ) (targets : List ℕ) (
   pub each : length r.reached ≡ length g
   pub start : WasReached r from
   pub sound : (x : ℕ) → WasReached r x → Reaches g from x
-  pub taken : (x b : ℕ) → WasReached r x → IsEdge g x b → WasReached r b ⊎ (Among x r.left ⊎ ((x ≡ a) × Among b targets))
+  pub taken : (x b : ℕ) → WasReached r x → IsEdge g x b
+      → WasReached r b ⊎ (Among x r.left ⊎ ((x ≡ a) × Among b targets))
   pub put : (x : ℕ) → Among x r.left → WasReached r x
 
 abbrev pub unreached : Bool → ℕ

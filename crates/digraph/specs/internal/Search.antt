@@ -29,6 +29,16 @@ entered s node edges = record s {
   path = record { node = node; left = edges } ∷ s.path;
 }
 
+-- what the mark of a node is
+abbrev pub IsNew : List Mark → ℕ → Type 0
+IsNew marks a = slice_get marks a ≡ Some New
+
+abbrev pub IsOpen : List Mark → ℕ → ℕ → Type 0
+IsOpen marks a place = slice_get marks a ≡ Some (Open place)
+
+abbrev pub IsDone : List Mark → ℕ → ℕ → Type 0
+IsDone marks a number = slice_get marks a ≡ Some (Done number)
+
 -- the numbers from the first one on that isn't greater
 abbrev pub up_to : ℕ → List ℕ → List ℕ
 up_to most [] = []
@@ -75,8 +85,10 @@ closed s begin = record s {
 
 -- a node is left: the component that begins with it is whole
 pub data HasLeft (old : State) (node : ℕ) (new : State) : Type 0 where
-  Closes : (p : ℕ) (ks : List ℕ) → slice_get old.marks node ≡ Some (Open p) → old.begins ≡ p ∷ ks → new ≡ closed old p → HasLeft old node new
-  Stays : (p : ℕ) → slice_get old.marks node ≡ Some (Open p) → ((ks : List ℕ) → old.begins ≡ p ∷ ks → ⊥) → new ≡ old → HasLeft old node new
+  Closes : (p : ℕ) (ks : List ℕ) → IsOpen old.marks node p → old.begins ≡ p ∷ ks → new ≡ closed old p
+      → HasLeft old node new
+  Stays : (p : ℕ) → IsOpen old.marks node p → ((ks : List ℕ) → old.begins ≡ p ∷ ks → ⊥) → new ≡ old
+      → HasLeft old node new
 
 -- a node on top of the path
 abbrev pub led_by : Frame → State → State
@@ -89,8 +101,8 @@ Waits (x ∷ rest) place a = ((a ≡ x) × (place ≡ length rest)) ⊎ Waits re
 
 -- the nodes that are open wait at their places
 pub record AreWaiting (marks : List Mark) (waiting : List ℕ) : Type 0 where
-  pub waits : (a p : ℕ) → slice_get marks a ≡ Some (Open p) → Waits waiting p a
-  pub marked : (a p : ℕ) → Waits waiting p a → slice_get marks a ≡ Some (Open p)
+  pub waits : (a p : ℕ) → IsOpen marks a p → Waits waiting p a
+  pub marked : (a p : ℕ) → Waits waiting p a → IsOpen marks a p
 
 -- the component of the node that waits at p isn't behind that of the node that waits at q
 abbrev pub NotBehind : List ℕ → ℕ → ℕ → Type 0
@@ -98,7 +110,9 @@ NotBehind begins p q = (k : ℕ) → Among k begins → k ≤ p → k ≤ q
 
 -- the component of node b is whole, or isn't in front of that of the node that waits at a place
 abbrev pub IsSettled : State → ℕ → ℕ → Type 0
-IsSettled s place b = ((n : ℕ) × (slice_get s.marks b ≡ Some (Done n))) ⊎ ((q : ℕ) × (slice_get s.marks b ≡ Some (Open q)) × NotBehind s.begins place q)
+IsSettled s place b =
+    ((n : ℕ) × (IsDone s.marks b n))
+    ⊎ ((q : ℕ) × (IsOpen s.marks b q) × NotBehind s.begins place q)
 
 -- the edge from a to b is still to be taken
 abbrev pub IsLeft : List (List ℕ) → List Frame → ℕ → ℕ → Type 0
@@ -113,13 +127,15 @@ IsTaken (Some edge) a b = (a ≡ edge.0) × (b ≡ edge.1)
 -- the nodes on the path wait, each in front of the ones above it
 abbrev pub IsPath : List (List ℕ) → List Mark → ℕ → List Frame → Type 0
 IsPath g marks limit [] = Unit {0}
-IsPath g marks limit (f ∷ rest) = (p : ℕ) × (slice_get marks f.node ≡ Some (Open p)) × (p < limit) × (f.left ≤ length (successors g f.node)) × IsPath g marks p rest
+IsPath g marks limit (f ∷ rest) =
+    (p : ℕ) × (IsOpen marks f.node p) × (p < limit) × (f.left ≤ length (successors g f.node)) × IsPath g marks p rest
 
 -- a node on the path waits at the place
 abbrev pub IsOnPath : List Mark → List Frame → ℕ → Type 0
 IsOnPath marks [] place = ⊥
-IsOnPath marks (f ∷ rest) place = (slice_get marks f.node ≡ Some (Open place)) ⊎ IsOnPath marks rest place
+IsOnPath marks (f ∷ rest) place = (IsOpen marks f.node place) ⊎ IsOnPath marks rest place
 
+-- each number is greater than all that stand behind it
 abbrev pub Falls : List ℕ → Type 0
 Falls [] = Unit {0}
 Falls (k ∷ ks) = ((j : ℕ) → Among j ks → j < k) × Falls ks
@@ -128,15 +144,18 @@ Falls (k ∷ ks) = ((j : ℕ) → Among j ks → j < k) × Falls ks
 pub record Searching (g : List (List ℕ)) (taken : Option (ℕ × ℕ)) (s : State) : Type 0 where
   pub size : length s.marks ≡ length g
   pub waiting : AreWaiting s.marks s.waiting
-  pub reach : (a b p q : ℕ) → slice_get s.marks a ≡ Some (Open p) → slice_get s.marks b ≡ Some (Open q) → NotBehind s.begins p q → Reaches g a b
-  pub edge : (a b p : ℕ) → slice_get s.marks a ≡ Some (Open p) → IsEdge g a b → IsSettled s p b ⊎ (IsLeft g s.path a b ⊎ IsTaken taken a b)
+  pub reach : (a b p q : ℕ) → IsOpen s.marks a p → IsOpen s.marks b q → NotBehind s.begins p q
+      → Reaches g a b
+  pub edge : (a b p : ℕ) → IsOpen s.marks a p → IsEdge g a b
+      → IsSettled s p b ⊎ (IsLeft g s.path a b ⊎ IsTaken taken a b)
   pub path : IsPath g s.marks (length s.waiting) s.path
   pub begins : (k : ℕ) → Among k s.begins → IsOnPath s.marks s.path k
   pub falls : Falls s.begins
-  pub rooted : (a p : ℕ) → slice_get s.marks a ≡ Some (Open p) → (k : ℕ) × Among k s.begins × (k ≤ p)
-  pub done_edge : (a b n : ℕ) → slice_get s.marks a ≡ Some (Done n) → IsEdge g a b → (m : ℕ) × (slice_get s.marks b ≡ Some (Done m)) × (m ≤ n)
-  pub done_reach : (a b n : ℕ) → slice_get s.marks a ≡ Some (Done n) → slice_get s.marks b ≡ Some (Done n) → Reaches g a b
-  pub done_below : (a n : ℕ) → slice_get s.marks a ≡ Some (Done n) → n < s.count
+  pub rooted : (a p : ℕ) → IsOpen s.marks a p → (k : ℕ) × Among k s.begins × (k ≤ p)
+  pub done_edge : (a b n : ℕ) → IsDone s.marks a n → IsEdge g a b
+      → (m : ℕ) × (IsDone s.marks b m) × (m ≤ n)
+  pub done_reach : (a b n : ℕ) → IsDone s.marks a n → IsDone s.marks b n → Reaches g a b
+  pub done_below : (a n : ℕ) → IsDone s.marks a n → n < s.count
 
 -- how much work is left
 abbrev pub mark_weight : ℕ → Mark → ℕ
@@ -159,21 +178,21 @@ number_of (Done number) = number
 -- what is true of the order between any two steps
 pub record IsListed (s : State) : Type 0 where
   pub few : s.count ≤ length s.order
-  pub done : (a : ℕ) → Among a s.order → (n : ℕ) × (slice_get s.marks a ≡ Some (Done n))
-  pub listed : (a n : ℕ) → slice_get s.marks a ≡ Some (Done n) → Among a s.order
-  pub used : (n : ℕ) → n < s.count → (a : ℕ) × (slice_get s.marks a ≡ Some (Done n))
+  pub done : (a : ℕ) → Among a s.order → (n : ℕ) × (IsDone s.marks a n)
+  pub listed : (a n : ℕ) → IsDone s.marks a n → Among a s.order
+  pub used : (n : ℕ) → n < s.count → (a : ℕ) × (IsDone s.marks a n)
   pub rises : Rises (map number_of s.marks) s.order
 
 -- a turn of the search
 pub record IsTurn (g : List (List ℕ)) (old new : State) : Type 0 where
   pub searching : Searching g None new
   pub listed : IsListed new
-  pub reached : (a : ℕ) → slice_get new.marks a ≡ Some New → slice_get old.marks a ≡ Some New
+  pub reached : (a : ℕ) → IsNew new.marks a → IsNew old.marks a
   pub lighter : work g new < work g old
 
 -- what a search from a node keeps
 pub record IsVisit (g : List (List ℕ)) (old new : State) (root : ℕ) : Type 0 where
   pub searching : Searching g None new
   pub listed : IsListed new
-  pub reached : (a : ℕ) → slice_get new.marks a ≡ Some New → slice_get old.marks a ≡ Some New
-  pub root_reached : slice_get new.marks root ≡ Some New → ⊥
+  pub reached : (a : ℕ) → IsNew new.marks a → IsNew old.marks a
+  pub root_reached : IsNew new.marks root → ⊥
