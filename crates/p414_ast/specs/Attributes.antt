@@ -2,7 +2,7 @@
 -- Type Declarations", "Header and Metadata Instances", "Table Declarations", "Counters", "Meters", "Registers"). Of two
 -- attributes of one kind the first counts: that is this project's own, since the grammar has each at most once.
 use Rattle.std.specs.Prelude.{ℕ, Bool, true, false, List, [], ◌∷◌, Option, Some, None}
-use Rattle.p414_ast.specs.declared.lexeme.Literal.{Literal}
+use Rattle.p414_lexemes.specs.declared.lexeme.Literal.{Literal}
 use Rattle.p414_ast.specs.declared.parts.Number.{Number}
 use Rattle.p414_ast.specs.declared.parts.Ref.{Ref}
 use Rattle.p414_ast.specs.declared.headers.Initial.{Initial}

@@ -2,13 +2,15 @@
 -- or at least once, and which of two alternatives is meant where both could be written so. Where an earlier alternative
 -- of a line can be written with the same tokens, that one is meant (P4_14 1.0.5, "P4 BNF Grammar"; the tightness of
 -- operators, and that no word is reserved everywhere, are this project's own).
-use Rattle.std.specs.Prelude.{ℕ, zero, suc, Bool, true, false, not, ◌&&◌, nat_eq, nat_le, List, [], ◌∷◌, ◌++◌, codes, map, Option, Some, None}
+use Rattle.std.specs.Prelude.{ℕ, zero, suc, Bool, true, false, not, ◌&&◌, nat_eq, nat_le, List, [], ◌∷◌, ◌++◌, map, Option, Some, None}
 use Rattle.std.specs.List.{list_all, list_any}
 use Rattle.std.specs.Str.{bytes_eq}
-use Rattle.p414_ast.specs.declared.lexeme.Lexeme.{Lexeme}
-use Rattle.p414_ast.specs.declared.lexeme.Lexeme.TheVariants as lexeme
-use Rattle.p414_ast.specs.declared.lexeme.Mark.{Mark}
-use Rattle.p414_ast.specs.declared.lexeme.Mark.TheVariants as mark
+use Rattle.p414_lexemes.specs.declared.keyword.Keyword.TheVariants as key
+use Rattle.p414_lexemes.specs.Keywords.{keyword_text}
+use Rattle.p414_lexemes.specs.declared.lexeme.Lexeme.{Lexeme}
+use Rattle.p414_lexemes.specs.declared.lexeme.Lexeme.TheVariants as lexeme
+use Rattle.p414_lexemes.specs.declared.mark.Mark.{Mark}
+use Rattle.p414_lexemes.specs.declared.mark.Mark.TheVariants as mark
 use Rattle.p414_ast.specs.declared.parts.Inst.{Inst}
 use Rattle.p414_ast.specs.declared.parts.Index.{Index}
 use Rattle.p414_ast.specs.declared.parts.Ref.{Ref}
@@ -60,7 +62,7 @@ is_bare word i = bytes_eq i.name word && is_bare_index i.index
 
 -- the words that are never names in an expression
 abbrev pub expression_words : List (List ℕ)
-expression_words = codes "and" ∷ codes "or" ∷ codes "not" ∷ codes "true" ∷ codes "false" ∷ codes "valid" ∷ []
+expression_words = map keyword_text (key.And ∷ key.Or ∷ key.Not ∷ key.True ∷ key.False ∷ key.Valid ∷ [])
 
 abbrev pub is_expression_name : List ℕ → Bool
 is_expression_name text = not (is_among text expression_words)
@@ -96,7 +98,7 @@ abbrev pub is_item : Item → Bool
 is_item item.Payload = true
 is_item (item.Number n) = true
 is_item (item.Field r) = true
-is_item (item.Instance i) = not (is_bare (codes "payload") i)
+is_item (item.Instance i) = not (is_bare (keyword_text key.Payload) i)
 
 -- parser states
 
@@ -104,14 +106,14 @@ is_item (item.Instance i) = not (is_bare (codes "payload") i)
 abbrev pub is_pvalue : PValue → Bool
 is_pvalue (pvalue.Current offset bits) = true
 is_pvalue (pvalue.Latest f) = true
-is_pvalue (pvalue.Field r) = not (is_bare (codes "latest") r.instance)
+is_pvalue (pvalue.Field r) = not (is_bare (keyword_text key.Latest) r.instance)
 is_pvalue (pvalue.Number n) = true
 
 -- a value in a select is no number
 abbrev pub is_select_value : PValue → Bool
 is_select_value (pvalue.Current offset bits) = true
 is_select_value (pvalue.Latest f) = true
-is_select_value (pvalue.Field r) = not (is_bare (codes "latest") r.instance)
+is_select_value (pvalue.Field r) = not (is_bare (keyword_text key.Latest) r.instance)
 is_select_value (pvalue.Number n) = false
 
 abbrev pub is_pstmt : PStmt → Bool
@@ -148,7 +150,7 @@ abbrev pub has_word : List (List ℕ) → List (List ℕ) → Bool
 has_word needed words = list_any (λ word. is_among word needed) words
 
 abbrev pub table_needs : List (List ℕ)
-table_needs = codes "actions" ∷ codes "action_profile" ∷ []
+table_needs = keyword_text key.Actions ∷ keyword_text key.ActionProfile ∷ []
 
 abbrev pub are_table_attrs : List TableAttr → Bool
 are_table_attrs attrs =
@@ -159,10 +161,10 @@ are_table_attrs attrs =
 -- `width` or `layout`
 
 abbrev pub counter_needs : List (List ℕ)
-counter_needs = codes "type" ∷ []
+counter_needs = keyword_text key.Counts ∷ []
 
 abbrev pub register_needs : List (List ℕ)
-register_needs = codes "width" ∷ codes "layout" ∷ []
+register_needs = keyword_text key.Width ∷ keyword_text key.Layout ∷ []
 
 abbrev pub are_state_attrs : List (List ℕ) → List StateAttr → Bool
 are_state_attrs needed attrs = all_different (map state_word attrs) && has_word needed (map state_word attrs)
@@ -170,10 +172,10 @@ are_state_attrs needed attrs = all_different (map state_word attrs) && has_word 
 -- controls
 
 abbrev pub outcomes : List (List ℕ)
-outcomes = codes "hit" ∷ codes "miss" ∷ []
+outcomes = keyword_text key.Hit ∷ keyword_text key.Miss ∷ []
 
 abbrev pub own_labels : List (List ℕ)
-own_labels = codes "hit" ∷ codes "miss" ∷ codes "default" ∷ []
+own_labels = keyword_text key.Hit ∷ keyword_text key.Miss ∷ keyword_text key.Default ∷ []
 
 -- no action is meant under one of these words
 abbrev pub is_label : Label → Bool

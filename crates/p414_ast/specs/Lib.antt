@@ -4,7 +4,8 @@
 -- Attributes.antt: what header types, metadata instances, tables, counters, meters and registers declare.
 -- References.antt: what a reference refers to.
 -- Written.antt: the tokens of a syntax, by the words in Words.antt and Operators.antt. Conditions.antt: what the
--- grammar asks besides. Spells.antt: both in one. Code.antt and internal/ serve proofs alone.
+-- grammar asks besides. Spells.antt: both in one. Spelt.antt: which syntaxes a text can have. Code.antt and internal/
+-- serve proofs alone. The texts of words and marks stand in p414_lexemes.
 pub mod Tree
 pub mod Views
 pub mod Heads
@@ -18,4 +19,5 @@ pub mod Operators
 pub mod Written
 pub mod Conditions
 pub mod Spells
+pub mod Spelt
 pub mod internal

@@ -1,19 +1,20 @@
 -- The operators of expressions, each with its token and how tightly it binds (this project's own order; P4_14 1.0.5
 -- leaves it to C).
-use Rattle.std.specs.Prelude.{ℕ, codes}
-use Rattle.p414_ast.specs.declared.lexeme.Lexeme.{Lexeme}
-use Rattle.p414_ast.specs.declared.lexeme.Lexeme.TheVariants.{Mark}
-use Rattle.p414_ast.specs.declared.lexeme.Mark.TheVariants as mark
+use Rattle.std.specs.Prelude.{ℕ}
+use Rattle.p414_lexemes.specs.declared.keyword.Keyword.TheVariants as key
+use Rattle.p414_lexemes.specs.declared.lexeme.Lexeme.{Lexeme}
+use Rattle.p414_lexemes.specs.declared.lexeme.Lexeme.TheVariants.{Mark}
+use Rattle.p414_lexemes.specs.declared.mark.Mark.TheVariants as mark
 use Rattle.p414_ast.specs.declared.node.UnaryOperator.{UnaryOperator}
 use Rattle.p414_ast.specs.declared.node.UnaryOperator.TheVariants.{Negate, Complement, Not}
 use Rattle.p414_ast.specs.declared.node.BinaryOperator.{BinaryOperator}
 use Rattle.p414_ast.specs.declared.node.BinaryOperator.TheVariants.{Multiply, Add, Subtract, ShiftLeft, ShiftRight, BitAnd, BitXor, BitOr, Less, LessEqual, Greater, GreaterEqual, Equal, NotEqual, And, Or}
-use Rattle.p414_ast.specs.Words.{name}
+use Rattle.p414_ast.specs.Words.{keyword}
 
 abbrev pub unary_token : UnaryOperator → Lexeme
 unary_token Negate = Mark mark.Minus
 unary_token Complement = Mark mark.Tilde
-unary_token Not = name (codes "not")
+unary_token Not = keyword key.Not
 
 -- how tightly an operator in front of its operand binds
 abbrev pub unary_power : UnaryOperator → ℕ
@@ -36,8 +37,8 @@ binary_token Greater = Mark mark.Greater
 binary_token GreaterEqual = Mark mark.GreaterEqual
 binary_token Equal = Mark mark.Equal
 binary_token NotEqual = Mark mark.NotEqual
-binary_token And = name (codes "and")
-binary_token Or = name (codes "or")
+binary_token And = keyword key.And
+binary_token Or = keyword key.Or
 
 -- how tightly an operator between two operands binds; operators of one tightness group to the left
 abbrev pub binary_power : BinaryOperator → ℕ

@@ -1,6 +1,6 @@
 -- Which tokens a syntax is spelled with (P4_14 1.0.5, "P4 BNF Grammar").
 use Rattle.std.specs.Prelude.{◌≡◌, true, List}
-use Rattle.p414_ast.specs.declared.lexeme.Lexeme.{Lexeme}
+use Rattle.p414_lexemes.specs.declared.lexeme.Lexeme.{Lexeme}
 use Rattle.p414_ast.specs.declared.syntax.Syntax14.{Syntax14}
 use Rattle.p414_ast.specs.Written.{written}
 use Rattle.p414_ast.specs.Conditions.{is_syntax}

@@ -1,12 +1,18 @@
 -- The words and marks that the grammar of P4_14 quotes, as tokens (P4_14 1.0.5, "P4 BNF Grammar").
 use Rattle.std.specs.Prelude.{ℕ, List}
-use Rattle.p414_ast.specs.declared.lexeme.Lexeme.{Lexeme}
-use Rattle.p414_ast.specs.declared.lexeme.Lexeme.TheVariants as lexeme
-use Rattle.p414_ast.specs.declared.lexeme.Mark.TheVariants as mark_of
+use Rattle.p414_lexemes.specs.declared.keyword.Keyword.{Keyword}
+use Rattle.p414_lexemes.specs.Keywords.{keyword_text}
+use Rattle.p414_lexemes.specs.declared.lexeme.Lexeme.{Lexeme}
+use Rattle.p414_lexemes.specs.declared.lexeme.Lexeme.TheVariants as lexeme
+use Rattle.p414_lexemes.specs.declared.mark.Mark.TheVariants as mark_of
 
--- a name, or a word by its text
+-- a name
 abbrev pub name : List ℕ → Lexeme
 name text = lexeme.Name text
+
+-- a word that the grammar quotes
+abbrev pub keyword : Keyword → Lexeme
+keyword word = name (keyword_text word)
 
 abbrev pub brace_open : Lexeme
 brace_open = lexeme.Mark mark_of.BraceOpen

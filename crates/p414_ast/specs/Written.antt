@@ -1,10 +1,12 @@
 -- The tokens that a syntax is written with: each part of the grammar with its words, its marks and its parts in order
 -- (P4_14 1.0.5, "P4 BNF Grammar").
-use Rattle.std.specs.Prelude.{ℕ, Bool, true, false, cond, List, [], ◌∷◌, ◌++◌, codes, Option, Some, None}
+use Rattle.std.specs.Prelude.{ℕ, Bool, true, false, cond, List, [], ◌∷◌, ◌++◌, Option, Some, None}
 use Rattle.std.specs.List.{flat_map}
-use Rattle.p414_ast.specs.declared.lexeme.Literal.{Literal}
-use Rattle.p414_ast.specs.declared.lexeme.Lexeme.{Lexeme}
-use Rattle.p414_ast.specs.declared.lexeme.Lexeme.TheVariants as lexeme
+use Rattle.p414_lexemes.specs.declared.keyword.Keyword.TheVariants as key
+use Rattle.p414_lexemes.specs.Keywords.{keyword_text}
+use Rattle.p414_lexemes.specs.declared.lexeme.Literal.{Literal}
+use Rattle.p414_lexemes.specs.declared.lexeme.Lexeme.{Lexeme}
+use Rattle.p414_lexemes.specs.declared.lexeme.Lexeme.TheVariants as lexeme
 use Rattle.p414_ast.specs.declared.parts.Sign.{Sign}
 use Rattle.p414_ast.specs.declared.parts.Sign.TheVariants as sign
 use Rattle.p414_ast.specs.declared.parts.Number.{Number}
@@ -67,7 +69,7 @@ use Rattle.p414_ast.specs.declared.syntax.Decl.TheVariants as decl
 use Rattle.p414_ast.specs.declared.syntax.Syntax14.{Syntax14}
 use Rattle.p414_ast.specs.Tree.{Expr, valid, truth, field, number, parenthesized, unary, binary, Stmt, no_statements, then, apply, apply_branches, if_then, call, no_else, else_block, else_if, no_branches, branch}
 use Rattle.p414_ast.specs.Views.{TailTree, length_is, max_length_is, HeaderTypeTree, ControlTree}
-use Rattle.p414_ast.specs.Words.{name, brace_open, brace_close, paren_open, paren_close, bracket_open, bracket_close, semicolon, colon, comma, dot, plus, minus, star, equal}
+use Rattle.p414_ast.specs.Words.{name, keyword, brace_open, brace_close, paren_open, paren_close, bracket_open, bracket_close, semicolon, colon, comma, dot, plus, minus, star, equal}
 use Rattle.p414_ast.specs.Operators.{unary_token, binary_token}
 
 -- parts that several lines of the grammar share
@@ -120,8 +122,8 @@ written_number n = written_option written_sign n.sign ++ written_literal n.liter
 -- the token between the brackets of an index
 abbrev pub index_token : Index → Lexeme
 index_token (index.At n) = lexeme.Number n
-index_token index.Next = name (codes "next")
-index_token index.Last = name (codes "last")
+index_token index.Next = keyword key.Next
+index_token index.Last = keyword key.Last
 
 abbrev pub written_index : Index → List Lexeme
 written_index i = bracket_open ∷ index_token i ∷ bracket_close ∷ []
@@ -135,11 +137,11 @@ written_ref r = written_inst r.instance ++ dot ∷ name r.field ∷ []
 -- expressions
 
 abbrev pub written_truth : Bool → List Lexeme
-written_truth true = name (codes "true") ∷ []
-written_truth false = name (codes "false") ∷ []
+written_truth true = keyword key.True ∷ []
+written_truth false = keyword key.False ∷ []
 
 abbrev pub written_valid : Inst → List Lexeme
-written_valid i = name (codes "valid") ∷ in_parens (written_inst i)
+written_valid i = keyword key.Valid ∷ in_parens (written_inst i)
 
 abbrev pub written_expr : Expr → List Lexeme
 written_expr (valid i) = written_valid i
@@ -166,8 +168,8 @@ written_field f =
     name f.name ∷ colon ∷ (written_width f.width ++ (written_field_attributes f.attributes ++ semicolon ∷ []))
 
 abbrev pub tail_word : TailTree → List ℕ
-tail_word (length_is e) = codes "length"
-tail_word (max_length_is e) = codes "max_length"
+tail_word (length_is e) = keyword_text key.Length
+tail_word (max_length_is e) = keyword_text key.MaxLength
 
 abbrev pub tail_expr : TailTree → Expr
 tail_expr (length_is e) = e
@@ -178,15 +180,15 @@ written_tail t = attribute (tail_word t) (written_expr (tail_expr t))
 
 abbrev pub written_header_type : HeaderTypeTree → List Lexeme
 written_header_type h =
-    name (codes "header_type") ∷ name h.name
-    ∷ in_braces (name (codes "fields") ∷ (in_braces (flat_map written_field h.fields) ++ flat_map written_tail h.tails))
+    keyword key.HeaderType ∷ name h.name
+    ∷ in_braces (keyword key.Fields ∷ (in_braces (flat_map written_field h.fields) ++ flat_map written_tail h.tails))
 
 abbrev pub written_size : Literal → List Lexeme
 written_size n = bracket_open ∷ lexeme.Number n ∷ bracket_close ∷ []
 
 abbrev pub written_header : Header → List Lexeme
 written_header h =
-    name (codes "header") ∷ name h.header_type ∷ name h.name ∷ (written_option written_size h.size ++ semicolon ∷ [])
+    keyword key.Header ∷ name h.header_type ∷ name h.name ∷ (written_option written_size h.size ++ semicolon ∷ [])
 
 abbrev pub written_initial : Initial → List Lexeme
 written_initial i = attribute i.field (written_number i.value)
@@ -196,70 +198,70 @@ written_initials None = semicolon ∷ []
 written_initials (Some i) = in_braces (flat_map written_initial i.values) ++ cond i.semicolon (semicolon ∷ []) []
 
 abbrev pub written_metadata : Metadata → List Lexeme
-written_metadata m = name (codes "metadata") ∷ name m.header_type ∷ name m.name ∷ written_initials m.initials
+written_metadata m = keyword key.Metadata ∷ name m.header_type ∷ name m.name ∷ written_initials m.initials
 
 -- field lists, calculations and calculated fields
 
 abbrev pub written_item : Item → List Lexeme
-written_item item.Payload = name (codes "payload") ∷ semicolon ∷ []
+written_item item.Payload = keyword key.Payload ∷ semicolon ∷ []
 written_item (item.Number n) = lexeme.Number n ∷ semicolon ∷ []
 written_item (item.Field r) = written_ref r ++ semicolon ∷ []
 written_item (item.Instance i) = written_inst i ++ semicolon ∷ []
 
 abbrev pub written_field_list : FieldList → List Lexeme
-written_field_list l = name (codes "field_list") ∷ name l.name ∷ in_braces (flat_map written_item l.items)
+written_field_list l = keyword key.FieldList ∷ name l.name ∷ in_braces (flat_map written_item l.items)
 
 abbrev pub written_calculation : FieldListCalculation → List Lexeme
 written_calculation c =
-    name (codes "field_list_calculation") ∷ name c.name ∷ in_braces (
-    name (codes "input") ∷ (in_braces (flat_map name_line c.input)
-    ++ (attribute (codes "algorithm") (written_name c.algorithm)
-    ++ attribute (codes "output_width") (written_literal c.output_width))))
+    keyword key.FieldListCalculation ∷ name c.name ∷ in_braces (
+    keyword key.Input ∷ (in_braces (flat_map name_line c.input)
+    ++ (attribute (keyword_text key.Algorithm) (written_name c.algorithm)
+    ++ attribute (keyword_text key.OutputWidth) (written_literal c.output_width))))
 
 abbrev pub written_use : CalcUse → Lexeme
-written_use calc_use.Update = name (codes "update")
-written_use calc_use.Verify = name (codes "verify")
+written_use calc_use.Update = keyword key.Update
+written_use calc_use.Verify = keyword key.Verify
 
 abbrev pub written_cond : CalcCond → List Lexeme
 written_cond (calc_cond.Valid i) = written_valid i
 written_cond (calc_cond.Equal r n) = written_ref r ++ equal ∷ lexeme.Number n ∷ []
 
 abbrev pub written_if : CalcCond → List Lexeme
-written_if c = name (codes "if") ∷ in_parens (written_cond c)
+written_if c = keyword key.If ∷ in_parens (written_cond c)
 
 abbrev pub written_calc : Calc → List Lexeme
 written_calc c = written_use c.used_to ∷ name c.calculation ∷ (written_option written_if c.condition ++ semicolon ∷ [])
 
 abbrev pub written_calculated : CalculatedField → List Lexeme
 written_calculated c =
-    name (codes "calculated_field") ∷ (written_ref c.field ++ in_braces (flat_map written_calc c.entries))
+    keyword key.CalculatedField ∷ (written_ref c.field ++ in_braces (flat_map written_calc c.entries))
 
 -- parser states
 
 abbrev pub written_pvalue : PValue → List Lexeme
 written_pvalue (pvalue.Current offset bits) =
-    name (codes "current") ∷ in_parens (lexeme.Number offset ∷ comma ∷ lexeme.Number bits ∷ [])
-written_pvalue (pvalue.Latest f) = name (codes "latest") ∷ dot ∷ name f ∷ []
+    keyword key.Current ∷ in_parens (lexeme.Number offset ∷ comma ∷ lexeme.Number bits ∷ [])
+written_pvalue (pvalue.Latest f) = keyword key.Latest ∷ dot ∷ name f ∷ []
 written_pvalue (pvalue.Field r) = written_ref r
 written_pvalue (pvalue.Number n) = written_number n
 
 abbrev pub written_pstmt : PStmt → List Lexeme
-written_pstmt (pstmt.Extract i) = name (codes "extract") ∷ (in_parens (written_inst i) ++ semicolon ∷ [])
+written_pstmt (pstmt.Extract i) = keyword key.Extract ∷ (in_parens (written_inst i) ++ semicolon ∷ [])
 written_pstmt (pstmt.SetMetadata r v) =
-    name (codes "set_metadata") ∷ (in_parens (written_ref r ++ comma ∷ written_pvalue v) ++ semicolon ∷ [])
+    keyword key.SetMetadata ∷ (in_parens (written_ref r ++ comma ∷ written_pvalue v) ++ semicolon ∷ [])
 
 abbrev pub written_mask : Literal → List Lexeme
-written_mask n = name (codes "mask") ∷ lexeme.Number n ∷ []
+written_mask n = keyword key.Mask ∷ lexeme.Number n ∷ []
 
 abbrev pub written_masked : Masked → List Lexeme
 written_masked m = lexeme.Number m.value ∷ written_option written_mask m.mask
 
 abbrev pub written_case_values : CaseValues → List Lexeme
-written_case_values case_values.Default = name (codes "default") ∷ []
+written_case_values case_values.Default = keyword key.Default ∷ []
 written_case_values (case_values.Values ms) = by_commas written_masked ms
 
 abbrev pub written_target : CaseTarget → List Lexeme
-written_target (target.ParseError e) = name (codes "parse_error") ∷ name e ∷ []
+written_target (target.ParseError e) = keyword key.ParseError ∷ name e ∷ []
 written_target (target.State s) = name s ∷ []
 
 abbrev pub written_case : Case → List Lexeme
@@ -267,14 +269,14 @@ written_case c = written_case_values c.values ++ colon ∷ (written_target c.tar
 
 abbrev pub written_return : Return → List Lexeme
 written_return (end_of.Select vs cs) =
-    name (codes "return") ∷ name (codes "select")
+    keyword key.Return ∷ keyword key.Select
     ∷ (in_parens (by_commas written_pvalue vs) ++ in_braces (flat_map written_case cs))
-written_return (end_of.State s) = name (codes "return") ∷ name s ∷ semicolon ∷ []
-written_return (end_of.ParseError e) = name (codes "parse_error") ∷ name e ∷ semicolon ∷ []
+written_return (end_of.State s) = keyword key.Return ∷ name s ∷ semicolon ∷ []
+written_return (end_of.ParseError e) = keyword key.ParseError ∷ name e ∷ semicolon ∷ []
 
 abbrev pub written_parser : Parser → List Lexeme
 written_parser p =
-    name (codes "parser") ∷ name p.name ∷ in_braces (flat_map written_pstmt p.statements ++ written_return p.end)
+    keyword key.Parser ∷ name p.name ∷ in_braces (flat_map written_pstmt p.statements ++ written_return p.end)
 
 -- actions
 
@@ -288,7 +290,7 @@ written_call c = name c.name ∷ (in_parens (by_commas written_arg c.arguments) 
 
 abbrev pub written_action : Action → List Lexeme
 written_action a =
-    name (codes "action") ∷ name a.name
+    keyword key.Action ∷ name a.name
     ∷ (in_parens (by_commas written_name a.parameters) ++ in_braces (flat_map written_call a.calls))
 
 -- tables
@@ -305,14 +307,14 @@ written_arguments ns = in_parens (by_commas written_number ns)
 
 -- the word that an attribute begins with
 abbrev pub table_word : TableAttr → List ℕ
-table_word (table_attr.Reads rs) = codes "reads"
-table_word (table_attr.Actions names) = codes "actions"
-table_word (table_attr.MinSize n) = codes "min_size"
-table_word (table_attr.MaxSize n) = codes "max_size"
-table_word (table_attr.Size n) = codes "size"
-table_word (table_attr.SupportTimeout on) = codes "support_timeout"
-table_word (table_attr.DefaultAction a arguments) = codes "default_action"
-table_word (table_attr.ActionProfile p) = codes "action_profile"
+table_word (table_attr.Reads rs) = keyword_text key.Reads
+table_word (table_attr.Actions names) = keyword_text key.Actions
+table_word (table_attr.MinSize n) = keyword_text key.MinSize
+table_word (table_attr.MaxSize n) = keyword_text key.MaxSize
+table_word (table_attr.Size n) = keyword_text key.Size
+table_word (table_attr.SupportTimeout on) = keyword_text key.SupportTimeout
+table_word (table_attr.DefaultAction a arguments) = keyword_text key.DefaultAction
+table_word (table_attr.ActionProfile p) = keyword_text key.ActionProfile
 
 -- what stands behind that word
 abbrev pub written_table_value : TableAttr → List Lexeme
@@ -330,27 +332,27 @@ abbrev pub written_table_attr : TableAttr → List Lexeme
 written_table_attr a = name (table_word a) ∷ written_table_value a
 
 abbrev pub written_table : Table → List Lexeme
-written_table t = name (codes "table") ∷ name t.name ∷ in_braces (flat_map written_table_attr t.attributes)
+written_table t = keyword key.Table ∷ name t.name ∷ in_braces (flat_map written_table_attr t.attributes)
 
 -- counters, meters and registers
 
 abbrev pub written_counter_type : CounterType → List Lexeme
-written_counter_type counter_type.Packets = name (codes "packets") ∷ []
-written_counter_type counter_type.Bytes = name (codes "bytes") ∷ []
-written_counter_type counter_type.PacketsAndBytes = name (codes "packets_and_bytes") ∷ []
+written_counter_type counter_type.Packets = keyword key.Packets ∷ []
+written_counter_type counter_type.Bytes = keyword key.Bytes ∷ []
+written_counter_type counter_type.PacketsAndBytes = keyword key.PacketsAndBytes ∷ []
 
 -- the word that an attribute begins with
 abbrev pub state_word : StateAttr → List ℕ
-state_word (state_attr.Counts t) = codes "type"
-state_word (state_attr.Direct t) = codes "direct"
-state_word (state_attr.Static t) = codes "static"
-state_word (state_attr.Layout t) = codes "layout"
-state_word (state_attr.Result r) = codes "result"
-state_word (state_attr.InstanceCount n) = codes "instance_count"
-state_word (state_attr.Width n) = codes "width"
-state_word (state_attr.MinWidth n) = codes "min_width"
-state_word state_attr.Saturating = codes "saturating"
-state_word state_attr.Signed = codes "signed"
+state_word (state_attr.Counts t) = keyword_text key.Counts
+state_word (state_attr.Direct t) = keyword_text key.Direct
+state_word (state_attr.Static t) = keyword_text key.Static
+state_word (state_attr.Layout t) = keyword_text key.Layout
+state_word (state_attr.Result r) = keyword_text key.Result
+state_word (state_attr.InstanceCount n) = keyword_text key.InstanceCount
+state_word (state_attr.Width n) = keyword_text key.Width
+state_word (state_attr.MinWidth n) = keyword_text key.MinWidth
+state_word state_attr.Saturating = keyword_text key.Saturating
+state_word state_attr.Signed = keyword_text key.Signed
 
 -- what stands behind that word
 abbrev pub written_state_value : StateAttr → List Lexeme
@@ -375,36 +377,36 @@ written_stateful word s = name word ∷ name s.name ∷ in_braces (flat_map writ
 
 -- the text of a label
 abbrev pub label_text : Label → List ℕ
-label_text label.Hit = codes "hit"
-label_text label.Miss = codes "miss"
-label_text label.Default = codes "default"
+label_text label.Hit = keyword_text key.Hit
+label_text label.Miss = keyword_text key.Miss
+label_text label.Default = keyword_text key.Default
 label_text (label.Action a) = a
 
 abbrev pub written_stmt : Stmt → List Lexeme
 written_stmt no_statements = []
 written_stmt (then before last) = written_stmt before ++ written_stmt last
-written_stmt (apply table) = name (codes "apply") ∷ (in_parens (written_name table) ++ semicolon ∷ [])
+written_stmt (apply table) = keyword key.Apply ∷ (in_parens (written_name table) ++ semicolon ∷ [])
 written_stmt (apply_branches table bs) =
-    name (codes "apply") ∷ (in_parens (written_name table) ++ in_braces (written_stmt bs))
+    keyword key.Apply ∷ (in_parens (written_name table) ++ in_braces (written_stmt bs))
 written_stmt (if_then condition body other) =
-    name (codes "if") ∷ (in_parens (written_expr condition) ++ (in_braces (written_stmt body) ++ written_stmt other))
+    keyword key.If ∷ (in_parens (written_expr condition) ++ (in_braces (written_stmt body) ++ written_stmt other))
 written_stmt (call control) = name control ∷ paren_open ∷ paren_close ∷ semicolon ∷ []
 written_stmt no_else = []
-written_stmt (else_block body) = name (codes "else") ∷ in_braces (written_stmt body)
-written_stmt (else_if statement) = name (codes "else") ∷ written_stmt statement
+written_stmt (else_block body) = keyword key.Else ∷ in_braces (written_stmt body)
+written_stmt (else_if statement) = keyword key.Else ∷ written_stmt statement
 written_stmt no_branches = []
 written_stmt (branch before l body) = written_stmt before ++ name (label_text l) ∷ in_braces (written_stmt body)
 
 abbrev pub written_control : ControlTree → List Lexeme
-written_control c = name (codes "control") ∷ name c.name ∷ in_braces (written_stmt c.body)
+written_control c = keyword key.Control ∷ name c.name ∷ in_braces (written_stmt c.body)
 
 -- declarations
 
 abbrev pub written_kind : LeftOutKind → Lexeme
-written_kind left_out.ParserValueSet = name (codes "parser_value_set")
-written_kind left_out.ParserException = name (codes "parser_exception")
-written_kind left_out.ActionProfile = name (codes "action_profile")
-written_kind left_out.ActionSelector = name (codes "action_selector")
+written_kind left_out.ParserValueSet = keyword key.ParserValueSet
+written_kind left_out.ParserException = keyword key.ParserException
+written_kind left_out.ActionProfile = keyword key.ActionProfile
+written_kind left_out.ActionSelector = keyword key.ActionSelector
 
 abbrev pub written_group : Option (List Lexeme) → List Lexeme
 written_group None = semicolon ∷ []
@@ -423,9 +425,9 @@ written_decl (decl.CalculatedField c) = written_calculated c
 written_decl (decl.Parser p) = written_parser p
 written_decl (decl.Action a) = written_action a
 written_decl (decl.Table t) = written_table t
-written_decl (decl.Counter s) = written_stateful (codes "counter") s
-written_decl (decl.Meter s) = written_stateful (codes "meter") s
-written_decl (decl.Register s) = written_stateful (codes "register") s
+written_decl (decl.Counter s) = written_stateful (keyword_text key.Counter) s
+written_decl (decl.Meter s) = written_stateful (keyword_text key.Meter) s
+written_decl (decl.Register s) = written_stateful (keyword_text key.Register) s
 written_decl (decl.Control c) = written_control c
 written_decl (decl.LeftOut l) = written_left_out l
 

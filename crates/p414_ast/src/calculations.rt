@@ -1,8 +1,8 @@
 // Field lists, calculations over them, and the fields that are calculated (P4_14 1.0.5, "Field Lists", "Checksums and
 // Hash-value Generators").
-use crate::lexeme::Literal;
 use crate::parts::{Inst, Ref};
 use p4x_bits::{Rows, Text};
+use p414_lexemes::Literal;
 
 /// An item of a field list.
 #[derive(Debug, Drop)]

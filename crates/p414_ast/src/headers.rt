@@ -4,10 +4,10 @@ ghost use Rattle.p414_ast.specs.Attributes.{initials_of, length_of, max_length_o
 ghost use Rattle.p414_ast.specs.Views.{header_type_tree, tail_tree, TailsWithin};
 
 use crate::heads::{ExprView, expr_view};
-use crate::lexeme::Literal;
 use crate::nodes::Nodes;
 use crate::parts::Number;
 use p4x_bits::{Rows, Text};
+use p414_lexemes::Literal;
 use std::marker::Model;
 
 /// The width of a field.

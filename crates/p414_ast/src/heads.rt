@@ -4,11 +4,11 @@ ghost use Rattle.p414_ast.specs.Tree.{expr_at, stmt_at};
 ghost use Rattle.p414_ast.specs.Heads.{of_expr_head, of_head};
 ghost use Rattle.p414_ast.specs.Subtrees.{condition_of};
 
-use crate::lexeme::Literal;
 use crate::node::{BinaryOperator, ExprNode, Label, StmtNode, UnaryOperator};
 use crate::nodes::Nodes;
 use crate::parts::{Inst, Ref};
 use p4x_bits::Text;
+use p414_lexemes::Literal;
 use std::marker::Model;
 
 /// An expression, borrowed. Contracts see its tree.

@@ -7,7 +7,6 @@ mod calculations;
 mod control;
 mod headers;
 mod heads;
-mod lexeme;
 mod named;
 mod node;
 mod nodes;
@@ -30,11 +29,11 @@ pub use headers::{
     Field, FieldWidth, Header, HeaderType, HeaderTypeParts, Initial, Initials, Metadata, TypeTail,
 };
 pub use heads::{ExprHead, ExprView, StmtHead, StmtView};
-pub use lexeme::{Lexeme, Literal, Mark};
 pub use named::Named;
 pub use node::{BinaryOperator, ExprNode, Label, StmtNode, UnaryOperator};
 pub use nodes::Nodes;
 pub use objects::{CounterType, StateAttr, Stateful};
+pub use p414_lexemes::{Keyword, Lexeme, Literal, Mark};
 pub use parsers::{Case, CaseTarget, CaseValues, Masked, PStmt, PValue, Parser, Return};
 pub use parts::{Index, Inst, Number, Ref, Sign};
 pub use references::References;

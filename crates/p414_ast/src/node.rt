@@ -1,7 +1,7 @@
 // The nodes that expressions and statements are kept in. A child is named by its place in the list.
-use crate::lexeme::Literal;
 use crate::parts::{Inst, Ref};
 use p4x_bits::Text;
+use p414_lexemes::Literal;
 
 /// An operator in front of an operand.
 #[derive(Clone, Copy, Debug, PartialEq, Eq, Drop)]

@@ -2,9 +2,9 @@
 ghost use Rattle.std.specs.Prelude.{◌≡◌, option_copied};
 ghost use Rattle.p414_ast.specs.Attributes.{counts_of, direct_table_of, static_table_of, layout_of, result_field_of, instance_count_of, width_of, min_width_of, is_saturating_of, is_signed_of};
 
-use crate::lexeme::Literal;
 use crate::parts::Ref;
 use p4x_bits::{Rows, Text};
+use p414_lexemes::Literal;
 
 /// What a counter or a meter counts.
 #[derive(Clone, Copy, Debug, PartialEq, Eq, Drop)]

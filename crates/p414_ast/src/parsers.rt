@@ -1,7 +1,7 @@
 // Parser states (P4_14 1.0.5, "Parser Specification").
-use crate::lexeme::Literal;
 use crate::parts::{Inst, Number, Ref};
 use p4x_bits::{Rows, Text};
+use p414_lexemes::Literal;
 
 /// A value in a parser state.
 #[derive(Debug, Drop)]

@@ -1,6 +1,6 @@
 // Numbers, instances and fields, as many declarations name them.
-use crate::lexeme::Literal;
 use p4x_bits::Text;
+use p414_lexemes::Literal;
 
 /// A sign in front of a number.
 #[derive(Clone, Copy, Debug, PartialEq, Eq, Drop)]

@@ -3,11 +3,11 @@ use crate::actions::Action;
 use crate::calculations::{CalculatedField, FieldList, FieldListCalculation};
 use crate::control::Control;
 use crate::headers::{Header, HeaderType, Metadata};
-use crate::lexeme::Lexeme;
 use crate::objects::Stateful;
 use crate::parsers::Parser;
 use crate::tables::Table;
 use p4x_bits::{Rows, Text};
+use p414_lexemes::Lexeme;
 
 /// A declaration that is read and has no meaning here.
 #[derive(Clone, Copy, Debug, PartialEq, Eq, Drop)]

@@ -2,9 +2,9 @@
 ghost use Rattle.std.specs.Prelude.{◌≡◌, option_copied};
 ghost use Rattle.p414_ast.specs.Attributes.{reads_of, actions_of, min_size_of, max_size_of, size_of, support_timeout_of, default_action_of, default_arguments_of, action_profile_of};
 
-use crate::lexeme::Literal;
 use crate::parts::{Inst, Number, Ref};
 use p4x_bits::{Rows, Text};
+use p414_lexemes::Literal;
 
 /// What a table reads.
 #[derive(Debug, Drop)]

@@ -6,11 +6,11 @@ use Rattle.std.proofs.lemmas.Result.{IfOk-weaker}
 use Rattle.predictive_parser.specs.Grammar.{first_fit, with_more, plain_lines, ◌⇒◌}
 use Rattle.predictive_parser.specs.Steps.{Chooses}
 use Rattle.predictive_parser.specs.declared.symbol.Symbol.TheVariants.{Token, Put}
-use Rattle.p414_ast.specs.declared.lexeme.Lexeme.{Lexeme}
-use Rattle.p414_ast.specs.declared.lexeme.Mark.TheVariants.{ParenOpen}
+use Rattle.p414_lexemes.specs.declared.lexeme.Lexeme.{Lexeme}
+use Rattle.p414_lexemes.specs.declared.mark.Mark.TheVariants.{ParenOpen}
 use Rattle.p414_ast.specs.declared.node.BinaryOperator.{BinaryOperator}
 use Rattle.p414_ast.specs.Operators.{binary_power}
-use Rattle.p414_reader.specs.declared.keyword.Keyword.TheVariants as key
+use Rattle.p414_lexemes.specs.declared.keyword.Keyword.TheVariants as key
 use Rattle.p414_reader.specs.declared.symbols.Class.{Class}
 use Rattle.p414_reader.specs.declared.symbols.Class.TheVariants as class
 use Rattle.p414_reader.specs.declared.symbols.Action.TheVariants as action
@@ -23,10 +23,9 @@ use Rattle.p414_reader.specs.Classes.{prefix_of, infix_of}
 use Rattle.p414_reader.specs.Rows.{Sym, Rows, grammar14, prefix_rest, infix_rest, operand_rest, body_sym, part_sym, paren_open, paren_close, dot}
 use Rattle.p414_reader.specs.Coded.{ChoosesLine, body_coded}
 
-pub seen_at : {A B : Type 0} (f : A → B) (xs : List A) (i : ℕ) (y : B) (d : A) → slice_get (map f xs) i ≡ Some y → f (get_or xs i d) ≡ y
-seen_at f [] i y d e = cc
-seen_at f (x ∷ xs) zero y d e = cc
-seen_at f (x ∷ xs) (suc i) y d e = seen_at f xs i y d e
+pub same_token : (a b : Lexeme) (o : Option Lexeme) → o ≡ Some a → o ≡ Some b → a ≡ b
+same_token a b None e f = cc
+same_token a b (Some t) e f = cc
 
 abbrev infix_row : ℕ → ℕ → BinaryOperator → List Sym
 infix_row least power operator = body_sym (Expr (power + 1)) ∷ Put (action.Body (body.Binary operator)) ∷ body_sym (Operators least power) ∷ []
@@ -60,10 +59,6 @@ operand_rows least prefix =
     ∷ (class.Prefix least ⇒ prefix)
     ∷ (class.ExpressionName ⇒ part_sym IndexOption ∷ Put (action.Part part.Inst) ∷ dot ∷ Token class.ExpressionName ∷ Put (action.Part part.Ref) ∷ Put (action.Body body.Field) ∷ operand_rest least)
     ∷ []
-
-same_token : (a b : Lexeme) (o : Option Lexeme) → o ≡ Some a → o ≡ Some b → a ≡ b
-same_token a b None e f = cc
-same_token a b (Some t) e f = cc
 
 pub chosen_operand : {E : Type 0} (least : ℕ) (prefix more : List Sym)
     (tokens : List Lexeme) (place : ℕ) (built : Built) (r : Result (Option Class) E) (old new : List Sym)

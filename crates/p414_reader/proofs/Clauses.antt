@@ -16,7 +16,7 @@ use Rattle.p414_reader.specs.declared.error.Read14.TheVariants.{Memory, Refused}
 use Rattle.p414_reader.specs.declared.symbols.Word.TheVariants as word
 use Rattle.p414_reader.specs.Built.{Built, nothing}
 use Rattle.p414_reader.specs.Rows.{grammar14}
-use Rattle.p414_reader.specs.Lexemes.{lexemes}
+use Rattle.p414_tok.specs.Lexemes.{lexemes}
 use Rattle.p414_reader.specs.Reading.{fault_at, IsReadOf, IsReadBy, IsRead, Reads14, IsSyntaxFault, IsRefused14, IfRefused, Answers14}
 use Rattle.p414_reader.proofs.Language.{language14, one_syntax, refused14}
 

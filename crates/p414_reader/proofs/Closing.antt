@@ -4,16 +4,16 @@ use Rattle.std.proofs.Common.{◌≡◌, ℕ, Bool, true, false, ◌&&◌, ◌||
 use Rattle.std.specs.Str.{bytes_eq}
 use Rattle.predictive_parser.specs.declared.symbol.Symbol.TheVariants.{Put}
 use Rattle.predictive_parser.proofs.Closings.{Closing, IsClosed, row_fits}
-use Rattle.p414_ast.specs.declared.lexeme.Lexeme.{Lexeme}
-use Rattle.p414_ast.specs.declared.lexeme.Lexeme.TheVariants as lexeme
-use Rattle.p414_ast.specs.declared.lexeme.Mark.{Mark}
-use Rattle.p414_ast.specs.declared.lexeme.Mark.TheVariants as mark
+use Rattle.p414_lexemes.specs.declared.lexeme.Lexeme.{Lexeme}
+use Rattle.p414_lexemes.specs.declared.lexeme.Lexeme.TheVariants as lexeme
+use Rattle.p414_lexemes.specs.declared.mark.Mark.{Mark}
+use Rattle.p414_lexemes.specs.declared.mark.Mark.TheVariants as mark
 use Rattle.p414_ast.specs.declared.node.UnaryOperator.{UnaryOperator}
 use Rattle.p414_ast.specs.declared.node.BinaryOperator.{BinaryOperator}
 use Rattle.p414_ast.specs.Words.{name, brace_open, brace_close, paren_open, paren_close, semicolon, colon, dot, equal}
 use Rattle.p414_ast.specs.Conditions.{is_expression_name, brace_of}
-use Rattle.p414_reader.specs.declared.keyword.Keyword.{Keyword}
-use Rattle.p414_reader.specs.declared.keyword.Keyword.TheVariants as key
+use Rattle.p414_lexemes.specs.declared.keyword.Keyword.{Keyword}
+use Rattle.p414_lexemes.specs.declared.keyword.Keyword.TheVariants as key
 use Rattle.p414_reader.specs.declared.symbols.Class.{Class}
 use Rattle.p414_reader.specs.declared.symbols.Class.TheVariants as class
 use Rattle.p414_reader.specs.declared.symbols.Action.TheVariants as action
@@ -36,7 +36,7 @@ use Rattle.p414_reader.specs.declared.symbols.ObjectWord.{ObjectWord}
 use Rattle.p414_reader.specs.declared.symbols.ObjectWord.TheVariants as object
 use Rattle.p414_reader.specs.declared.symbols.BodyWord.{BodyWord}
 use Rattle.p414_reader.specs.declared.symbols.BodyWord.TheVariants as body
-use Rattle.p414_reader.specs.Keywords.{keyword_text}
+use Rattle.p414_lexemes.specs.Keywords.{keyword_text}
 use Rattle.p414_reader.specs.Built.{Built}
 use Rattle.p414_reader.specs.Classes.{is_mark, is_named, is_number, prefix_of, infix_of, is_prefix, is_infix, is_neither, accepts}
 use Rattle.p414_reader.specs.Rows as rows
@@ -337,6 +337,9 @@ word_of_kind key.Size token h = named_is_name _ token h
 word_of_kind key.SupportTimeout token h = named_is_name _ token h
 word_of_kind key.True token h = named_is_name _ token h
 word_of_kind key.False token h = named_is_name _ token h
+word_of_kind key.And token h = named_is_name _ token h
+word_of_kind key.Or token h = named_is_name _ token h
+word_of_kind key.Not token h = named_is_name _ token h
 word_of_kind key.DefaultAction token h = named_is_name _ token h
 word_of_kind key.ActionProfile token h = named_is_name _ token h
 word_of_kind key.Counter token h = named_is_name _ token h

@@ -4,7 +4,7 @@ use Rattle.predictive_parser.specs.Grammar.{parse}
 use Rattle.predictive_parser.specs.Answers.{IsRefusedAt}
 use Rattle.predictive_parser.proofs.Chains.{reads_all}
 use Rattle.predictive_parser.proofs.Languages.{IsLanguage, spells_one, refused_at}
-use Rattle.p414_ast.specs.declared.lexeme.Lexeme.{Lexeme}
+use Rattle.p414_lexemes.specs.declared.lexeme.Lexeme.{Lexeme}
 use Rattle.p414_ast.specs.declared.syntax.Syntax14.{Syntax14}
 use Rattle.p414_ast.specs.Written.{written}
 use Rattle.p414_ast.specs.Spells.{Spells}

@@ -15,3 +15,4 @@ pub mod LabelSets
 mod Answering
 pub mod Refused
 pub mod Clauses
+pub mod Spelt

@@ -1,7 +1,7 @@
 -- What each action of the grammar builds: it takes the newest parts of some sorts and puts one in their place.
-use Rattle.std.specs.Prelude.{ℕ, Bool, true, false, if◌then◌else◌, List, [], ◌∷◌, ◌++◌, codes, Option, Some, None}
+use Rattle.std.specs.Prelude.{ℕ, Bool, true, false, if◌then◌else◌, List, [], ◌∷◌, ◌++◌, Option, Some, None}
 use Rattle.std.specs.Str.{bytes_eq}
-use Rattle.p414_ast.specs.declared.lexeme.Literal.{Literal}
+use Rattle.p414_lexemes.specs.declared.lexeme.Literal.{Literal}
 use Rattle.p414_ast.specs.declared.parts.Number.{Number}
 use Rattle.p414_ast.specs.declared.parts.Index.TheVariants as index
 use Rattle.p414_ast.specs.declared.parts.Inst.{Inst}
@@ -55,7 +55,8 @@ use Rattle.p414_reader.specs.declared.symbols.DeclKind.{DeclKind}
 use Rattle.p414_reader.specs.declared.symbols.DeclKind.TheVariants as kind
 use Rattle.p414_reader.specs.declared.symbols.Action.{Action}
 use Rattle.p414_reader.specs.declared.symbols.Action.TheVariants as action
-use Rattle.p414_reader.specs.Keywords.{keyword_text}
+use Rattle.p414_lexemes.specs.declared.keyword.Keyword.TheVariants as key
+use Rattle.p414_lexemes.specs.Keywords.{keyword_text}
 use Rattle.p414_reader.specs.Built.{Parts, Bodies, Built, newest, older, extended, no_bodies}
 
 -- what stands in an empty place
@@ -176,7 +177,7 @@ put_header (header.SomeInitials semicolon) b =
 
 -- the instance, or its field, or the payload
 abbrev pub item_of : Inst → Option (List ℕ) → Item
-item_of i None = if is_bare (codes "payload") i then item.Payload else item.Instance i
+item_of i None = if is_bare (keyword_text key.Payload) i then item.Payload else item.Instance i
 item_of i (Some f) = item.Field (record { instance = i; field = f })
 
 abbrev pub with_item : Item → Built → Built
@@ -210,7 +211,7 @@ no_value = value.Latest []
 
 -- a field; without an index, a field of `latest` is one of the instance that was extracted last
 abbrev pub value_of : Ref → PValue
-value_of r = if is_bare (codes "latest") r.instance then value.Latest r.field else value.Field r
+value_of r = if is_bare (keyword_text key.Latest) r.instance then value.Latest r.field else value.Field r
 
 abbrev pub with_value : PValue → Built → Built
 with_value v b = record b { states = record b.states { values = v ∷ b.states.values } }
@@ -392,9 +393,9 @@ last_stmt bs = newest no_statements bs.stmts
 -- an action's name, or a word of its own
 abbrev pub label_of : List ℕ → Label
 label_of text =
-    if bytes_eq (codes "hit") text then label.Hit
-    else (if bytes_eq (codes "miss") text then label.Miss
-    else (if bytes_eq (codes "default") text then label.Default
+    if bytes_eq (keyword_text key.Hit) text then label.Hit
+    else (if bytes_eq (keyword_text key.Miss) text then label.Miss
+    else (if bytes_eq (keyword_text key.Default) text then label.Default
     else label.Action text))
 
 -- the `if` statement of the newest condition, block and what stands behind it
@@ -403,7 +404,7 @@ last_if bs = if_then (newest no_expr bs.exprs) (newest no_statements (older bs.s
 
 -- the statements with a call of the control `else` behind them, where one stands
 abbrev pub with_else_call : Bool → List Stmt → List Stmt
-with_else_call true ss = with_stmt (call (codes "else")) ss
+with_else_call true ss = with_stmt (call (keyword_text key.Else)) ss
 with_else_call false ss = ss
 
 abbrev pub put_body : BodyAction → Built → Built

@@ -1,8 +1,8 @@
 -- What is built while a text is read: the parts that aren't part of a declaration yet, by their sorts and the newest first,
 -- and the declarations.
 use Rattle.std.specs.Prelude.{ℕ, Bool, List, [], ◌∷◌, ◌++◌, Option}
-use Rattle.p414_ast.specs.declared.lexeme.Literal.{Literal}
-use Rattle.p414_ast.specs.declared.lexeme.Lexeme.{Lexeme}
+use Rattle.p414_lexemes.specs.declared.lexeme.Literal.{Literal}
+use Rattle.p414_lexemes.specs.declared.lexeme.Lexeme.{Lexeme}
 use Rattle.p414_ast.specs.declared.parts.Number.{Number}
 use Rattle.p414_ast.specs.declared.parts.Index.{Index}
 use Rattle.p414_ast.specs.declared.parts.Inst.{Inst}

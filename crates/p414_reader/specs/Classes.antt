@@ -1,11 +1,11 @@
 -- Which tokens are of a class, and what is kept of one that is taken.
-use Rattle.std.specs.Prelude.{ℕ, Bool, true, false, not, ◌&&◌, nat_eq, nat_le, if◌then◌else◌, List, [], ◌∷◌, ◌++◌, codes, map, Option, Some, None}
+use Rattle.std.specs.Prelude.{ℕ, Bool, true, false, not, ◌&&◌, nat_eq, nat_le, if◌then◌else◌, List, [], ◌∷◌, ◌++◌, map, Option, Some, None}
 use Rattle.std.specs.Str.{bytes_eq}
-use Rattle.p414_ast.specs.declared.lexeme.Literal.{Literal}
-use Rattle.p414_ast.specs.declared.lexeme.Lexeme.{Lexeme}
-use Rattle.p414_ast.specs.declared.lexeme.Lexeme.TheVariants as lexeme
-use Rattle.p414_ast.specs.declared.lexeme.Mark.{Mark}
-use Rattle.p414_ast.specs.declared.lexeme.Mark.TheVariants as mark
+use Rattle.p414_lexemes.specs.declared.lexeme.Literal.{Literal}
+use Rattle.p414_lexemes.specs.declared.lexeme.Lexeme.{Lexeme}
+use Rattle.p414_lexemes.specs.declared.lexeme.Lexeme.TheVariants as lexeme
+use Rattle.p414_lexemes.specs.declared.mark.Mark.{Mark}
+use Rattle.p414_lexemes.specs.declared.mark.Mark.TheVariants as mark
 use Rattle.p414_ast.specs.declared.node.UnaryOperator.{UnaryOperator}
 use Rattle.p414_ast.specs.declared.node.UnaryOperator.TheVariants as unary
 use Rattle.p414_ast.specs.declared.node.BinaryOperator.{BinaryOperator}
@@ -15,7 +15,8 @@ use Rattle.p414_ast.specs.Written.{tail_word, table_word, state_word}
 use Rattle.p414_ast.specs.Conditions.{is_among, is_expression_name, is_mixed, Brace, opens, closes, neither, brace_of}
 use Rattle.p414_reader.specs.declared.symbols.Class.{Class}
 use Rattle.p414_reader.specs.declared.symbols.Class.TheVariants as class
-use Rattle.p414_reader.specs.Keywords.{keyword_text}
+use Rattle.p414_lexemes.specs.declared.keyword.Keyword.TheVariants as key
+use Rattle.p414_lexemes.specs.Keywords.{keyword_text}
 use Rattle.p414_reader.specs.Built.{Built, newest, extended}
 
 abbrev pub mark_number : Mark → ℕ
@@ -72,7 +73,7 @@ may_follow labels text = not (is_among text labels) && not (is_mixed (labels ++ 
 
 -- the operator that a token is, if it is one before an operand
 abbrev pub prefix_of : Lexeme → Option UnaryOperator
-prefix_of (lexeme.Name text) = if bytes_eq (codes "not") text then Some unary.Not else None
+prefix_of (lexeme.Name text) = if bytes_eq (keyword_text key.Not) text then Some unary.Not else None
 prefix_of (lexeme.Number n) = None
 prefix_of (lexeme.Mark mark.Minus) = Some unary.Negate
 prefix_of (lexeme.Mark mark.Tilde) = Some unary.Complement
@@ -98,7 +99,8 @@ infix_mark _ = None
 -- the operator that a token is, if it is one between two operands
 abbrev pub infix_of : Lexeme → Option BinaryOperator
 infix_of (lexeme.Name text) =
-    if bytes_eq (codes "and") text then Some binary.And else (if bytes_eq (codes "or") text then Some binary.Or else None)
+    if bytes_eq (keyword_text key.And) text then Some binary.And
+    else (if bytes_eq (keyword_text key.Or) text then Some binary.Or else None)
 infix_of (lexeme.Number n) = None
 infix_of (lexeme.Mark m) = infix_mark m
 

@@ -1,4 +1,3 @@
-pub mod Keywords
 pub mod Built
 pub mod Classes
 pub mod Actions

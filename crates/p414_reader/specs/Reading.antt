@@ -1,5 +1,5 @@
--- What the reading of a text answers. The tokens are those of P4_14 1.0.5, section 1.5, and the grammar is that of its
--- sections 1.6 and 2 to 11; the rules L1 to L4 and S1, and their places, are this project's own.
+-- What the reading of a text answers. The numbers are those of P4_14 1.0.5, "Value Specifications"; names, marks and the
+-- grammar are those of its "P4 BNF Grammar"; the rules L1 to L4 and S1, and their places, are this project's own.
 use Rattle.std.specs.Prelude.{◌≡◌, ◌⊎◌, ℕ, List, Option, Some, None, Result, Ok, Err, slice_get}
 use Rattle.predictive_parser.specs.Grammar.{parse}
 use Rattle.predictive_parser.specs.Answers.{IsRefusedAt}
@@ -19,7 +19,7 @@ use Rattle.p414_reader.specs.declared.error.Read14.TheVariants as read_error
 use Rattle.p414_reader.specs.declared.symbols.Word.TheVariants as word
 use Rattle.p414_reader.specs.Built.{Built, nothing}
 use Rattle.p414_reader.specs.Rows.{grammar14}
-use Rattle.p414_reader.specs.Lexemes.{lexemes}
+use Rattle.p414_tok.specs.Lexemes.{lexemes}
 
 -- why the division into tokens stops, as the reader says it
 abbrev pub from_lex : Lex → Read14

@@ -1,6 +1,6 @@
 -- The grammar of P4_14 as rows: what each word may begin with, and what follows. A word of the grammar that several lines
--- begin with alike is read to the point where they part, so each row is known by one token (P4_14 1.0.5, section 1.6 and
--- sections 2 to 11).
+-- begin with alike is read to the point where they part, so each row is known by one token (P4_14 1.0.5, "P4 BNF
+-- Grammar").
 use Rattle.std.specs.Prelude.{ℕ, suc, true, false, List, [], ◌∷◌, ◌++◌, Option, Some, None}
 use Rattle.predictive_parser.specs.declared.symbol.Symbol.{Symbol}
 use Rattle.predictive_parser.specs.declared.symbol.Symbol.TheVariants.{Token, Put}
@@ -8,8 +8,8 @@ use Rattle.predictive_parser.specs.declared.symbol.Symbol.TheVariants as symbol
 use Rattle.predictive_parser.specs.declared.symbol.Otherwise.{Otherwise}
 use Rattle.predictive_parser.specs.declared.symbol.Otherwise.TheVariants.{Refuse, Pass, Build}
 use Rattle.predictive_parser.specs.Grammar.{Row, Plain, Like, ◌⇒◌, Grammar}
-use Rattle.p414_ast.specs.declared.lexeme.Lexeme.{Lexeme}
-use Rattle.p414_ast.specs.declared.lexeme.Mark.TheVariants.{BraceOpen, BraceClose, ParenOpen, ParenClose, BracketOpen, BracketClose, Semicolon, Colon, Comma, Dot, Equal, Plus, Minus, Star}
+use Rattle.p414_lexemes.specs.declared.lexeme.Lexeme.{Lexeme}
+use Rattle.p414_lexemes.specs.declared.mark.Mark.TheVariants.{BraceOpen, BraceClose, ParenOpen, ParenClose, BracketOpen, BracketClose, Semicolon, Colon, Comma, Dot, Equal, Plus, Minus, Star}
 use Rattle.p414_ast.specs.declared.parts.Sign.TheVariants as sign
 use Rattle.p414_ast.specs.declared.calculations.CalcUse.TheVariants as calc_use
 use Rattle.p414_ast.specs.declared.objects.CounterType.TheVariants as counter_type
@@ -18,8 +18,8 @@ use Rattle.p414_ast.specs.declared.node.BinaryOperator.{BinaryOperator}
 use Rattle.p414_ast.specs.declared.syntax.LeftOutKind.{LeftOutKind}
 use Rattle.p414_ast.specs.declared.syntax.LeftOutKind.TheVariants as left_out
 use Rattle.p414_ast.specs.Operators.{unary_power, binary_power}
-use Rattle.p414_reader.specs.declared.keyword.Keyword.{Keyword}
-use Rattle.p414_reader.specs.declared.keyword.Keyword.TheVariants as key
+use Rattle.p414_lexemes.specs.declared.keyword.Keyword.{Keyword}
+use Rattle.p414_lexemes.specs.declared.keyword.Keyword.TheVariants as key
 use Rattle.p414_reader.specs.declared.symbols.Class.{Class}
 use Rattle.p414_reader.specs.declared.symbols.Class.TheVariants.{Name, Number, ExpressionName, NewTail, NewTableAttr, NewStateAttr, NewLabel, Infix, Prefix, GroupToken, GroupOpen, GroupClose}
 use Rattle.p414_reader.specs.declared.symbols.Class.TheVariants as class

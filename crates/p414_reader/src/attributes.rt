@@ -4,6 +4,7 @@ ghost use Rattle.p414_ast.specs.Written.{table_word, state_word};
 ghost use Rattle.p414_ast.specs.Conditions.{is_among};
 
 use p414_ast::{StateAttr, TableAttr};
+use p414_lexemes::Keyword;
 
 /// Whether the attribute of this word is one of these.
 pub fn has_table_attr(attributes: &[TableAttr], word: &[u8]) -> bool
@@ -19,14 +20,14 @@ fn table_word(attribute: &TableAttr) -> &'static [u8]
     ensures { result.now ≡ table_word attribute.now }
 {
     match attribute {
-        TableAttr::Reads(_) => b"reads",
-        TableAttr::Actions(_) => b"actions",
-        TableAttr::MinSize(_) => b"min_size",
-        TableAttr::MaxSize(_) => b"max_size",
-        TableAttr::Size(_) => b"size",
-        TableAttr::SupportTimeout(_) => b"support_timeout",
-        TableAttr::DefaultAction(_, _) => b"default_action",
-        TableAttr::ActionProfile(_) => b"action_profile",
+        TableAttr::Reads(_) => Keyword::Reads.text(),
+        TableAttr::Actions(_) => Keyword::Actions.text(),
+        TableAttr::MinSize(_) => Keyword::MinSize.text(),
+        TableAttr::MaxSize(_) => Keyword::MaxSize.text(),
+        TableAttr::Size(_) => Keyword::Size.text(),
+        TableAttr::SupportTimeout(_) => Keyword::SupportTimeout.text(),
+        TableAttr::DefaultAction(_, _) => Keyword::DefaultAction.text(),
+        TableAttr::ActionProfile(_) => Keyword::ActionProfile.text(),
     }
 }
 
@@ -44,15 +45,15 @@ fn state_word(attribute: &StateAttr) -> &'static [u8]
     ensures { result.now ≡ state_word attribute.now }
 {
     match attribute {
-        StateAttr::Counts(_) => b"type",
-        StateAttr::Direct(_) => b"direct",
-        StateAttr::Static(_) => b"static",
-        StateAttr::Layout(_) => b"layout",
-        StateAttr::Result(_) => b"result",
-        StateAttr::InstanceCount(_) => b"instance_count",
-        StateAttr::Width(_) => b"width",
-        StateAttr::MinWidth(_) => b"min_width",
-        StateAttr::Saturating => b"saturating",
-        StateAttr::Signed => b"signed",
+        StateAttr::Counts(_) => Keyword::Counts.text(),
+        StateAttr::Direct(_) => Keyword::Direct.text(),
+        StateAttr::Static(_) => Keyword::Static.text(),
+        StateAttr::Layout(_) => Keyword::Layout.text(),
+        StateAttr::Result(_) => Keyword::Result.text(),
+        StateAttr::InstanceCount(_) => Keyword::InstanceCount.text(),
+        StateAttr::Width(_) => Keyword::Width.text(),
+        StateAttr::MinWidth(_) => Keyword::MinWidth.text(),
+        StateAttr::Saturating => Keyword::Saturating.text(),
+        StateAttr::Signed => Keyword::Signed.text(),
     }
 }

@@ -5,7 +5,7 @@ ghost use Rattle.p414_ast.specs.Tree.{no_statements};
 ghost use Rattle.p414_ast.specs.Written.{tail_word};
 ghost use Rattle.p414_ast.specs.Conditions.{is_among};
 ghost use Rattle.p414_reader.specs.declared.symbols.BodyAction.TheVariants as BodyAction;
-ghost use Rattle.p414_reader.specs.Keywords.{keyword_text};
+ghost use Rattle.p414_lexemes.specs.Keywords.{keyword_text};
 ghost use Rattle.p414_reader.specs.Built as built;
 ghost use Rattle.p414_reader.specs.Built.{newest, older, extended, no_bodies};
 ghost use Rattle.p414_reader.specs.Classes.{may_follow};
@@ -13,7 +13,6 @@ ghost use Rattle.p414_reader.specs.Actions.{put_body, label_of, last_stmt, with_
 ghost use Rattle.p414_reader.specs.Updates.{with_bodies};
 
 use crate::forest::Forest;
-use crate::keyword::Keyword;
 use crate::labels::Labels;
 use crate::parts::Parts;
 use crate::stack::ValueStack;
@@ -22,6 +21,7 @@ use p4x_bits::{OutOfMemory, Rows, Text};
 use p414_ast::{
     BinaryOperator, Control, ExprNode, Field, HeaderType, Label, StmtNode, TypeTail, UnaryOperator,
 };
+use p414_lexemes::Keyword;
 use std::alloc::Global;
 use std::marker::Model;
 use std::mem;
@@ -296,11 +296,11 @@ impl Bodies {
 fn label_of(name: Text) -> Label
     ensures { result ≡ label_of name }
 {
-    if name.as_slice() == b"hit".as_slice() {
+    if name.as_slice() == Keyword::Hit.text() {
         Label::Hit
-    } else if name.as_slice() == b"miss".as_slice() {
+    } else if name.as_slice() == Keyword::Miss.text() {
         Label::Miss
-    } else if name.as_slice() == b"default".as_slice() {
+    } else if name.as_slice() == Keyword::Default.text() {
         Label::Default
     } else {
         Label::Action(name)

@@ -14,11 +14,11 @@ use crate::headers::Headers;
 use crate::objects::put_object;
 use crate::operators::{is_infix, is_prefix};
 use crate::parts::Parts;
-use crate::seen::Seen;
 use crate::stack::ValueStack;
 use crate::states::States;
 use crate::symbols::{Action, Class};
 use crate::tables::Tables;
+use crate::token::TokenView;
 use p4x_bits::{OutOfMemory, Rows};
 use p414_ast::{Decl, Lexeme, Mark, StateAttr};
 use std::alloc::Global;
@@ -89,7 +89,7 @@ impl Built {
     }
 
     /// Whether the token is of the class.
-    pub fn accepts(&self, class: Class, token: Seen<'_>) -> bool
+    pub fn accepts(&self, class: Class, token: TokenView<'_>) -> bool
         ensures { result ≡ accepts class (lexeme_of token.entry) self.now }
     {
         match class {
@@ -115,7 +115,12 @@ impl Built {
     }
 
     /// Takes a token of the class, and keeps what is to be kept of it.
-    pub fn shift(&mut self, alloc: Global, class: Class, token: Seen<'_>) -> Result<(), OutOfMemory>
+    pub fn shift(
+        &mut self,
+        alloc: Global,
+        class: Class,
+        token: TokenView<'_>,
+    ) -> Result<(), OutOfMemory>
         ensures { OnOk result (self.new ≡ shift class (lexeme_of token.entry) self.old) }
     {
         match class {
@@ -144,7 +149,7 @@ impl Built {
     }
 
     /// Keeps a token in the newest group.
-    fn push_token(&mut self, alloc: Global, token: Seen<'_>) -> Result<(), OutOfMemory>
+    fn push_token(&mut self, alloc: Global, token: TokenView<'_>) -> Result<(), OutOfMemory>
         ensures { OnOk result (self.new ≡ record self.old { groups = with_token (lexeme_of token.entry) self.old.groups }) }
     {
         let mut tokens = match self.groups.pop_or(None) {

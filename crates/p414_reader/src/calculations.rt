@@ -1,6 +1,8 @@
 // Field lists and calculated fields, as they are put together.
-ghost use Rattle.std.specs.Prelude.{◌≡◌, [], codes, OnOk};
+ghost use Rattle.std.specs.Prelude.{◌≡◌, [], OnOk};
 ghost use Rattle.p414_ast.specs.Conditions.{is_bare};
+ghost use Rattle.p414_lexemes.specs.declared.keyword.Keyword.TheVariants as key;
+ghost use Rattle.p414_lexemes.specs.Keywords.{keyword_text};
 ghost use Rattle.p414_reader.specs.declared.symbols.CalculationAction.TheVariants as CalculationAction;
 ghost use Rattle.p414_reader.specs.Built as built;
 ghost use Rattle.p414_reader.specs.Built.{newest, older, no_calculations};
@@ -12,6 +14,7 @@ use crate::stack::ValueStack;
 use crate::symbols::CalculationAction;
 use p4x_bits::{OutOfMemory, Rows, Text};
 use p414_ast::{Calc, CalcCond, CalcUse, Inst, Item, Ref};
+use p414_lexemes::Keyword;
 use std::alloc::Global;
 use std::marker::Model;
 
@@ -142,7 +145,7 @@ fn item_of(instance: Inst, field: Option<Text>) -> Item
 
 /// Whether the instance is the word `payload` alone.
 fn is_payload(instance: &Inst) -> bool
-    ensures { result ≡ is_bare (codes "payload") instance.now }
+    ensures { result ≡ is_bare (keyword_text key.Payload) instance.now }
 {
-    instance.name.as_slice() == b"payload".as_slice() && instance.index.is_none()
+    instance.name.as_slice() == Keyword::Payload.text() && instance.index.is_none()
 }

@@ -1,19 +1,20 @@
 // Which row of an expression's word is taken: what follows an operator depends on how tightly it binds.
-ghost use Rattle.std.specs.Prelude.{◌≡◌, ◌<◌, length, map, Some, None, IfOk, slice_get};
-ghost use Rattle.p414_ast.specs.declared.lexeme.Lexeme.{Lexeme};
+ghost use Rattle.std.specs.Prelude.{◌≡◌, ◌<◌, length, Some, None, IfOk, slice_get};
+ghost use Rattle.p414_lexemes.specs.declared.lexeme.Lexeme.{Lexeme};
 ghost use Rattle.p414_reader.specs.declared.symbols.BodyWord.TheVariants as BodyWord;
 ghost use Rattle.p414_reader.specs.Classes.{prefix_of};
 ghost use Rattle.p414_reader.specs.Rows as specs;
-ghost use Rattle.p414_reader.specs.Lexemes.{lexeme_of};
+ghost use Rattle.p414_tok.specs.Lexemes.{lexemes};
 ghost use Rattle.p414_reader.specs.Coded.{ChoosesLine, body_coded, coded};
 
-use crate::keyword::Keyword;
 use crate::operators::{binary_power, infix_of, prefix_of, unary_power};
 use crate::reading::Reading;
 use crate::rows::{DOT, PAREN_CLOSE, PAREN_OPEN, Sym};
 use crate::symbols::{Action, BodyAction, BodyWord, Class, PartAction, PartWord, Word};
+use crate::token::token_at;
 use p4x_bits::OutOfMemory;
 use p414_ast::Mark;
+use p414_lexemes::Keyword;
 use predictive_parser::{Alternative, Stack, Symbol, choose_first};
 
 const EXPR: Sym = Symbol::Word(Word::Body(BodyWord::Expr(0)));
@@ -50,7 +51,7 @@ pub fn choose_coded(
     stack: &mut Stack<Class, Action, Word>,
 ) -> Result<Option<Class>, OutOfMemory>
     requires { place < length reading.now.tokens.now }
-    ensures chooses { IfOk result (λ class. ChoosesLine (map lexeme_of reading.now.tokens.now) place reading.now.built (coded word) more.now class stack.old stack.new) }
+    ensures chooses { IfOk result (λ class. ChoosesLine (lexemes reading.now.text.now reading.now.tokens.now) place reading.now.built (coded word) more.now class stack.old stack.new) }
     ensures none { IfOk result (λ class. class ≡ None → stack.new ≡ stack.old) }
 {
     match word {
@@ -71,10 +72,10 @@ fn choose_expr(
     stack: &mut Stack<Class, Action, Word>,
 ) -> Result<Option<Class>, OutOfMemory>
     requires { place < length reading.now.tokens.now }
-    ensures chooses { IfOk result (λ class. ChoosesLine (map lexeme_of reading.now.tokens.now) place reading.now.built (body_coded (BodyWord.Expr least)) more.now class stack.old stack.new) }
+    ensures chooses { IfOk result (λ class. ChoosesLine (lexemes reading.now.text.now reading.now.tokens.now) place reading.now.built (body_coded (BodyWord.Expr least)) more.now class stack.old stack.new) }
     ensures none { IfOk result (λ class. class ≡ None → stack.new ≡ stack.old) }
 {
-    match prefix_of(reading.tokens[place]) {
+    match prefix_of(token_at(reading.text, reading.tokens, place)) {
         None => choose_operand(reading, least, &[], more, place, stack),
         Some(operator) => {
             let power = unary_power(operator);
@@ -98,8 +99,8 @@ fn choose_operand(
     stack: &mut Stack<Class, Action, Word>,
 ) -> Result<Option<Class>, OutOfMemory>
     requires { place < length reading.now.tokens.now }
-    ensures chooses { (token : Lexeme) → slice_get (map lexeme_of reading.now.tokens.now) place ≡ Some token → prefix.now ≡ specs.prefix_rest least (prefix_of token)
-        → IfOk result (λ class. ChoosesLine (map lexeme_of reading.now.tokens.now) place reading.now.built (body_coded (BodyWord.Expr least)) more.now class stack.old stack.new) }
+    ensures chooses { (token : Lexeme) → slice_get (lexemes reading.now.text.now reading.now.tokens.now) place ≡ Some token → prefix.now ≡ specs.prefix_rest least (prefix_of token)
+        → IfOk result (λ class. ChoosesLine (lexemes reading.now.text.now reading.now.tokens.now) place reading.now.built (body_coded (BodyWord.Expr least)) more.now class stack.old stack.new) }
     ensures none { IfOk result (λ class. class ≡ None → stack.new ≡ stack.old) }
 {
     let operators = Symbol::Word(Word::Body(BodyWord::Operators(least, 12)));
@@ -154,11 +155,11 @@ fn choose_operator(
     stack: &mut Stack<Class, Action, Word>,
 ) -> Result<Option<Class>, OutOfMemory>
     requires { place < length reading.now.tokens.now }
-    ensures chooses { IfOk result (λ class. ChoosesLine (map lexeme_of reading.now.tokens.now) place reading.now.built (body_coded (BodyWord.Operators least most)) more.now class stack.old stack.new) }
+    ensures chooses { IfOk result (λ class. ChoosesLine (lexemes reading.now.text.now reading.now.tokens.now) place reading.now.built (body_coded (BodyWord.Operators least most)) more.now class stack.old stack.new) }
     ensures none { IfOk result (λ class. class ≡ None → stack.new ≡ stack.old) }
 {
     let first = Class::Infix(least, most);
-    match infix_of(reading.tokens[place]) {
+    match infix_of(token_at(reading.text, reading.tokens, place)) {
         None => choose_first(
             reading,
             &[Alternative { first, rest: &[] }],

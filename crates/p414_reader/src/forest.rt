@@ -5,18 +5,18 @@ ghost use Rattle.p414_ast.specs.Tree.{Trees, parenthesized, unary, binary, no_st
 ghost use Rattle.p414_ast.specs.Views.{length_is, max_length_is, tail_tree};
 ghost use Rattle.p414_ast.specs.Written.{tail_word};
 ghost use Rattle.p414_ast.specs.Conditions.{is_among};
-ghost use Rattle.p414_reader.specs.Keywords.{keyword_text};
+ghost use Rattle.p414_lexemes.specs.Keywords.{keyword_text};
 ghost use Rattle.p414_reader.specs.Built.{newest, older, extended};
 ghost use Rattle.p414_reader.specs.Actions.{no_expr, on_expr, on_exprs, with_else_call};
 ghost use Rattle.p414_reader.specs.Forest.{AllBelow, TakesExpr, TakesStmt};
 
-use crate::keyword::Keyword;
 use crate::stack::ValueStack;
 use p4x_bits::{OutOfMemory, Rows, Text};
 use p414_ast::{
     BinaryOperator, Control, ExprNode, Field, HeaderType, Label, Nodes, StmtNode, TypeTail,
     UnaryOperator,
 };
+use p414_lexemes::Keyword;
 use std::alloc::Global;
 use std::marker::Model;
 
@@ -435,7 +435,7 @@ fn tail_word(tail: &TypeTail) -> &'static [u8]
     ensures { (nodes : Trees) → result.now ≡ tail_word (tail_tree nodes tail.now) }
 {
     match tail {
-        TypeTail::Length(_) => b"length",
-        TypeTail::MaxLength(_) => b"max_length",
+        TypeTail::Length(_) => Keyword::Length.text(),
+        TypeTail::MaxLength(_) => Keyword::MaxLength.text(),
     }
 }

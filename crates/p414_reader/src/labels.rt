@@ -4,6 +4,7 @@ ghost use Rattle.p414_ast.specs.Conditions.{is_outcome};
 ghost use Rattle.p414_reader.specs.Classes.{may_follow};
 
 use p4x_bits::{OutOfMemory, Rows, Text};
+use p414_lexemes::Keyword;
 use std::alloc::Global;
 use std::collections::BTreeSet;
 use std::marker::Model;
@@ -76,5 +77,5 @@ impl Labels {
 pub fn is_outcome(text: &[u8]) -> bool
     ensures { result ≡ is_outcome text.now }
 {
-    text == b"hit".as_slice() || text == b"miss".as_slice()
+    text == Keyword::Hit.text() || text == Keyword::Miss.text()
 }

@@ -4,43 +4,45 @@ ghost use Rattle.p414_ast.specs.Operators.{unary_power, binary_power};
 ghost use Rattle.p414_reader.specs.Classes.{prefix_of, infix_of, infix_mark, is_prefix, is_infix};
 ghost use Rattle.p414_reader.specs.Lexemes.{lexeme_of};
 
-use crate::seen::Seen;
-use p414_ast::{BinaryOperator, Mark, UnaryOperator};
+use crate::token::TokenView;
+use p414_ast::{BinaryOperator, UnaryOperator};
+use p414_lexemes::{Keyword, Mark};
+use p414_tok::TokenKind14;
 
 /// The operator that a token is, if it is one before an operand.
-pub fn prefix_of(token: Seen<'_>) -> Option<UnaryOperator>
+pub fn prefix_of(token: TokenView<'_>) -> Option<UnaryOperator>
     ensures { result ≡ prefix_of (lexeme_of token.entry) }
 {
-    match token {
-        Seen::Name(text) => {
-            if b"not".as_slice() == text {
+    match token.kind {
+        TokenKind14::Name => {
+            if token.is_word(Keyword::Not) {
                 Some(UnaryOperator::Not)
             } else {
                 None
             }
         }
-        Seen::Mark(Mark::Minus) => Some(UnaryOperator::Negate),
-        Seen::Mark(Mark::Tilde) => Some(UnaryOperator::Complement),
-        Seen::Mark(_) | Seen::Number(_) => None,
+        TokenKind14::Mark(Mark::Minus) => Some(UnaryOperator::Negate),
+        TokenKind14::Mark(Mark::Tilde) => Some(UnaryOperator::Complement),
+        TokenKind14::Mark(_) | TokenKind14::Number(_) => None,
     }
 }
 
 /// The operator that a token is, if it is one between two operands.
-pub fn infix_of(token: Seen<'_>) -> Option<BinaryOperator>
+pub fn infix_of(token: TokenView<'_>) -> Option<BinaryOperator>
     ensures { result ≡ infix_of (lexeme_of token.entry) }
 {
-    match token {
-        Seen::Name(text) => {
-            if b"and".as_slice() == text {
+    match token.kind {
+        TokenKind14::Name => {
+            if token.is_word(Keyword::And) {
                 Some(BinaryOperator::And)
-            } else if b"or".as_slice() == text {
+            } else if token.is_word(Keyword::Or) {
                 Some(BinaryOperator::Or)
             } else {
                 None
             }
         }
-        Seen::Mark(mark) => infix_mark(mark),
-        Seen::Number(_) => None,
+        TokenKind14::Mark(mark) => infix_mark(mark),
+        TokenKind14::Number(_) => None,
     }
 }
 
@@ -68,7 +70,7 @@ fn infix_mark(mark: Mark) -> Option<BinaryOperator>
 }
 
 /// Whether the token is an operator before an operand that binds at least so tightly.
-pub fn is_prefix(least: u8, token: Seen<'_>) -> bool
+pub fn is_prefix(least: u8, token: TokenView<'_>) -> bool
     ensures { result ≡ is_prefix least (prefix_of (lexeme_of token.entry)) }
 {
     match prefix_of(token) {
@@ -79,7 +81,7 @@ pub fn is_prefix(least: u8, token: Seen<'_>) -> bool
 
 /// Whether the token is an operator between operands that binds at least as tightly as the first number and at most as
 /// the second.
-pub fn is_infix(least: u8, most: u8, token: Seen<'_>) -> bool
+pub fn is_infix(least: u8, most: u8, token: TokenView<'_>) -> bool
     ensures { result ≡ is_infix least most (infix_of (lexeme_of token.entry)) }
 {
     match infix_of(token) {

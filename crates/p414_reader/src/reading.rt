@@ -1,17 +1,18 @@
 // Tokens that are read in the grammar of P4_14, and what is built of them.
-ghost use Rattle.std.specs.Prelude.{◌≡◌, ◌<◌, length, map, None, IfOk};
-ghost use Rattle.p414_ast.specs.declared.lexeme.Lexeme.{Lexeme};
+ghost use Rattle.std.specs.Prelude.{◌≡◌, ◌<◌, length, None, IfOk};
+ghost use Rattle.p414_lexemes.specs.declared.lexeme.Lexeme.{Lexeme};
 ghost use Rattle.p414_reader.specs.Built as built;
 ghost use Rattle.p414_reader.specs.Rows.{grammar14};
 ghost use Rattle.p414_reader.specs.Coded.{coded};
-ghost use Rattle.p414_reader.specs.Lexemes.{lexeme_of};
+ghost use Rattle.p414_tok.specs.Lexemes.{lexemes};
 
 use crate::built::Built;
 use crate::choose_expr::choose_coded;
 use crate::rows::{Sym, rows_of};
-use crate::seen::Seen;
 use crate::symbols::{Action, Class, Word};
+use crate::token::token_at;
 use p4x_bits::OutOfMemory;
+use p414_tok::Token14;
 use predictive_parser::{Builder, Lookahead, Stack, WordRows};
 use std::alloc::Global;
 
@@ -19,7 +20,8 @@ use std::alloc::Global;
 #[derive(Drop)]
 pub struct Reading<'t> {
     pub alloc: Global,
-    pub tokens: &'t [Seen<'t>],
+    pub text: &'t [u8],
+    pub tokens: &'t [Token14],
     pub built: Built,
 }
 
@@ -38,7 +40,7 @@ impl Lookahead for Reading<'_> {
 
     ghost coded = { coded };
 
-    ghost tokens = { λ reading. map lexeme_of reading.tokens.now };
+    ghost tokens = { λ reading. lexemes reading.text.now reading.tokens.now };
 
     ghost Holds = { λ reading built. reading.built ≡ built };
 
@@ -47,13 +49,14 @@ impl Lookahead for Reading<'_> {
     }
 
     fn accepts(&self, class: Class, place: usize) -> bool {
-        self.built.accepts(class, self.tokens[place])
+        self.built
+            .accepts(class, token_at(self.text, self.tokens, place))
     }
 }
 
 impl Builder for Reading<'_> {
     fn shift(&mut self, class: Class, place: usize) -> Result<(), OutOfMemory> {
-        let token = self.tokens[place];
+        let token = token_at(self.text, self.tokens, place);
         self.built.shift(self.alloc, class, token)
     }
 

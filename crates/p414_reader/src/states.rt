@@ -1,21 +1,22 @@
 // Parser states, as they are put together.
-ghost use Rattle.std.specs.Prelude.{◌≡◌, [], codes, OnOk};
+ghost use Rattle.std.specs.Prelude.{◌≡◌, [], OnOk};
 ghost use Rattle.p414_ast.specs.Conditions.{is_bare};
 ghost use Rattle.p414_ast.specs.declared.parsers.CaseTarget.TheVariants as target;
 ghost use Rattle.p414_ast.specs.declared.parsers.Return.TheVariants as end_of;
+ghost use Rattle.p414_lexemes.specs.declared.keyword.Keyword.TheVariants as key;
 ghost use Rattle.p414_reader.specs.declared.symbols.StateAction.TheVariants as StateAction;
-ghost use Rattle.p414_reader.specs.Keywords.{keyword_text};
+ghost use Rattle.p414_lexemes.specs.Keywords.{keyword_text};
 ghost use Rattle.p414_reader.specs.Built as built;
 ghost use Rattle.p414_reader.specs.Built.{newest, older, no_states};
 ghost use Rattle.p414_reader.specs.Actions.{put_state, no_value, value_of};
 ghost use Rattle.p414_reader.specs.Updates.{with_states};
 
-use crate::keyword::Keyword;
 use crate::parts::Parts;
 use crate::stack::ValueStack;
 use crate::symbols::StateAction;
 use p4x_bits::{OutOfMemory, Rows, Text};
 use p414_ast::{Case, CaseTarget, CaseValues, Inst, Masked, PStmt, PValue, Ref, Return};
+use p414_lexemes::Keyword;
 use std::alloc::Global;
 use std::marker::Model;
 
@@ -223,7 +224,7 @@ fn value_of(field: Ref) -> PValue
 
 /// Whether the instance is the word `latest` alone.
 fn is_latest(instance: &Inst) -> bool
-    ensures { result ≡ is_bare (codes "latest") instance.now }
+    ensures { result ≡ is_bare (keyword_text key.Latest) instance.now }
 {
-    instance.name.as_slice() == b"latest".as_slice() && instance.index.is_none()
+    instance.name.as_slice() == Keyword::Latest.text() && instance.index.is_none()
 }

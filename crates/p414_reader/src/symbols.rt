@@ -1,6 +1,6 @@
 // What the rows of the grammar are made of: classes of tokens, actions and words.
-use crate::keyword::Keyword;
 use p414_ast::{BinaryOperator, CalcUse, CounterType, LeftOutKind, Mark, Sign, UnaryOperator};
+use p414_lexemes::Keyword;
 
 /// A class of tokens.
 #[derive(Clone, Copy, Drop)]

@@ -1,5 +1,6 @@
 // The tokens of texts whose division is known from the language's rules.
 use p4x_fault::{Fault, Place, Rule};
+use p414_lexemes::{Literal, Mark};
 use p414_tok::{Lex, TokenKind14, tokens};
 use std::process::Abort;
 use std::test::Fail;
@@ -50,9 +51,35 @@ fn expect_number(
 ) -> Result<(), Fail> {
     let found = tokens(rt.alloc(), text)?;
     let kind = found.as_slice().first().map(|token| token.kind);
-    assert_eq!(rt; kind, Some(TokenKind14::Number { width, value }));
+    assert_eq!(rt; kind, Some(TokenKind14::Number(Literal { width, value })));
     assert_eq!(rt; found.len(), 1);
     Ok(())
+}
+
+/// The text is divided into these marks.
+fn expect_marks(rt: &(impl Abort + AllocGlobal), text: &[u8], marks: &[Mark]) -> Result<(), Fail> {
+    let found = tokens(rt.alloc(), text)?;
+    assert_eq!(rt; found.len(), marks.len());
+    for (token, mark) in found.as_slice().iter().zip(marks) {
+        assert_eq!(rt; token.kind, TokenKind14::Mark(*mark));
+    }
+    Ok(())
+}
+
+#[test]
+fn the_longest_mark_is_read_first(rt: HostRuntime) -> Result<(), Fail> {
+    expect_marks(&rt, b"<<=<", &[Mark::ShiftLeft, Mark::Assign, Mark::Less])?;
+    expect_marks(
+        &rt,
+        b"===>>!=~",
+        &[
+            Mark::Equal,
+            Mark::Assign,
+            Mark::ShiftRight,
+            Mark::NotEqual,
+            Mark::Tilde,
+        ],
+    )
 }
 
 #[test]

@@ -3,7 +3,7 @@
 use Rattle.std.specs.Prelude.{ℕ, Bool, true, false, ◌||◌, if◌then◌else◌, List, map, filter_map, sum_by, slice_get, Option, Some, None, option_and_then, option_map}
 use Rattle.std.specs.List.{list_any}
 use Rattle.std.specs.Option.{option_map_or}
-use Rattle.p414_ast.specs.declared.lexeme.Literal.{Literal}
+use Rattle.p414_lexemes.specs.declared.lexeme.Literal.{Literal}
 use Rattle.p414_ast.specs.declared.parts.Ref.{Ref}
 use Rattle.p414_ast.specs.declared.headers.FieldWidth.{FieldWidth}
 use Rattle.p414_ast.specs.declared.headers.FieldWidth.TheVariants.{Bits, Rest}

@@ -3,7 +3,7 @@
 -- bits.
 use Rattle.std.specs.Prelude.{ℕ, ◌*◌, Bool, ◌||◌, nat_lt, List, length, Option, Some, None, sum_by}
 use Rattle.std.specs.Option.{option_map_or}
-use Rattle.p414_ast.specs.declared.lexeme.Literal.{Literal}
+use Rattle.p414_lexemes.specs.declared.lexeme.Literal.{Literal}
 use Rattle.p414_ast.specs.declared.syntax.Decl.{Decl}
 use Rattle.p414_ast.specs.declared.syntax.Decl.TheVariants as decl
 use Rattle.p414_ast.specs.Views.{HeaderTypeTree}

@@ -5,7 +5,7 @@
 use Rattle.std.specs.Prelude.{◌+◌, ◌%◌, Bool, false, not, ◌||◌, ◌&&◌, nat_lt, nat_eq, List}
 use Rattle.std.specs.List.{list_any}
 use Rattle.std.specs.Option.{option_map_or}
-use Rattle.p414_ast.specs.declared.lexeme.Literal.{Literal}
+use Rattle.p414_lexemes.specs.declared.lexeme.Literal.{Literal}
 use Rattle.p414_ast.specs.declared.headers.FieldWidth.{FieldWidth}
 use Rattle.p414_ast.specs.declared.headers.FieldWidth.TheVariants.{Bits, Rest}
 use Rattle.p414_ast.specs.declared.headers.Field.{Field}

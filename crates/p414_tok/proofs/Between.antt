@@ -13,17 +13,19 @@ use Rattle.token_division.specs.declared.division.What.{What}
 use Rattle.token_division.specs.declared.division.What.TheVariants as what
 use Rattle.token_division.specs.declared.literals.Base.TheVariants.{Decimal}
 use Rattle.token_division.specs.Octets.{is_blank, is_decimal, is_word, is_line_feed, is_on_line}
-use Rattle.token_division.specs.Pieces.{begins, mark_of, comment_size}
+use Rattle.token_division.specs.Pieces.{begins, mark_at, comment_size}
 use Rattle.token_division.specs.Literals.{value_of, literal_value, literal_size, largest}
 use Rattle.token_division.specs.Division.{first_after}
 use Rattle.token_division.specs.Trivia.{IsFirstOnLine, EndsLine}
 use Rattle.token_division.proofs.LineStarts.{opens, opens_blank, opens_not, opens_not_behind_comment, is_first_on_line}
 use Rattle.token_division.proofs.Comments.{run_passes, begins_in, line_holds, line_ends, IsComment, comment_taken}
+use Rattle.p414_lexemes.specs.declared.mark.Mark.{Mark}
+use Rattle.p414_lexemes.specs.Marks.{mark_text, all_marks}
 use Rattle.p414_tok.specs.declared.kind.TokenKind14.{TokenKind14}
 use Rattle.p414_tok.specs.declared.front.Head.{Head}
 use Rattle.p414_tok.specs.declared.front.Head.TheVariants as head
 use Rattle.p414_tok.specs.Lines.{marker_size, pragma_size, is_pragma}
-use Rattle.p414_tok.specs.Front.{Found, token, skipped, marks, mark, plain_number, wide_number, is_quoted, number, head_of, front_by, front}
+use Rattle.p414_tok.specs.Front.{Found, token, skipped, mark_found, plain_number, wide_number, is_quoted, number, head_of, front_by, front}
 use Rattle.p414_tok.specs.Trivia.{IsPragmaLine, IsLineMarker, IsTrivia}
 use Rattle.p414_tok.proofs.Spelling.{spelled}
 use Rattle.p414_tok.proofs.Markers.{marker_taken}
@@ -78,9 +80,9 @@ number_is_token text =
     (either_token (nat_lt width 1 || (nat_lt 128 width || nat_lt largest (literal_value rest))) _ _ tt tt)
     (either_token (nat_lt largest (literal_value text)) _ _ tt tt)
 
-mark_is_token : (o : Option ℕ) → IsTokenFound (mark o)
+mark_is_token : (o : Option Mark) → IsTokenFound (mark_found o)
 mark_is_token None = tt
-mark_is_token (Some size) = tt
+mark_is_token (Some m) = tt
 
 -- behind octets of one line that don't begin with a blank
 closes : (before left : List ℕ) (size : ℕ) → 0 < size → size ≤ length left → is_blank (get_or left 0 0) ≡ false → AllPass is_on_line (take size left) → false ≡ opens (before ++ take size left)
@@ -180,7 +182,7 @@ kept_by before left is_first what.Blank size o e s l = by (head_of (get_or left 
     by head.Slash h e = absurd (never_blank (comment_size left) size e)
     by head.AtSign h e = absurd (never_blank (pragma_size left) size e)
     by head.NumberSign h e = absurd (never_blank (cond is_first (marker_size left) (Err (L 1))) size e)
-    by head.Other h e = absurd (subst IsTokenFound e (mark_is_token (option_map length (mark_of marks left))))
+    by head.Other h e = absurd (subst IsTokenFound e (mark_is_token (mark_at mark_text all_marks left)))
 kept_by before left is_first what.Skipped size o e s l = by (head_of (get_or left 0 0)) (head_is (get_or left 0 0)) e
   where
     by : (h : Head) → HeadIs (get_or left 0 0) h → front_by h is_first left ≡ found what.Skipped size → IsKept before left is_first what.Skipped size
@@ -190,4 +192,4 @@ kept_by before left is_first what.Skipped size o e s l = by (head_of (get_or lef
     by head.Slash h e = comment_kept before left is_first size h s l (comment_taken left size (skipped_size (comment_size left) size e))
     by head.AtSign h e = pragma_kept before left is_first size h s l (skipped_size (pragma_size left) size e)
     by head.NumberSign h e = marker_kept before left is_first size o h s l (skipped_size (cond is_first (marker_size left) (Err (L 1))) size e)
-    by head.Other h e = absurd (subst IsTokenFound e (mark_is_token (option_map length (mark_of marks left))))
+    by head.Other h e = absurd (subst IsTokenFound e (mark_is_token (mark_at mark_text all_marks left)))

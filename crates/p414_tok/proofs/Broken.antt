@@ -1,7 +1,6 @@
 -- What stands where a piece is refused.
-use Rattle.std.proofs.Common.{◌≡◌, ◌⊎◌, inl, inr, nat_eq, nat_lt, ℕ, suc, ◌+◌, ◌%◌, ◌^◌, ◌<◌, ◌≤◌, Bool, true, false, List, [], ◌∷◌, ◌++◌, length, get_or, take, drop, refl, sym, ap, ◌∙◌, subst, arith, cond, codes, take-append-drop, drop-cons, Option, Some, None, Result, Ok, Err}
-use Rattle.std.specs.Prelude.{not, ◌||◌, ◌&&◌}
-use Rattle.std.specs.Option.{option_map}
+use Rattle.std.proofs.Common.{◌≡◌, ◌⊎◌, inl, inr, nat_eq, nat_lt, ℕ, zero, suc, ◌+◌, ◌%◌, ◌^◌, ◌<◌, ◌≤◌, Bool, true, false, List, [], ◌∷◌, ◌++◌, length, get_or, take, drop, refl, sym, ap, ◌∙◌, subst, arith, cond, codes, take-append-drop, drop-cons, Option, Some, None, Result, Ok, Err}
+use Rattle.std.specs.Prelude.{not, ◌||◌, ◌&&◌, All}
 use Rattle.std.specs.List.{AllPass, prefix_len, list_any}
 use Rattle.std.proofs.lemmas.List.{get_or-drop}
 use Rattle.std.proofs.lemmas.List.Sums.{prefix_len-le-length}
@@ -10,19 +9,21 @@ use Rattle.p4x_fault.specs.declared.Rule.{Rule}
 use Rattle.p4x_fault.specs.declared.Rule.TheVariants.{L}
 use Rattle.token_division.specs.declared.literals.Base.TheVariants.{Decimal}
 use Rattle.token_division.specs.Octets.{is_blank, is_letter, is_decimal, is_word, is_on_line}
-use Rattle.token_division.specs.Pieces.{begins, mark_of, comment_size}
+use Rattle.token_division.specs.Pieces.{begins, mark_at, comment_size}
 use Rattle.token_division.specs.Literals.{value_of, literal_value, literal_size, largest}
 use Rattle.token_division.specs.Trivia.{IsFirstOnLine}
 use Rattle.token_division.proofs.Numbers.{is_literal}
 use Rattle.token_division.proofs.LineStarts.{opens, is_first_on_line, not_first_on_line}
 use Rattle.token_division.proofs.Comments.{begins_as, IsNoComment, comment_refused}
-use Rattle.p414_tok.specs.declared.kind.TokenKind14.TheVariants as kind
+use Rattle.p414_lexemes.specs.declared.mark.Mark.{Mark}
+use Rattle.p414_lexemes.specs.Marks.{mark_text, all_marks}
+use Rattle.p414_lexemes.proofs.AllMarks.{of_all_marks}
 use Rattle.p414_tok.specs.declared.front.Head.{Head}
 use Rattle.p414_tok.specs.declared.front.Head.TheVariants as head
 use Rattle.p414_tok.specs.Lines.{marker_size, pragma_size, is_pragma}
-use Rattle.p414_tok.specs.Front.{Found, token, skipped, marks, mark, plain_number, wide_number, is_quoted, number, head_of, front_by, front}
+use Rattle.p414_tok.specs.Front.{Found, token, skipped, mark_found, mark, number_kind, plain_number, wide_number, is_quoted, number, head_of, front_by, front}
 use Rattle.p414_tok.specs.Refusals.{BeginsNothing, BeginsOpen, BeginsLargeNumber, BeginsMisfit, BeginsWrongNumber, IsBrokenAt}
-use Rattle.p414_tok.proofs.Spelling.{decimals, inside}
+use Rattle.p414_tok.proofs.Spelling.{decimals, inside, or_first, or_second}
 use Rattle.p414_tok.proofs.Markers.{marker_refused}
 use Rattle.p414_tok.proofs.Heads.{HeadIs, head_is, IsOther}
 
@@ -53,7 +54,7 @@ plain_wrong : (text : List ℕ) → is_decimal (get_or text 0 0) ≡ true → Is
 unfolding IsWrongBy
 plain_wrong text d = by (nat_lt largest (literal_value text)) refl
   where
-    by : (t : Bool) → nat_lt largest (literal_value text) ≡ t → IsWrongBy text (cond t (Err (L 3)) (token (kind.Number None (literal_value text)) (literal_size text)))
+    by : (t : Bool) → nat_lt largest (literal_value text) ≡ t → IsWrongBy text (cond t (Err (L 3)) (token (number_kind None (literal_value text)) (literal_size text)))
     by true e = (refl, inl (large text d e))
     by false e = tt
 
@@ -110,7 +111,7 @@ wide_wrong text q =
         let same : m + 1 + 0 ≡ m + 1 = omega arith in
         ap is_decimal (get_or-drop (m + 1) text 0 0 ∙ ap (λ k. get_or text k 0) same) ∙ both_right (nat_eq (get_or text m 0) 39) (is_decimal (get_or text (m + 1) 0)) q
 
-    by : (t : Bool) → (nat_lt (value_of Decimal (take (prefix_len is_decimal text) text)) 1 || (nat_lt 128 (value_of Decimal (take (prefix_len is_decimal text) text)) || nat_lt largest (literal_value (drop (prefix_len is_decimal text + 1) text)))) ≡ t → IsWrongBy text (cond t (Err (L 3)) (token (kind.Number (Some (value_of Decimal (take (prefix_len is_decimal text) text))) (literal_value (drop (prefix_len is_decimal text + 1) text) % 2 ^ value_of Decimal (take (prefix_len is_decimal text) text))) (prefix_len is_decimal text + 1 + literal_size (drop (prefix_len is_decimal text + 1) text))))
+    by : (t : Bool) → (nat_lt (value_of Decimal (take (prefix_len is_decimal text) text)) 1 || (nat_lt 128 (value_of Decimal (take (prefix_len is_decimal text) text)) || nat_lt largest (literal_value (drop (prefix_len is_decimal text + 1) text)))) ≡ t → IsWrongBy text (cond t (Err (L 3)) (token (number_kind (Some (value_of Decimal (take (prefix_len is_decimal text) text))) (literal_value (drop (prefix_len is_decimal text + 1) text) % 2 ^ value_of Decimal (take (prefix_len is_decimal text) text))) (prefix_len is_decimal text + 1 + literal_size (drop (prefix_len is_decimal text + 1) text))))
     by true e = (refl, inr (wide_misfit text (take (prefix_len is_decimal text) text) (drop (prefix_len is_decimal text + 1) text) parts (decimals text) digit e))
     by false e = tt
 
@@ -137,24 +138,33 @@ no_begin text octets octet n = by (begins text (octet ∷ octets)) refl
     by false e = refl
     by true e = absurd (n (heads text octets octet e))
 
-slash_marks : (text : List ℕ) → get_or text 0 0 ≡ 47 → list_any (begins text) marks ≡ false
+-- in the list of all marks none passes, so no mark does
+none_passes : {A : Type 0} (test : A → Bool) (xs : List A) → list_any test xs ≡ false → All (λ x. test x ≡ false) xs
+none_passes test [] e k d l = absurd (omega arith)
+none_passes test (x ∷ xs) e zero d l = or_first (test x) (list_any test xs) e
+none_passes test (x ∷ xs) e (suc k) d l = none_passes test xs (or_second (test x) (list_any test xs) e) k d (omega arith)
+
+none_of_all : (text : List ℕ) → list_any (λ m. begins text (mark_text m)) all_marks ≡ false → (m : Mark) → begins text (mark_text m) ≡ false
+none_of_all text e = of_all_marks (λ m. begins text (mark_text m) ≡ false) (none_passes (λ m. begins text (mark_text m)) all_marks e)
+
+slash_marks : (text : List ℕ) → get_or text 0 0 ≡ 47 → list_any (λ m. begins text (mark_text m)) all_marks ≡ false
 slash_marks [] e = absurd (cc)
-slash_marks (first ∷ text) e = ap (λ x. list_any (begins (x ∷ text)) marks) e
+slash_marks (first ∷ text) e = ap (λ x. list_any (λ m. begins (x ∷ text) (mark_text m)) all_marks) e
 
-at_sign_marks : (text : List ℕ) → get_or text 0 0 ≡ 64 → list_any (begins text) marks ≡ false
+at_sign_marks : (text : List ℕ) → get_or text 0 0 ≡ 64 → list_any (λ m. begins text (mark_text m)) all_marks ≡ false
 at_sign_marks [] e = absurd (cc)
-at_sign_marks (first ∷ text) e = ap (λ x. list_any (begins (x ∷ text)) marks) e
+at_sign_marks (first ∷ text) e = ap (λ x. list_any (λ m. begins (x ∷ text) (mark_text m)) all_marks) e
 
-number_sign_marks : (text : List ℕ) → get_or text 0 0 ≡ 35 → list_any (begins text) marks ≡ false
+number_sign_marks : (text : List ℕ) → get_or text 0 0 ≡ 35 → list_any (λ m. begins text (mark_text m)) all_marks ≡ false
 number_sign_marks [] e = absurd (cc)
-number_sign_marks (first ∷ text) e = ap (λ x. list_any (begins (x ∷ text)) marks) e
+number_sign_marks (first ∷ text) e = ap (λ x. list_any (λ m. begins (x ∷ text) (mark_text m)) all_marks) e
 
 slash_nothing : (before text : List ℕ) → get_or text 0 0 ≡ 47 → begins text (codes "//") ≡ false → begins text (codes "/*") ≡ false → BeginsNothing before text
 slash_nothing before text h l b = record {
   no_blank = ap is_blank h;
   no_name = ap is_letter h;
   no_number = ap is_decimal h;
-  no_mark = slash_marks text h;
+  no_mark = none_of_all text (slash_marks text h);
   no_comment = (l, b);
   no_pragma = λ p. absurd (let q = heads text (codes "pragma") 64 p in omega (arith, q, h));
   no_marker = λ q f. absurd (omega (arith, q, h));
@@ -170,7 +180,7 @@ at_sign_nothing before text h p = record {
   no_blank = ap is_blank h;
   no_name = ap is_letter h;
   no_number = ap is_decimal h;
-  no_mark = at_sign_marks text h;
+  no_mark = none_of_all text (at_sign_marks text h);
   no_comment = (no_begin text (codes "/") 47 (λ q. omega (arith, q, h)), no_begin text (codes "*") 47 (λ q. omega (arith, q, h)));
   no_pragma = pragma_word (begins text (codes "@pragma")) (is_word (get_or text 7 0)) p;
   no_marker = λ q f. absurd (omega (arith, q, h));
@@ -181,29 +191,29 @@ number_sign_nothing before text h o = record {
   no_blank = ap is_blank h;
   no_name = ap is_letter h;
   no_number = ap is_decimal h;
-  no_mark = number_sign_marks text h;
+  no_mark = none_of_all text (number_sign_marks text h);
   no_comment = (no_begin text (codes "/") 47 (λ q. omega (arith, q, h)), no_begin text (codes "*") 47 (λ q. omega (arith, q, h)));
   no_pragma = λ p. absurd (let q = heads text (codes "pragma") 64 p in omega (arith, q, h));
   no_marker = λ q f. not_first_on_line before o f;
 }
 
-none_begins : (text : List ℕ) (table : List (List ℕ)) → mark_of table text ≡ None → list_any (begins text) table ≡ false
+none_begins : (text : List ℕ) (table : List Mark) → mark_at mark_text table text ≡ None → list_any (λ m. begins text (mark_text m)) table ≡ false
 none_begins text [] e = refl
-none_begins text (first ∷ table) e = by (begins text first) refl (none_begins text table) e
+none_begins text (first ∷ table) e = by (begins text (mark_text first)) refl (none_begins text table) e
   where
-    by : (t : Bool) → begins text first ≡ t → (mark_of table text ≡ None → list_any (begins text) table ≡ false) → cond t (Some first) (mark_of table text) ≡ None → (t || list_any (begins text) table) ≡ false
+    by : (t : Bool) → begins text (mark_text first) ≡ t → (mark_at mark_text table text ≡ None → list_any (λ m. begins text (mark_text m)) table ≡ false) → cond t (Some first) (mark_at mark_text table text) ≡ None → (t || list_any (λ m. begins text (mark_text m)) table) ≡ false
     by true f more e = absurd (cc)
     by false f more e = more e
 
 differs : (a b : ℕ) → nat_eq a b ≡ false → a ≡ b → ⊥
 differs a b e q = grind (arith, nat_tests)
 
-other_nothing : (before text : List ℕ) → IsOther (get_or text 0 0) → mark_of marks text ≡ None → BeginsNothing before text
+other_nothing : (before text : List ℕ) → IsOther (get_or text 0 0) → mark_at mark_text all_marks text ≡ None → BeginsNothing before text
 other_nothing before text h m = record {
   no_blank = h.no_blank;
   no_name = h.no_letter;
   no_number = h.no_decimal;
-  no_mark = none_begins text marks m;
+  no_mark = none_of_all text (none_begins text all_marks m);
   no_comment = (no_begin text (codes "/") 47 (differs (get_or text 0 0) 47 h.no_slash), no_begin text (codes "*") 47 (differs (get_or text 0 0) 47 h.no_slash));
   no_pragma = λ p. absurd (differs (get_or text 0 0) 64 h.no_at_sign (heads text (codes "pragma") 64 p));
   no_marker = λ q f. differs (get_or text 0 0) 35 h.no_number_sign q;
@@ -232,10 +242,10 @@ marker_broken before text true rule o h e = elim (marker_refused text rule h e) 
 ]
 marker_broken before text false rule o h e = let q : rule ≡ L 1 = cc in inl (q, number_sign_nothing before text h (sym o))
 
-mark_broken : (before text : List ℕ) (rule : Rule) → IsOther (get_or text 0 0) → mark (option_map length (mark_of marks text)) ≡ refused rule → IsBrokenAt rule before text
-mark_broken before text rule h e = by (mark_of marks text) refl e
+mark_broken : (before text : List ℕ) (rule : Rule) → IsOther (get_or text 0 0) → mark text ≡ refused rule → IsBrokenAt rule before text
+mark_broken before text rule h e = by (mark_at mark_text all_marks text) refl e
   where
-    by : (o : Option (List ℕ)) → mark_of marks text ≡ o → mark (option_map length o) ≡ refused rule → IsBrokenAt rule before text
+    by : (o : Option Mark) → mark_at mark_text all_marks text ≡ o → mark_found o ≡ refused rule → IsBrokenAt rule before text
     by (Some m) f e = absurd (subst IsRefused (sym e) tt)
     by None f e = let q : L 1 ≡ rule = ap rule_of e in inl (sym q, other_nothing before text h f)
 

@@ -3,17 +3,21 @@ use Rattle.std.proofs.Common.{◌≡◌, ◌⊎◌, inl, inr, nat_eq, ℕ, ◌<�
 use Rattle.std.specs.Prelude.{not}
 use Rattle.std.specs.List.{AllPass, list_all}
 use Rattle.std.proofs.lemmas.List.Sums.{AllPass-from_list_all}
+use Rattle.std.proofs.lemmas.Bool.{and_parts}
 use Rattle.std.proofs.lemmas.Bool.Decides.{nat_tests}
 use Rattle.token_division.specs.declared.literals.Base.{Base}
 use Rattle.token_division.specs.declared.literals.Base.TheVariants.{Binary, Decimal, Hexadecimal}
 use Rattle.token_division.specs.Octets.{is_blank, is_letter, is_decimal, is_word, is_line_feed, is_on_line}
 use Rattle.token_division.specs.Literals.{IsBasePrefix, IsLiteral, is_digit_or_gap}
+use Rattle.p414_lexemes.specs.declared.mark.Mark.{Mark}
+use Rattle.p414_lexemes.specs.Marks.{mark_text, all_marks}
+use Rattle.p414_lexemes.proofs.AllMarks.{of_all_marks}
 use Rattle.p414_tok.specs.declared.kind.TokenKind14.{TokenKind14}
 use Rattle.p414_tok.specs.declared.kind.TokenKind14.TheVariants as kind
 use Rattle.p414_tok.specs.declared.front.Head.{Head}
 use Rattle.p414_tok.specs.declared.front.Head.TheVariants as head
-use Rattle.p414_tok.specs.Front.{marks, head_of}
-use Rattle.p414_tok.specs.Spelled.{IsSpelled}
+use Rattle.p414_tok.specs.Front.{head_of}
+use Rattle.p414_tok.specs.Spelled.{IsNumber, IsSpelled}
 use Rattle.p414_tok.proofs.Markers.{pass_append}
 
 equal : (a b : ℕ) → nat_eq a b ≡ true → a ≡ b
@@ -80,11 +84,16 @@ no_feed Hexadecimal = refl
 literal_on_line : (octets : List ℕ) (value : ℕ) → IsLiteral octets value → AllPass is_on_line octets
 literal_on_line octets value h = subst (AllPass is_on_line) (sym h.parts) (pass_append is_on_line h.prefix h.digits (prefix_on_line h.base h.prefix h.has_prefix) (on_line_by (is_digit_or_gap h.base) h.digits (no_feed h.base) h.has_digits.1))
 
-pub spelled_on_line : (k : TokenKind14) (text : List ℕ) (size : ℕ) → IsSpelled k text size → AllPass is_on_line (take size text)
-spelled_on_line kind.Name text size h = on_line_by is_word (take size text) refl h.0.1
-spelled_on_line (kind.Number None value) text size h = literal_on_line (take size text) value h.0
-spelled_on_line (kind.Number (Some width) value) text size h =
+number_on_line : (width : Option ℕ) (value : ℕ) (octets : List ℕ) → IsNumber width value octets → AllPass is_on_line octets
+number_on_line None value octets h = literal_on_line octets value h.0
+number_on_line (Some width) value octets h =
     subst (AllPass is_on_line) (sym h.parts) (pass_append is_on_line h.digits (39 ∷ h.rest) (on_line_by is_decimal h.digits refl h.has_digits)
     (pass_append is_on_line (39 ∷ []) h.rest (AllPass-from_list_all is_on_line (39 ∷ []) refl) (literal_on_line h.rest h.written h.has_number)))
-spelled_on_line kind.Mark text size h =
-    AllPass-from_list_all is_on_line (take size text) (ap (list_all is_on_line) (sym h.0.2) ∙ AllPass-from_list_all (λ (m : List ℕ). list_all is_on_line m) marks refl h.0.0 (take size text) h.0.1)
+
+mark_on_line : (m : Mark) → list_all is_on_line (mark_text m) ≡ true
+mark_on_line = of_all_marks (λ m. list_all is_on_line (mark_text m) ≡ true) (AllPass-from_list_all (λ m. list_all is_on_line (mark_text m)) all_marks refl)
+
+pub spelled_on_line : (k : TokenKind14) (text : List ℕ) (size : ℕ) → IsSpelled k text size → AllPass is_on_line (take size text)
+spelled_on_line kind.Name text size h = on_line_by is_word (take size text) refl (AllPass-from_list_all is_word (take size text) (and_parts (is_letter (get_or (take size text) 0 0)) (list_all is_word (take size text)) h.0).1)
+spelled_on_line (kind.Number n) text size h = number_on_line n.width n.value (take size text) h
+spelled_on_line (kind.Mark m) text size h = AllPass-from_list_all is_on_line (take size text) (ap (list_all is_on_line) h.0 ∙ mark_on_line m)

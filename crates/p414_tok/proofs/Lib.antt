@@ -4,3 +4,6 @@ pub mod Heads
 pub mod Between
 pub mod Broken
 pub mod Laws
+pub mod Spelt
+pub mod Texts
+pub mod Spaced

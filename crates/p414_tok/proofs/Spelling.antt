@@ -1,12 +1,12 @@
 -- How a token that a text begins with is written.
 use Rattle.std.proofs.Common.{◌≡◌, inl, inr, nat_eq, nat_lt, zero-le, ℕ, ◌<◌, ◌≤◌, ◌-◌, ◌%◌, ◌^◌, ◌+◌, Bool, true, false, List, [], ◌∷◌, ◌++◌, length, get_or, take, drop, refl, sym, ap, ◌∙◌, subst, arith, cond, append_assoc, Option, Some, None, Result, Ok, Err}
-use Rattle.std.specs.Prelude.{All, Contains, ◌||◌, ◌&&◌}
-use Rattle.std.specs.Option.{option_map}
-use Rattle.std.specs.List.{prefix_len, AllPass}
+use Rattle.std.specs.Prelude.{All, ◌||◌, ◌&&◌}
+use Rattle.std.specs.List.{prefix_len, list_all, AllPass}
 use Rattle.std.specs.Cmp.Lexicographic.{same_text}
 use Rattle.std.proofs.Math.Nat.{eq-or-lt_of_le}
 use Rattle.std.proofs.lemmas.List.{get_or-take, get_or-drop, get_or_past, length-take-le, take_more}
-use Rattle.std.proofs.lemmas.List.Sums.{prefix_len-le-length, prefix_len_passes, prefix_len_stops}
+use Rattle.std.proofs.lemmas.List.Sums.{prefix_len-le-length, prefix_len_passes, prefix_len_stops, list_all-from_AllPass}
+use Rattle.std.proofs.lemmas.Bool.{and_from}
 use Rattle.std.proofs.lemmas.Bool.Decides.{nat_tests}
 use Rattle.p4x_fault.specs.declared.Rule.{Rule}
 use Rattle.p4x_fault.specs.declared.Rule.TheVariants.{L}
@@ -14,20 +14,24 @@ use Rattle.token_division.specs.declared.division.Token.{Token}
 use Rattle.token_division.specs.declared.division.What.{What}
 use Rattle.token_division.specs.declared.division.What.TheVariants as what
 use Rattle.token_division.specs.Octets.{is_blank, is_letter, is_decimal, is_word}
-use Rattle.token_division.specs.Pieces.{begins, mark_of, comment_size}
+use Rattle.token_division.specs.Pieces.{begins, mark_at, comment_size}
 use Rattle.token_division.specs.declared.literals.Base.TheVariants.{Decimal}
 use Rattle.token_division.specs.Literals.{value_of, literal_value, literal_size, largest}
 use Rattle.token_division.specs.Layout.{IsPieceOf}
 use Rattle.token_division.proofs.Places.{take-add}
 use Rattle.token_division.proofs.Numbers.{is_literal}
-use Rattle.token_division.proofs.Marks.{mark_begins, mark_among, mark_longest}
+use Rattle.token_division.proofs.Marks.{mark_begins, mark_longest}
+use Rattle.p414_lexemes.specs.declared.mark.Mark.{Mark}
+use Rattle.p414_lexemes.specs.Marks.{mark_text, all_marks}
+use Rattle.p414_lexemes.specs.Spelt.{is_identifier}
+use Rattle.p414_lexemes.proofs.AllMarks.{of_all_marks}
 use Rattle.p414_tok.specs.declared.kind.TokenKind14.{TokenKind14}
 use Rattle.p414_tok.specs.declared.kind.TokenKind14.TheVariants as kind
 use Rattle.p414_tok.specs.declared.front.Head.{Head}
 use Rattle.p414_tok.specs.declared.front.Head.TheVariants as head
 use Rattle.p414_tok.specs.Lines.{pragma_size}
-use Rattle.p414_tok.specs.Front.{Found, token, skipped, marks, mark, plain_number, wide_number, is_quoted, number, head_of, front_by, front}
-use Rattle.p414_tok.specs.Spelled.{IsName, IsNumber, IsWideNumber, IsSpelled}
+use Rattle.p414_tok.specs.Front.{Found, token, skipped, mark_found, number_kind, plain_number, wide_number, is_quoted, number, head_of, front_by, front}
+use Rattle.p414_tok.specs.Spelled.{IsNumber, IsWideNumber, IsSpelled}
 
 -- the kind of the token that a piece is, if it is one
 kind_of_what : What TokenKind14 → Option TokenKind14
@@ -55,15 +59,16 @@ not_word_behind text = elim (eq-or-lt_of_le (prefix_len-le-length is_word text))
   | inr l ↦ prefix_len_stops is_word text 0 l
 ]
 
-is_name : (text : List ℕ) → is_letter (get_or text 0 0) ≡ true → 0 < prefix_len is_word text → IsName (take (prefix_len is_word text) text)
-is_name text e s =
+word_prefix : (text : List ℕ) → AllPass is_word (take (prefix_len is_word text) text)
+word_prefix text k d l =
     let size = prefix_len is_word text in
-    let within = length-take-le size text (prefix_len-le-length is_word text) in (
-      ap is_letter (get_or-take size text 0 0 s) ∙ e,
-      λ k d l.
-          let inside : k < size = omega (arith, within) in
-          ap is_word (get_or-take size text k d inside) ∙ prefix_len_passes is_word text k d inside,
-    )
+    let inside : k < size = omega (arith, length-take-le size text (prefix_len-le-length is_word text)) in
+    ap is_word (get_or-take size text k d inside) ∙ prefix_len_passes is_word text k d inside
+
+is_name : (text : List ℕ) → is_letter (get_or text 0 0) ≡ true → 0 < prefix_len is_word text → is_identifier (take (prefix_len is_word text) text) ≡ true
+is_name text e s =
+    let name = take (prefix_len is_word text) text in
+    and_from (is_letter (get_or name 0 0)) (list_all is_word name) (ap is_letter (get_or-take (prefix_len is_word text) text 0 0 s) ∙ e) (list_all-from_AllPass is_word name (word_prefix text))
 
 or_left : (a b : Bool) → a ≡ true → (a || b) ≡ true
 or_left true b e = refl
@@ -102,17 +107,17 @@ starts_digit octet e = head_digit (is_blank octet) (is_letter octet) (is_decimal
 
 -- a name or a mark
 is_name_token : (text : List ℕ) (k : TokenKind14) (size : ℕ) → is_letter (get_or text 0 0) ≡ true → kind.Name ≡ k → prefix_len is_word text ≡ size → IsSpelled k text size
-is_name_token text k size e q s = subst (λ j. IsSpelled j text size) q (subst (λ n. IsName (take n text) × (is_word (get_or text n 0) ≡ false)) s (is_name text e (word_some text e), not_word_behind text))
+is_name_token text k size e q s = subst (λ j. IsSpelled j text size) q (subst (λ n. (is_identifier (take n text) ≡ true) × (is_word (get_or text n 0) ≡ false)) s (is_name text e (word_some text e), not_word_behind text))
 
-is_mark_token : (text : List ℕ) (k : TokenKind14) (size : ℕ) (found : Option (List ℕ)) → mark_of marks text ≡ found → mark (option_map length found) ≡ token k size → IsSpelled k text size
+is_mark_token : (text : List ℕ) (k : TokenKind14) (size : ℕ) (found : Option Mark) → mark_at mark_text all_marks text ≡ found → mark_found found ≡ token k size → IsSpelled k text size
 unfolding kind_of kind_of_what size_of
 is_mark_token text k size None f e = absurd (let h : None ≡ Some k = ap kind_of e in cc)
 is_mark_token text k size (Some m) f e =
-    let q : kind.Mark ≡ k = let h : Some kind.Mark ≡ Some k = ap kind_of e in cc in
-    let s : length m ≡ size = ap size_of e in
-    let written : m ≡ take (length m) text = same_text m (take (length m) text) (sym (mark_begins text m marks f)) in
-    subst (λ j. IsSpelled j text size) q (subst (λ n. Contains marks (take n text) × All (λ other. begins text other ≡ true → length other ≤ n) marks) s
-    (subst (λ xs. Contains marks xs) written (mark_among text m marks f), mark_longest text m marks refl f))
+    let q : kind.Mark m ≡ k = let h : Some (kind.Mark m) ≡ Some k = ap kind_of e in cc in
+    let s : length (mark_text m) ≡ size = ap size_of e in
+    let written : mark_text m ≡ take (length (mark_text m)) text = same_text (mark_text m) (take (length (mark_text m)) text) (sym (mark_begins mark_text text m all_marks f)) in
+    subst (λ j. IsSpelled j text size) q (subst (λ n. (take n text ≡ mark_text m) × ((other : Mark) → begins text (mark_text other) ≡ true → length (mark_text other) ≤ n)) s
+    (sym written, of_all_marks (λ other. begins text (mark_text other) ≡ true → length (mark_text other) ≤ length (mark_text m)) (mark_longest mark_text text m all_marks refl f)))
 
 is_no_token : (found : Found) (k : TokenKind14) (size : ℕ) → kind_of found ≡ None → found ≡ token k size → ⊥
 unfolding kind_of kind_of_what
@@ -137,11 +142,11 @@ no_more a b e = grind (arith, nat_tests)
 is_plain_token : (text : List ℕ) (k : TokenKind14) (size : ℕ) → is_decimal (get_or text 0 0) ≡ true → plain_number text ≡ token k size → IsSpelled k text size
 is_plain_token text k size d e = go (nat_lt largest (literal_value text)) refl e
   where
-    go : (t : Bool) → nat_lt largest (literal_value text) ≡ t → cond t (Err (L 3)) (token (kind.Number None (literal_value text)) (literal_size text)) ≡ token k size → IsSpelled k text size
+    go : (t : Bool) → nat_lt largest (literal_value text) ≡ t → cond t (Err (L 3)) (token (number_kind None (literal_value text)) (literal_size text)) ≡ token k size → IsSpelled k text size
     go true f e = absurd (is_no_token (Err (L 3)) k size no_kind e)
     go false f e =
-        subst (λ j. IsSpelled j text size) (the_kind (kind.Number None (literal_value text)) k (literal_size text) size e)
-        (subst (λ n. IsNumber None (literal_value text) (take n text)) (the_size (kind.Number None (literal_value text)) k (literal_size text) size e) (is_literal text d, no_more largest (literal_value text) f))
+        subst (λ j. IsSpelled j text size) (the_kind (number_kind None (literal_value text)) k (literal_size text) size e)
+        (subst (λ n. IsNumber None (literal_value text) (take n text)) (the_size (number_kind None (literal_value text)) k (literal_size text) size e) (is_literal text d, no_more largest (literal_value text) f))
 
 -- a number with a width
 wide_parts : (text : List ℕ) (n size : ℕ) → get_or text n 0 ≡ 39 → n < length text → take (n + 1 + size) text ≡ take n text ++ 39 ∷ take size (drop (n + 1) text)
@@ -149,11 +154,11 @@ wide_parts text n size e l =
     take-add (n + 1) size text ∙ ap (λ xs. xs ++ take size (drop (n + 1) text)) (take_more text n 0 l ∙ ap (λ x. take n text ++ x ∷ []) e)
     ∙ append_assoc (take n text) (39 ∷ []) (take size (drop (n + 1) text))
 
-or_first : (a b : Bool) → (a || b) ≡ false → a ≡ false
+pub or_first : (a b : Bool) → (a || b) ≡ false → a ≡ false
 or_first true b e = absurd (cc)
 or_first false b e = refl
 
-or_second : (a b : Bool) → (a || b) ≡ false → b ≡ false
+pub or_second : (a b : Bool) → (a || b) ≡ false → b ≡ false
 or_second true b e = absurd (cc)
 or_second false b e = e
 
@@ -177,10 +182,10 @@ is_wide text n width p w q l d f =
 is_wide_token : (text : List ℕ) (n width : ℕ) (k : TokenKind14) (size : ℕ) → AllPass is_decimal (take n text) → width ≡ value_of Decimal (take n text) → get_or text n 0 ≡ 39 → n < length text → is_decimal (get_or (drop (n + 1) text) 0 0) ≡ true → wide_number width (n + 1) (drop (n + 1) text) ≡ token k size → IsSpelled k text size
 is_wide_token text n width k size p w q l d e = go (nat_lt width 1 || (nat_lt 128 width || nat_lt largest (literal_value (drop (n + 1) text)))) refl e
   where
-    go : (t : Bool) → (nat_lt width 1 || (nat_lt 128 width || nat_lt largest (literal_value (drop (n + 1) text)))) ≡ t → cond t (Err (L 3)) (token (kind.Number (Some width) (literal_value (drop (n + 1) text) % 2 ^ width)) (n + 1 + literal_size (drop (n + 1) text))) ≡ token k size → IsSpelled k text size
+    go : (t : Bool) → (nat_lt width 1 || (nat_lt 128 width || nat_lt largest (literal_value (drop (n + 1) text)))) ≡ t → cond t (Err (L 3)) (token (number_kind (Some width) (literal_value (drop (n + 1) text) % 2 ^ width)) (n + 1 + literal_size (drop (n + 1) text))) ≡ token k size → IsSpelled k text size
     go true f e = absurd (is_no_token (Err (L 3)) k size no_kind e)
     go false f e =
-        let number : TokenKind14 = kind.Number (Some width) (literal_value (drop (n + 1) text) % 2 ^ width) in
+        let number : TokenKind14 = number_kind (Some width) (literal_value (drop (n + 1) text) % 2 ^ width) in
         let end = n + 1 + literal_size (drop (n + 1) text) in
         subst (λ j. IsSpelled j text size) (the_kind number k end size e)
         (subst (λ m. IsWideNumber (take m text) width (literal_value (drop (n + 1) text) % 2 ^ width)) (the_size number k end size e) (is_wide text n width p w q l d f))
@@ -230,7 +235,7 @@ spelled is_first text k size e = by_head (head_of (get_or text 0 0)) refl e
     by_head head.Slash f e = absurd (is_no_token (skipped (comment_size text)) k size (skipped_kind (comment_size text)) e)
     by_head head.AtSign f e = absurd (is_no_token (skipped (pragma_size text)) k size (skipped_kind (pragma_size text)) e)
     by_head head.NumberSign f e = absurd (is_no_token (front_by head.NumberSign is_first text) k size (skipped_kind _) e)
-    by_head head.Other f e = is_mark_token text k size (mark_of marks text) refl e
+    by_head head.Other f e = is_mark_token text k size (mark_at mark_text all_marks text) refl e
 
 -- each token that is what the text begins with where the token begins
 pub tokens_spelled : (text : List ℕ) (tokens : List (Token TokenKind14)) → All (IsPieceOf front text) tokens → All (λ t. IsSpelled t.kind (drop t.from text) (t.to - t.from)) tokens

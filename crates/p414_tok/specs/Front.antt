@@ -1,8 +1,7 @@
 -- What a P4_14 text begins with: trivia (blanks, comments, line markers and pragma lines) and tokens. Names, numbers
 -- with their widths and marks are those of P4_14 1.0.5, "Value Specifications" and "Summary of P4 BNF"; which places
 -- take a `_` or a blank, and which rule a text breaks, is this project's own.
-use Rattle.std.specs.Prelude.{ℕ, ◌+◌, ◌%◌, ◌^◌, Bool, nat_eq, nat_lt, ◌&&◌, ◌||◌, if◌then◌else◌, List, [], ◌∷◌, length, take, drop, codes, Option, Some, None, Result, Ok, Err, slice_index}
-use Rattle.std.specs.Option.{option_map}
+use Rattle.std.specs.Prelude.{ℕ, ◌+◌, ◌%◌, ◌^◌, Bool, nat_eq, nat_lt, ◌&&◌, ◌||◌, if◌then◌else◌, List, length, take, drop, Option, Some, None, Result, Ok, Err, slice_index}
 use Rattle.std.specs.List.{prefix_len}
 use Rattle.p4x_fault.specs.declared.Rule.{Rule}
 use Rattle.p4x_fault.specs.declared.Rule.TheVariants.{L}
@@ -10,8 +9,10 @@ use Rattle.token_division.specs.declared.division.Piece.{Piece}
 use Rattle.token_division.specs.declared.division.What.TheVariants as what
 use Rattle.token_division.specs.declared.literals.Base.TheVariants.{Decimal}
 use Rattle.token_division.specs.Octets.{is_blank, is_letter, is_decimal, is_word}
-use Rattle.token_division.specs.Pieces.{mark_of, comment_size}
+use Rattle.token_division.specs.Pieces.{mark_at, comment_size}
 use Rattle.token_division.specs.Literals.{literal_value, literal_size, value_of, largest}
+use Rattle.p414_lexemes.specs.declared.mark.Mark.{Mark}
+use Rattle.p414_lexemes.specs.Marks.{mark_text, all_marks}
 use Rattle.p414_tok.specs.declared.kind.TokenKind14.{TokenKind14}
 use Rattle.p414_tok.specs.declared.kind.TokenKind14.TheVariants as kind
 use Rattle.p414_tok.specs.declared.front.Head.{Head}
@@ -29,33 +30,30 @@ abbrev pub skipped : Result ℕ Rule → Found
 skipped (Ok size) = Ok (record { what = what.Skipped; size = size })
 skipped (Err rule) = Err rule
 
--- the marks, the longest first
-abbrev pub marks : List (List ℕ)
-marks =
-    codes "<=" ∷ codes ">=" ∷ codes "==" ∷ codes "!=" ∷ codes "<<" ∷ codes ">>"
-    ∷ codes "{" ∷ codes "}" ∷ codes "(" ∷ codes ")" ∷ codes "[" ∷ codes "]"
-    ∷ codes ";" ∷ codes ":" ∷ codes "," ∷ codes "."
-    ∷ codes "=" ∷ codes "<" ∷ codes ">" ∷ codes "+" ∷ codes "-" ∷ codes "*"
-    ∷ codes "&" ∷ codes "|" ∷ codes "^" ∷ codes "~"
-    ∷ []
+-- the longest mark that the text begins with; an octet that begins none breaks L1
+abbrev pub mark_found : Option Mark → Found
+mark_found (Some m) = token (kind.Mark m) (length (mark_text m))
+mark_found None = Err (L 1)
 
--- a mark by its length; an octet that begins nothing breaks L1
-abbrev pub mark : Option ℕ → Found
-mark (Some size) = token kind.Mark size
-mark None = Err (L 1)
+abbrev pub mark : List ℕ → Found
+mark text = mark_found (mark_at mark_text all_marks text)
+
+-- the token class of a number
+abbrev pub number_kind : Option ℕ → ℕ → TokenKind14
+number_kind width value = kind.Number (record { width = width; value = value })
 
 -- a number without a width: one over 2 ^ 128 - 1 breaks L3
 abbrev pub plain_number : List ℕ → Found
 plain_number text =
     if nat_lt largest (literal_value text) then Err (L 3)
-    else token (kind.Number None (literal_value text)) (literal_size text)
+    else token (number_kind None (literal_value text)) (literal_size text)
 
 -- A number of this width, of which so many octets stand before the value. Its value is kept modulo
 -- 2 ^ width. A width outside 1 to 128 breaks L3, and so does a written value over 2 ^ 128 - 1.
 abbrev pub wide_number : ℕ → ℕ → List ℕ → Found
 wide_number width before text =
     if nat_lt width 1 || (nat_lt 128 width || nat_lt largest (literal_value text)) then Err (L 3)
-    else token (kind.Number (Some width) (literal_value text % 2 ^ width)) (before + literal_size text)
+    else token (number_kind (Some width) (literal_value text % 2 ^ width)) (before + literal_size text)
 
 -- a `'` behind so many octets, and a digit behind it
 abbrev pub is_quoted : ℕ → List ℕ → Bool
@@ -90,7 +88,7 @@ front_by head.Digit is_first text = number text
 front_by head.Slash is_first text = skipped (comment_size text)
 front_by head.AtSign is_first text = skipped (pragma_size text)
 front_by head.NumberSign is_first text = skipped (if is_first then marker_size text else Err (L 1))
-front_by head.Other is_first text = mark (option_map length (mark_of marks text))
+front_by head.Other is_first text = mark text
 
 -- the piece that a P4_14 text begins with, or the rule that it breaks there
 abbrev pub front : Bool → List ℕ → Found

@@ -1,6 +1,6 @@
 -- What stands where a P4_14 text is refused: a law for each of the rules L1 to L4 (the rules are this project's own).
 use Rattle.std.specs.Prelude.{◌≡◌, ◌<◌, ◌⊎◌, ◌∷◌, ◌++◌, ℕ, List, length, take, drop, codes, Some, Result, Ok, Err, slice_index, true, false, IsTrue}
-use Rattle.std.specs.List.{AllPass, list_any}
+use Rattle.std.specs.List.{AllPass}
 use Rattle.p4x_fault.specs.declared.Rule.{Rule}
 use Rattle.p4x_fault.specs.declared.Rule.TheVariants.{L}
 use Rattle.p4x_fault.specs.declared.Fault.{Fault}
@@ -13,9 +13,10 @@ use Rattle.token_division.specs.Pieces.{begins}
 use Rattle.token_division.specs.Literals.{IsLiteral, value_of, largest}
 use Rattle.token_division.specs.Division.{place_after}
 use Rattle.token_division.specs.Trivia.{IsFirstOnLine, BeginsOpenComment, HasTriviaBetween}
+use Rattle.p414_lexemes.specs.declared.mark.Mark.{Mark}
+use Rattle.p414_lexemes.specs.Marks.{mark_text}
 use Rattle.p414_tok.specs.declared.kind.TokenKind14.{TokenKind14}
 use Rattle.p414_tok.specs.Lines.{is_not_quote, first_line}
-use Rattle.p414_tok.specs.Front.{marks}
 use Rattle.p414_tok.specs.Trivia.{IsMarkerStart, IsLineMarker, IsTrivia}
 
 -- L1: the text begins with no blank, name, number, mark, comment or pragma line, and with no `#` that is the first
@@ -24,7 +25,7 @@ pub record BeginsNothing (before text : List ℕ) : Type 0 where
   pub no_blank : is_blank (slice_index text 0) ≡ false
   pub no_name : is_letter (slice_index text 0) ≡ false
   pub no_number : is_decimal (slice_index text 0) ≡ false
-  pub no_mark : list_any (begins text) marks ≡ false
+  pub no_mark : (mark : Mark) → begins text (mark_text mark) ≡ false
   pub no_comment : (begins text (codes "//") ≡ false) × (begins text (codes "/*") ≡ false)
   pub no_pragma : IsTrue (begins text (codes "@pragma")) → IsTrue (is_word (slice_index text 7))
   pub no_marker : slice_index text 0 ≡ 35 → IsFirstOnLine before → ⊥

@@ -1,8 +1,6 @@
 // What a text begins with.
 ghost use Rattle.std.specs.Prelude.{◌≡◌, ◌<◌, ◌≤◌, length, slice_index, IfOk, IsTrue};
-ghost use Rattle.std.specs.Option.{option_map};
 ghost use Rattle.token_division.specs.Octets as octets;
-ghost use Rattle.token_division.specs.Pieces.{mark_of};
 ghost use Rattle.p414_tok.specs.declared.front.Head.TheVariants.{Digit, Letter, NumberSign};
 ghost use Rattle.p414_tok.specs.Front as front;
 
@@ -10,13 +8,38 @@ use crate::TokenKind14;
 use crate::lines::{marker_size, pragma_size};
 use crate::numbers::number;
 use p4x_fault::Rule;
+use p414_lexemes::Mark;
 use token_division::octets::{is_blank, is_decimal, is_letter, word_size};
-use token_division::{Piece, What, comment_size, mark_size};
+use token_division::{Piece, What, comment_size, mark_at};
 
 /// The marks, the longest first.
-const MARKS: [&[u8]; 26] = [
-    b"<=", b">=", b"==", b"!=", b"<<", b">>", b"{", b"}", b"(", b")", b"[", b"]", b";", b":", b",",
-    b".", b"=", b"<", b">", b"+", b"-", b"*", b"&", b"|", b"^", b"~",
+const MARKS: [Mark; 26] = [
+    Mark::LessEqual,
+    Mark::GreaterEqual,
+    Mark::Equal,
+    Mark::NotEqual,
+    Mark::ShiftLeft,
+    Mark::ShiftRight,
+    Mark::BraceOpen,
+    Mark::BraceClose,
+    Mark::ParenOpen,
+    Mark::ParenClose,
+    Mark::BracketOpen,
+    Mark::BracketClose,
+    Mark::Semicolon,
+    Mark::Colon,
+    Mark::Comma,
+    Mark::Dot,
+    Mark::Assign,
+    Mark::Less,
+    Mark::Greater,
+    Mark::Plus,
+    Mark::Minus,
+    Mark::Star,
+    Mark::Ampersand,
+    Mark::Bar,
+    Mark::Caret,
+    Mark::Tilde,
 ];
 
 /// What may begin with an octet.
@@ -92,12 +115,13 @@ fn skipped(size: usize) -> Result<Piece<TokenKind14>, Rule>
     Ok(Piece { what, size })
 }
 
-/// The mark that the text begins with. An octet that begins none breaks L1.
+/// The longest mark that the text begins with. An octet that begins none breaks L1.
 fn mark(text: &[u8]) -> Result<Piece<TokenKind14>, Rule>
-    ensures is { result ≡ front.mark (option_map length (mark_of front.marks text.now)) }
+    ensures is { result ≡ front.mark text.now }
     ensures within { IfOk result (λ piece. (0 < piece.size) × (piece.size ≤ length text.now)) }
 {
-    let size = mark_size(&MARKS, text).ok_or(Rule::L(1))?;
-    let what = What::Token(TokenKind14::Mark);
+    let mark = mark_at(&MARKS, text).ok_or(Rule::L(1))?;
+    let what = What::Token(TokenKind14::Mark(mark));
+    let size = mark.text().len();
     Ok(Piece { what, size })
 }

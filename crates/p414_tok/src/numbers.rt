@@ -6,6 +6,7 @@ ghost use Rattle.p414_tok.specs.Front as front;
 
 use crate::TokenKind14;
 use p4x_fault::Rule;
+use p414_lexemes::Literal;
 use token_division::octets::{decimal_size, is_decimal};
 use token_division::{Piece, What};
 
@@ -47,7 +48,7 @@ fn plain_number(text: &[u8]) -> Result<Piece<TokenKind14>, Rule>
 {
     let number = token_division::number(text);
     let value = number.value.ok_or(Rule::L(3))?;
-    let what = What::Token(TokenKind14::Number { width: None, value });
+    let what = What::Token(TokenKind14::Number(Literal { width: None, value }));
     let size = number.size;
     Ok(Piece { what, size })
 }
@@ -67,10 +68,10 @@ fn wide_number(width: Option<u128>, before: usize, text: &[u8]) -> Result<Piece<
     let value = number.value.ok_or(Rule::L(3))?;
     let width = width as u8;
     let value = cut(value, width);
-    let what = What::Token(TokenKind14::Number {
+    let what = What::Token(TokenKind14::Number(Literal {
         width: Some(width),
         value,
-    });
+    }));
     let size = before + number.size;
     Ok(Piece { what, size })
 }

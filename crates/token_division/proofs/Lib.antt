@@ -4,6 +4,7 @@ pub mod Laid
 pub mod Scans
 pub mod Numbers
 pub mod Marks
+pub mod Whole
 pub mod Walks
 pub mod Gaps
 pub mod LineStarts

@@ -18,7 +18,7 @@ drop_one : (n octet : ℕ) (text : List ℕ) → 0 < n → drop n (octet ∷ tex
 drop_one zero octet text l = absurd (omega arith)
 drop_one (suc n) octet text l = ap (λ k. drop k text) (omega arith)
 
-behind_nothing : {K : Type 0} (r : Result (List (Token K)) Fault) → behind [] r ≡ r
+pub behind_nothing : {K : Type 0} (r : Result (List (Token K)) Fault) → behind [] r ≡ r
 behind_nothing (Ok us) = refl
 behind_nothing (Err f) = refl
 
@@ -34,7 +34,7 @@ module _ {K : Type 0} (front : Front K) where
   skips (suc k) before (octet ∷ text) is_first l = skips k (before ++ octet ∷ []) text is_first (omega arith) ∙ ap (λ xs. divided front xs is_first 0 (drop k text)) (append_assoc before (octet ∷ []) (take k text))
 
   -- one piece
-  one_piece : (before text : List ℕ) (is_first : Bool) (piece : Piece K) → front is_first text ≡ Ok piece → 0 < piece.size → piece.size ≤ length text → divided front before is_first 0 text ≡ behind (token_of before piece.what piece.size) (divided front (before ++ take piece.size text) (first_after piece.what is_first (get_or text 0 0)) 0 (drop piece.size text))
+  pub one_piece : (before text : List ℕ) (is_first : Bool) (piece : Piece K) → front is_first text ≡ Ok piece → 0 < piece.size → piece.size ≤ length text → divided front before is_first 0 text ≡ behind (token_of before piece.what piece.size) (divided front (before ++ take piece.size text) (first_after piece.what is_first (get_or text 0 0)) 0 (drop piece.size text))
   one_piece before [] is_first piece e p l = absurd (omega arith)
   one_piece before (octet ∷ text) is_first piece e p l =
       ap (λ r. goes_on before r (λ found. divided front (before ++ octet ∷ []) (first_after found.what is_first octet) (found.size - 1) text)) e

@@ -10,15 +10,15 @@ use Rattle.token_division.specs.Octets.{is_on_line}
 abbrev pub begins : List ℕ → List ℕ → Bool
 begins text octets = starts_with nat_eq text octets
 
--- the first of the marks that the text begins with
-abbrev pub mark_of : List (List ℕ) → List ℕ → Option (List ℕ)
-mark_of marks text = find (begins text) marks
+-- the first of the marks that the text begins with, by the octets that each is written with
+abbrev pub mark_at : {M : Type 0} → (M → List ℕ) → List M → List ℕ → Option M
+mark_at text_of marks text = find (λ mark. begins text (text_of mark)) marks
 
 -- no mark of the table is longer than one that stands before it
-abbrev pub is_longest_first : List (List ℕ) → Bool
-is_longest_first [] = true
-is_longest_first (mark ∷ marks) =
-    list_all (λ other. nat_le (length other) (length mark)) marks && is_longest_first marks
+abbrev pub is_longest_first : {M : Type 0} → (M → List ℕ) → List M → Bool
+is_longest_first text_of [] = true
+is_longest_first text_of (mark ∷ marks) =
+    list_all (λ other. nat_le (length (text_of other)) (length (text_of mark))) marks && is_longest_first text_of marks
 
 -- how many octets stand up to the end of the first `*/`
 abbrev pub close_size : List ℕ → Option ℕ

@@ -9,4 +9,4 @@ mod pieces;
 
 pub use division::{Lex, Lexicon, Piece, Token, What, divide};
 pub use literals::{Base, Literal, decimal_value, number};
-pub use pieces::{comment_size, mark_size};
+pub use pieces::{Mark, comment_size, mark_at};

@@ -1,22 +1,32 @@
 // Marks and comments at the front of a text.
-ghost use Rattle.std.specs.Prelude.{◌≡◌, ◌<◌, ◌≤◌, ◌+◌, length, map, IfOk, IfSome, IsTrue, All};
-ghost use Rattle.std.specs.Option.{option_map};
-ghost use Rattle.token_division.specs.Pieces.{begins, mark_of, is_longest_first, close_size, comment_size};
+ghost use Rattle.std.specs.Prelude.{◌≡◌, ◌<◌, ◌≤◌, ◌+◌, length, IfOk, IfSome, IsTrue, All};
+ghost use Rattle.token_division.specs.Pieces.{begins, mark_at, is_longest_first, close_size, comment_size};
 
 use crate::octets::line_size;
 use p4x_fault::Rule;
 
-/// The length of the first of the marks that the text begins with, and none where it begins with none
-/// of them. A table whose longer marks stand first gives the longest.
-pub fn mark_size(marks: &[&[u8]], text: &[u8]) -> Option<usize>
-    ensures is { result ≡ option_map length (mark_of (map (λ mark. mark.now) marks.now) text.now) }
-    ensures within { IfSome result (λ size. size ≤ length text.now) }
-    ensures longest { IsTrue (is_longest_first (map (λ mark. mark.now) marks.now))
-        → IfSome result (λ size. All (λ mark. IsTrue (begins text.now mark) → length mark ≤ size) (map (λ mark. mark.now) marks.now)) }
+/// The marks of a language. Each is written in one way.
+pub trait Mark: Copy {
+    ghost use Rattle.std.specs.Prelude.{ℕ, List};
+
+    ghost text_of: { Self → List ℕ };
+
+    /// The octets that it is written with.
+    fn octets(self) -> &'static [u8]
+        ensures { result.now ≡ text_of self };
+}
+
+/// The first of the marks that the text begins with, and none where it begins with none of them. A table whose
+/// longer marks stand first gives the longest.
+pub fn mark_at<M: Mark>(marks: &[M], text: &[u8]) -> Option<M>
+    ensures is { result ≡ mark_at M.text_of marks.now text.now }
+    ensures within { IfSome result (λ mark. length (M.text_of mark) ≤ length text.now) }
+    ensures longest { IsTrue (is_longest_first M.text_of marks.now)
+        → IfSome result (λ mark. All (λ other. IsTrue (begins text.now (M.text_of other)) → length (M.text_of other) ≤ length (M.text_of mark)) marks.now) }
 {
     for mark in marks {
-        if text.starts_with(mark) {
-            return Some(mark.len());
+        if text.starts_with(mark.octets()) {
+            return Some(*mark);
         }
     }
     None
@@ -60,16 +70,11 @@ fn close_size(text: &[u8]) -> Option<usize>
 mod tests {
     use super::*;
 
-    const MARKS: [&[u8]; 2] = [b"<<", b"<"];
-
     #[test]
-    fn comments_and_marks_have_their_length(rt: HostRuntime) {
+    fn comments_have_their_length(rt: HostRuntime) {
         assert_eq!(rt; comment_size(b"// a\nb"), Ok(4));
         assert_eq!(rt; comment_size(b"/*/**/ b"), Ok(6));
         assert_eq!(rt; comment_size(b"/*/"), Err(Rule::L(2)));
         assert_eq!(rt; comment_size(b"/ /"), Err(Rule::L(1)));
-        assert_eq!(rt; mark_size(&MARKS, b"<<<"), Some(2));
-        assert_eq!(rt; mark_size(&MARKS, b"<="), Some(1));
-        assert_eq!(rt; mark_size(&MARKS, b"="), None);
     }
 }

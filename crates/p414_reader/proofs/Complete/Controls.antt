@@ -6,8 +6,8 @@ use Rattle.predictive_parser.specs.Machine.{Takes, Passes, next_of}
 use Rattle.predictive_parser.specs.Grammar.{Plain, move}
 use Rattle.predictive_parser.proofs.Chains.{here, then, reads, put, takes, passes, like_last}
 use Rattle.predictive_parser.proofs.Closings.{pass}
-use Rattle.p414_ast.specs.declared.lexeme.Lexeme.{Lexeme}
-use Rattle.p414_ast.specs.declared.lexeme.Mark.TheVariants as mark
+use Rattle.p414_lexemes.specs.declared.lexeme.Lexeme.{Lexeme}
+use Rattle.p414_lexemes.specs.declared.mark.Mark.TheVariants as mark
 use Rattle.p414_ast.specs.declared.node.Label.{Label}
 use Rattle.p414_ast.specs.declared.node.Label.TheVariants as label
 use Rattle.p414_ast.specs.declared.node.UnaryOperator.{UnaryOperator}
@@ -19,7 +19,7 @@ use Rattle.p414_ast.specs.Operators.{unary_token, binary_token}
 use Rattle.p414_ast.specs.Written.{written_expr, written_stmt, label_text}
 use Rattle.p414_ast.specs.Conditions.{is_among, all_different, is_expr, own_labels, is_label, labels_of, is_outcome, is_mixed, are_labels, block, statement, behind_if, branches, is_stmt}
 use Rattle.p414_reader.specs.declared.symbols.Class.TheVariants as class
-use Rattle.p414_reader.specs.declared.keyword.Keyword.TheVariants as key
+use Rattle.p414_lexemes.specs.declared.keyword.Keyword.TheVariants as key
 use Rattle.p414_reader.specs.declared.symbols.Action.TheVariants as action
 use Rattle.p414_reader.specs.declared.symbols.BodyAction.TheVariants as body
 use Rattle.p414_reader.specs.declared.symbols.Word.TheVariants as word

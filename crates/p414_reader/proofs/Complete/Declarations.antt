@@ -3,10 +3,10 @@ use Rattle.std.proofs.Common.{◌≡◌, ℕ, zero, suc, true, false, not, ◌&&
 use Rattle.std.specs.List.{flat_map, list_all}
 use Rattle.predictive_parser.specs.declared.symbol.Symbol.TheVariants.{Token, Put}
 use Rattle.predictive_parser.specs.declared.symbol.Symbol.TheVariants as symbol
-use Rattle.p414_ast.specs.declared.lexeme.Lexeme.{Lexeme}
-use Rattle.p414_ast.specs.declared.lexeme.Lexeme.TheVariants as lexeme
-use Rattle.p414_ast.specs.declared.lexeme.Mark.{Mark}
-use Rattle.p414_ast.specs.declared.lexeme.Mark.TheVariants as mark
+use Rattle.p414_lexemes.specs.declared.lexeme.Lexeme.{Lexeme}
+use Rattle.p414_lexemes.specs.declared.lexeme.Lexeme.TheVariants as lexeme
+use Rattle.p414_lexemes.specs.declared.mark.Mark.{Mark}
+use Rattle.p414_lexemes.specs.declared.mark.Mark.TheVariants as mark
 use Rattle.p414_ast.specs.declared.node.BinaryOperator.{BinaryOperator}
 use Rattle.p414_ast.specs.declared.headers.Header.{Header}
 use Rattle.p414_ast.specs.declared.headers.Metadata.{Metadata}

@@ -6,9 +6,9 @@ use Rattle.predictive_parser.specs.Machine.{Takes, Passes, next_of}
 use Rattle.predictive_parser.specs.Grammar.{move}
 use Rattle.predictive_parser.proofs.Chains.{Leads, then, reads, put, token, takes, passes}
 use Rattle.predictive_parser.proofs.Closings.{calm, build}
-use Rattle.p414_ast.specs.declared.lexeme.Literal.{Literal}
-use Rattle.p414_ast.specs.declared.lexeme.Lexeme.{Lexeme}
-use Rattle.p414_ast.specs.declared.lexeme.Lexeme.TheVariants as lexeme
+use Rattle.p414_lexemes.specs.declared.lexeme.Literal.{Literal}
+use Rattle.p414_lexemes.specs.declared.lexeme.Lexeme.{Lexeme}
+use Rattle.p414_lexemes.specs.declared.lexeme.Lexeme.TheVariants as lexeme
 use Rattle.p414_ast.specs.declared.parts.Index.{Index}
 use Rattle.p414_ast.specs.declared.parts.Index.TheVariants as index
 use Rattle.p414_ast.specs.declared.parts.Inst.{Inst}

@@ -1,9 +1,9 @@
 -- Header types, header instances and metadata: what is written so is read.
 use Rattle.std.proofs.Common.{◌≡◌, ℕ, Bool, true, false, not, cond, List, [], ◌∷◌, ◌++◌, codes, map, Option, Some, None, refl, ap, append_assoc}
 use Rattle.std.specs.List.{flat_map, list_all}
-use Rattle.p414_ast.specs.declared.lexeme.Literal.{Literal}
-use Rattle.p414_ast.specs.declared.lexeme.Lexeme.{Lexeme}
-use Rattle.p414_ast.specs.declared.lexeme.Lexeme.TheVariants as lexeme
+use Rattle.p414_lexemes.specs.declared.lexeme.Literal.{Literal}
+use Rattle.p414_lexemes.specs.declared.lexeme.Lexeme.{Lexeme}
+use Rattle.p414_lexemes.specs.declared.lexeme.Lexeme.TheVariants as lexeme
 use Rattle.p414_ast.specs.declared.headers.FieldWidth.{FieldWidth}
 use Rattle.p414_ast.specs.declared.headers.FieldWidth.TheVariants as width
 use Rattle.p414_ast.specs.declared.headers.Field.{Field}
@@ -14,7 +14,7 @@ use Rattle.p414_ast.specs.Written.{written_option, after_commas, written_name, w
 use Rattle.p414_ast.specs.Tree.{Expr}
 use Rattle.p414_ast.specs.Views.{TailTree, length_is, max_length_is}
 use Rattle.p414_ast.specs.Conditions.{all_different, is_expr, is_tail}
-use Rattle.p414_reader.specs.declared.keyword.Keyword.TheVariants as key
+use Rattle.p414_lexemes.specs.declared.keyword.Keyword.TheVariants as key
 use Rattle.p414_reader.specs.declared.symbols.Class.TheVariants as class
 use Rattle.p414_reader.specs.declared.symbols.Word.TheVariants as word
 use Rattle.p414_reader.specs.declared.symbols.HeaderWord.TheVariants as header

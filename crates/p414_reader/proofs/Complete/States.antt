@@ -4,9 +4,9 @@ use Rattle.std.specs.List.{flat_map, list_all}
 use Rattle.std.specs.Str.{bytes_eq}
 use Rattle.predictive_parser.specs.declared.symbol.Symbol.TheVariants.{Put}
 use Rattle.predictive_parser.specs.Grammar.{Like}
-use Rattle.p414_ast.specs.declared.lexeme.Literal.{Literal}
-use Rattle.p414_ast.specs.declared.lexeme.Lexeme.{Lexeme}
-use Rattle.p414_ast.specs.declared.lexeme.Lexeme.TheVariants as lexeme
+use Rattle.p414_lexemes.specs.declared.lexeme.Literal.{Literal}
+use Rattle.p414_lexemes.specs.declared.lexeme.Lexeme.{Lexeme}
+use Rattle.p414_lexemes.specs.declared.lexeme.Lexeme.TheVariants as lexeme
 use Rattle.p414_ast.specs.declared.parts.Sign.{Sign}
 use Rattle.p414_ast.specs.declared.parts.Sign.TheVariants as sign
 use Rattle.p414_ast.specs.declared.parts.Index.{Index}

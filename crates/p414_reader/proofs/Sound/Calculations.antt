@@ -2,8 +2,8 @@
 use Rattle.std.proofs.Common.{◌≡◌, ℕ, Bool, true, false, cond, List, [], ◌∷◌, ◌++◌, codes, Option, Some, None, refl, sym, ap, ◌∙◌, append_assoc}
 use Rattle.std.specs.List.{flat_map, list_all}
 use Rattle.predictive_parser.proofs.Meanings.{RowsShow, NoneShows}
-use Rattle.p414_ast.specs.declared.lexeme.Literal.{Literal}
-use Rattle.p414_ast.specs.declared.lexeme.Lexeme.TheVariants.{Number}
+use Rattle.p414_lexemes.specs.declared.lexeme.Literal.{Literal}
+use Rattle.p414_lexemes.specs.declared.lexeme.Lexeme.TheVariants.{Number}
 use Rattle.p414_ast.specs.declared.parts.Index.{Index}
 use Rattle.p414_ast.specs.declared.parts.Inst.{Inst}
 use Rattle.p414_ast.specs.declared.calculations.Item.TheVariants as item

@@ -2,9 +2,9 @@
 use Rattle.std.proofs.Common.{◌≡◌, ℕ, suc, Bool, true, false, ◌&&◌, nat_le, if◌then◌else◌, List, [], ◌∷◌, codes, Option, Some, None, refl, sym, ap, subst, ◌∙◌, append_assoc, append-nil, bytes_eq, le_trans, le_refl, leb-true, le-leb}
 use Rattle.std.specs.Option.{unwrap_or}
 use Rattle.predictive_parser.proofs.Meanings.{Shows, MeansWord, RowsShow, NoneShows}
-use Rattle.p414_ast.specs.declared.lexeme.Lexeme.{Lexeme}
-use Rattle.p414_ast.specs.declared.lexeme.Lexeme.TheVariants as lexeme
-use Rattle.p414_ast.specs.declared.lexeme.Mark.TheVariants as mark
+use Rattle.p414_lexemes.specs.declared.lexeme.Lexeme.{Lexeme}
+use Rattle.p414_lexemes.specs.declared.lexeme.Lexeme.TheVariants as lexeme
+use Rattle.p414_lexemes.specs.declared.mark.Mark.TheVariants as mark
 use Rattle.p414_ast.specs.declared.node.UnaryOperator.{UnaryOperator}
 use Rattle.p414_ast.specs.declared.node.UnaryOperator.TheVariants as unary_of
 use Rattle.p414_ast.specs.declared.node.BinaryOperator.{BinaryOperator}

@@ -8,11 +8,11 @@ use Rattle.p414_ast.specs.Words.{name, brace_open, brace_close, semicolon, colon
 use Rattle.p414_ast.specs.Views.{length_is, max_length_is}
 use Rattle.p414_ast.specs.Written.{written_expr, written_width, written_field_attributes, written_field, tail_word, written_tail, written_number, written_initial}
 use Rattle.p414_ast.specs.Conditions.{is_expr, is_tail}
-use Rattle.p414_reader.specs.declared.keyword.Keyword.TheVariants as key
+use Rattle.p414_lexemes.specs.declared.keyword.Keyword.TheVariants as key
 use Rattle.p414_reader.specs.declared.symbols.Word.TheVariants as word
 use Rattle.p414_reader.specs.declared.symbols.HeaderWord.{HeaderWord}
 use Rattle.p414_reader.specs.declared.symbols.HeaderWord.TheVariants as header
-use Rattle.p414_reader.specs.Keywords.{keyword_text}
+use Rattle.p414_lexemes.specs.Keywords.{keyword_text}
 use Rattle.p414_reader.specs.Built.{Built, newest, older}
 use Rattle.p414_reader.specs.Rows.{grammar14}
 use Rattle.p414_reader.proofs.Meaning.{meaning14}

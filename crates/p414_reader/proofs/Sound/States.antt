@@ -2,7 +2,7 @@
 use Rattle.std.proofs.Common.{◌≡◌, ℕ, Bool, true, false, cond, List, [], ◌∷◌, ◌++◌, codes, Option, Some, None, refl, sym, ap, ap₂, ◌∙◌, append_assoc}
 use Rattle.std.specs.List.{flat_map, list_all}
 use Rattle.predictive_parser.proofs.Meanings.{RowsShow, NoneShows}
-use Rattle.p414_ast.specs.declared.lexeme.Lexeme.TheVariants.{Number}
+use Rattle.p414_lexemes.specs.declared.lexeme.Lexeme.TheVariants.{Number}
 use Rattle.p414_ast.specs.declared.parts.Index.{Index}
 use Rattle.p414_ast.specs.declared.parts.Ref.{Ref}
 use Rattle.p414_ast.specs.declared.parsers.PValue.{PValue}

@@ -3,8 +3,8 @@ use Rattle.std.proofs.Common.{◌≡◌, ℕ, true, false, List, [], ◌∷◌, 
 use Rattle.std.specs.List.{flat_map, list_all}
 use Rattle.std.proofs.lemmas.Bool.{or_right}
 use Rattle.predictive_parser.proofs.Meanings.{RowsShow, NoneShows}
-use Rattle.p414_ast.specs.declared.lexeme.Lexeme.{Lexeme}
-use Rattle.p414_ast.specs.declared.lexeme.Literal.{Literal}
+use Rattle.p414_lexemes.specs.declared.lexeme.Lexeme.{Lexeme}
+use Rattle.p414_lexemes.specs.declared.lexeme.Literal.{Literal}
 use Rattle.p414_ast.specs.declared.parts.Index.{Index}
 use Rattle.p414_ast.specs.declared.tables.TableAttr.TheVariants as attr
 use Rattle.p414_ast.specs.Written.{written_option, written_index, written_mask, written_read, table_word}

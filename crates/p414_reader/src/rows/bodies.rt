@@ -4,10 +4,10 @@ ghost use Rattle.predictive_parser.specs.Told.{told};
 ghost use Rattle.p414_reader.specs.Rows.{body_rows, body_otherwise};
 ghost use Rattle.p414_reader.specs.Coded.{body_coded};
 
-use crate::keyword::Keyword;
 use crate::rows::{BRACE_CLOSE, BRACE_OPEN, PAREN_CLOSE, PAREN_OPEN, Rows, SEMICOLON, Told};
 use crate::symbols::{Action, BodyAction, BodyWord, Class, PartAction, PartWord, Word};
 use p414_ast::Mark;
+use p414_lexemes::Keyword;
 use predictive_parser::{Otherwise, Row, Symbol, WordRows};
 
 const CODED: Rows = &[Row::Coded];

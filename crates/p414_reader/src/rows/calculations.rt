@@ -3,7 +3,6 @@ ghost use Rattle.std.specs.Prelude.{◌≡◌, []};
 ghost use Rattle.predictive_parser.specs.Told.{told};
 ghost use Rattle.p414_reader.specs.Rows.{calculation_rows, calculation_otherwise};
 
-use crate::keyword::Keyword;
 use crate::rows::{
     A_NAME, A_NUMBER, BRACKET_CLOSE, DOT, EQUAL, PAREN_CLOSE, PAREN_OPEN, Rows, SEMICOLON, Told,
 };
@@ -11,6 +10,7 @@ use crate::symbols::{
     Action, CalculationAction, CalculationWord, Class, PartAction, PartWord, Word,
 };
 use p414_ast::{CalcUse, Mark};
+use p414_lexemes::Keyword;
 use predictive_parser::{Otherwise, Row, Symbol, WordRows};
 
 const ITEMS: Rows = &[

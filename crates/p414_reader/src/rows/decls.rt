@@ -1,5 +1,4 @@
 // The rows of the words for declarations.
-use crate::keyword::Keyword;
 use crate::rows::{
     A_NAME, A_NUMBER, BRACE_CLOSE, BRACE_OPEN, COLON, PAREN_CLOSE, PAREN_OPEN, Rows, SEMICOLON, Sym,
 };
@@ -9,6 +8,7 @@ use crate::symbols::{
     StateAction, StateWord, TableAction, TableWord, Word,
 };
 use p414_ast::{LeftOutKind, Mark};
+use p414_lexemes::Keyword;
 use predictive_parser::{Row, Symbol};
 
 /// Further declarations.

@@ -3,7 +3,6 @@ ghost use Rattle.std.specs.Prelude.{◌≡◌, []};
 ghost use Rattle.predictive_parser.specs.Told.{told};
 ghost use Rattle.p414_reader.specs.Rows.{header_rows, header_otherwise};
 
-use crate::keyword::Keyword;
 use crate::rows::{
     A_NAME, A_NUMBER, BRACE_CLOSE, BRACKET_CLOSE, COLON, PAREN_CLOSE, Rows, SEMICOLON, Told,
 };
@@ -11,6 +10,7 @@ use crate::symbols::{
     Action, BodyAction, BodyWord, Class, HeaderAction, HeaderWord, PartAction, PartWord, Word,
 };
 use p414_ast::Mark;
+use p414_lexemes::Keyword;
 use predictive_parser::{Otherwise, Row, Symbol, WordRows};
 
 const FIELDS: Rows = &[

@@ -3,10 +3,10 @@ ghost use Rattle.std.specs.Prelude.{◌≡◌, []};
 ghost use Rattle.predictive_parser.specs.Told.{told};
 ghost use Rattle.p414_reader.specs.Rows.{object_rows, object_otherwise};
 
-use crate::keyword::Keyword;
 use crate::rows::{A_NAME, A_NUMBER, COLON, Rows, SEMICOLON, Told};
 use crate::symbols::{Action, Class, ObjectAction, ObjectWord, PartWord, Word};
 use p414_ast::CounterType;
+use p414_lexemes::Keyword;
 use predictive_parser::{Otherwise, Row, Symbol, WordRows};
 
 const ATTR: Rows = &[

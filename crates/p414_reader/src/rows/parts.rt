@@ -3,10 +3,10 @@ ghost use Rattle.std.specs.Prelude.{◌≡◌, []};
 ghost use Rattle.predictive_parser.specs.Told.{told};
 ghost use Rattle.p414_reader.specs.Rows.{part_rows, part_otherwise};
 
-use crate::keyword::Keyword;
 use crate::rows::{A_NAME, A_NUMBER, BRACKET_CLOSE, DOT, PAREN_CLOSE, Rows, SEMICOLON, Told};
 use crate::symbols::{Action, Class, PartAction, PartWord, Word};
 use p414_ast::{Mark, Sign};
+use p414_lexemes::Keyword;
 use predictive_parser::{Otherwise, Row, Symbol, WordRows};
 
 const MORE_NAMES: Rows = &[row!(mark!(Comma) => A_NAME, put_part!(AddName), part!(MoreNames))];

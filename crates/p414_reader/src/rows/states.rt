@@ -3,13 +3,13 @@ ghost use Rattle.std.specs.Prelude.{◌≡◌, []};
 ghost use Rattle.predictive_parser.specs.Told.{told};
 ghost use Rattle.p414_reader.specs.Rows.{state_rows, state_otherwise};
 
-use crate::keyword::Keyword;
 use crate::rows::{
     A_NAME, A_NUMBER, BRACE_CLOSE, BRACE_OPEN, BRACKET_CLOSE, COLON, COMMA, DOT, PAREN_CLOSE,
     PAREN_OPEN, Rows, SEMICOLON, Told,
 };
 use crate::symbols::{Action, Class, PartAction, PartWord, StateAction, StateWord, Word};
 use p414_ast::Mark;
+use p414_lexemes::Keyword;
 use predictive_parser::{Otherwise, Row, Symbol, WordRows};
 
 const STATEMENTS: Rows = &[

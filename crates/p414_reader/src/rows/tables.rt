@@ -3,9 +3,9 @@ ghost use Rattle.std.specs.Prelude.{◌≡◌, []};
 ghost use Rattle.predictive_parser.specs.Told.{told};
 ghost use Rattle.p414_reader.specs.Rows.{table_rows, table_otherwise};
 
-use crate::keyword::Keyword;
 use crate::rows::{A_NAME, A_NUMBER, BRACE_CLOSE, BRACE_OPEN, COLON, Rows, SEMICOLON, Told};
 use crate::symbols::{Action, Class, PartAction, PartWord, TableAction, TableWord, Word};
+use p414_lexemes::Keyword;
 use predictive_parser::{Otherwise, Row, Symbol, WordRows};
 
 const ATTR: Rows = &[

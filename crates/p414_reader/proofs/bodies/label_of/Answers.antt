@@ -18,7 +18,7 @@ pub returns-else-eq-3 : goal.returns-else-eq-3
 returns-else-eq-3 c =
     sym (
     other_label c.args.name
-    (ap₂ bytes_eq (sym c.as_slice.ensures) (sym c.as_slice-2.ensures) ∙ sym c.eq.ensures ∙ c.if-eq.false)
-    (ap₂ bytes_eq (sym c.as_slice-else-eq.ensures) (sym c.as_slice-else-eq-2.ensures) ∙ sym c.eq-else-eq.ensures ∙ c.if-eq-2.false)
-    (ap₂ bytes_eq (sym c.as_slice-else-eq-2-2.ensures) (sym c.as_slice-else-eq-2-3.ensures) ∙ sym c.eq-else-eq-2.ensures ∙ c.if-eq-3.false)
+    (ap₂ bytes_eq (sym c.as_slice.ensures) (sym c.text.ensures) ∙ sym c.eq.ensures ∙ c.if-eq.false)
+    (ap₂ bytes_eq (sym c.as_slice-else-eq.ensures) (sym c.text-else-eq.ensures) ∙ sym c.eq-else-eq.ensures ∙ c.if-eq-2.false)
+    (ap₂ bytes_eq (sym c.as_slice-else-eq-2.ensures) (sym c.text-else-eq-2.ensures) ∙ sym c.eq-else-eq-2.ensures ∙ c.if-eq-3.false)
     )

@@ -1,11 +1,11 @@
 // The words that the grammar quotes.
 ghost use Rattle.std.specs.Prelude.{◌≡◌, IfOk};
-ghost use Rattle.p414_reader.specs.Keywords.{keyword_text};
+ghost use Rattle.p414_lexemes.specs.Keywords.{keyword_text};
 
 use p4x_bits::{OutOfMemory, Text};
 use std::alloc::Global;
 
-/// A word that the grammar quotes. None is reserved everywhere.
+/// A word that the grammar quotes (P4_14 1.0.5, "P4 BNF Grammar"). None is reserved everywhere.
 #[derive(Clone, Copy, Drop)]
 pub enum Keyword {
     /// `header_type`.
@@ -80,6 +80,12 @@ pub enum Keyword {
     True,
     /// `false`.
     False,
+    /// `and`.
+    And,
+    /// `or`.
+    Or,
+    /// `not`.
+    Not,
     /// `default_action`.
     DefaultAction,
     /// `action_profile`.
@@ -141,14 +147,7 @@ pub enum Keyword {
 }
 
 impl Keyword {
-    /// A copy of the text of the word.
-    pub fn to_text(self, alloc: Global) -> Result<Text, OutOfMemory>
-        ensures { IfOk result (λ text. text ≡ keyword_text self) }
-    {
-        Text::from_slice(alloc, self.text())
-    }
-
-    /// The text of the word.
+    /// The text of the word, in ASCII.
     pub fn text(self) -> &'static [u8]
         ensures { result.now ≡ keyword_text self }
     {
@@ -189,6 +188,9 @@ impl Keyword {
             Keyword::SupportTimeout => b"support_timeout",
             Keyword::True => b"true",
             Keyword::False => b"false",
+            Keyword::And => b"and",
+            Keyword::Or => b"or",
+            Keyword::Not => b"not",
             Keyword::DefaultAction => b"default_action",
             Keyword::ActionProfile => b"action_profile",
             Keyword::Counter => b"counter",
@@ -219,5 +221,12 @@ impl Keyword {
             Keyword::ParserException => b"parser_exception",
             Keyword::ActionSelector => b"action_selector",
         }
+    }
+
+    /// A copy of the text of the word, or want of memory.
+    pub fn to_text(self, alloc: Global) -> Result<Text, OutOfMemory>
+        ensures { IfOk result (λ text. text ≡ keyword_text self) }
+    {
+        Text::from_slice(alloc, self.text())
     }
 }

@@ -1,8 +1,9 @@
--- The words that the grammar quotes, with their texts (P4_14 1.0.5, section 1.6).
+-- The words that the grammar quotes, with their texts (P4_14 1.0.5, "P4 BNF Grammar").
 use Rattle.std.specs.Prelude.{ℕ, List, codes}
-use Rattle.p414_reader.specs.declared.keyword.Keyword.{Keyword}
-use Rattle.p414_reader.specs.declared.keyword.Keyword.TheVariants as word
+use Rattle.p414_lexemes.specs.declared.keyword.Keyword.{Keyword}
+use Rattle.p414_lexemes.specs.declared.keyword.Keyword.TheVariants as word
 
+-- the octets that a word is written with
 abbrev pub keyword_text : Keyword → List ℕ
 keyword_text word.HeaderType = codes "header_type"
 keyword_text word.Fields = codes "fields"
@@ -40,6 +41,9 @@ keyword_text word.Size = codes "size"
 keyword_text word.SupportTimeout = codes "support_timeout"
 keyword_text word.True = codes "true"
 keyword_text word.False = codes "false"
+keyword_text word.And = codes "and"
+keyword_text word.Or = codes "or"
+keyword_text word.Not = codes "not"
 keyword_text word.DefaultAction = codes "default_action"
 keyword_text word.ActionProfile = codes "action_profile"
 keyword_text word.Counter = codes "counter"
