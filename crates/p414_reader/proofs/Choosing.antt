@@ -1,10 +1,10 @@
 -- The row that is chosen of an expression's word is the first that fits.
-use Rattle.std.proofs.Common.{◌≡◌, ℕ, zero, suc, ◌+◌, get_or, true, false, List, [], ◌∷◌, map, Option, Some, None, Result, IfOk, refl, sym, ap, ◌∙◌, subst}
+use Rattle.std.proofs.Common.{◌≡◌, ℕ, zero, suc, ◌+◌, get_or, true, false, List, [], ◌∷◌, map, Option, Some, None, Result, IfOk, sym, ap, ◌∙◌, subst}
 use Rattle.std.specs.Prelude.{slice_get}
 use Rattle.std.proofs.Math.Numerals.{add-one}
 use Rattle.std.proofs.lemmas.Result.{IfOk-weaker}
 use Rattle.predictive_parser.specs.Grammar.{first_fit, with_more, plain_lines, ◌⇒◌}
-use Rattle.predictive_parser.specs.Steps.{Chooses}
+use Rattle.predictive_parser.specs.Choices.{Chooses}
 use Rattle.predictive_parser.specs.declared.symbol.Symbol.TheVariants.{Token, Put}
 use Rattle.p414_lexemes.specs.declared.lexeme.Lexeme.{Lexeme}
 use Rattle.p414_lexemes.specs.declared.mark.Mark.TheVariants.{ParenOpen}
@@ -37,8 +37,8 @@ infix_row_is least power operator e =
 -- the row of an operator behind an operand
 pub chosen_operator : {E : Type 0} (least most power : ℕ) (operator : BinaryOperator) (more : List Sym)
     (tokens : List Lexeme) (place : ℕ) (built : Built) (r : Result (Option Class) E) (old new : List Sym)
-    → IfOk r (λ chosen. (b : Built) (token : Lexeme) → built ≡ b → slice_get tokens place ≡ Some token
-    → Chooses chosen (first_fit grammar14 token b (map (with_more more) (plain_lines ((class.Infix least most ⇒ infix_row least power operator) ∷ [])))) old new)
+    → IfOk r (λ chosen. (token : Lexeme) → slice_get tokens place ≡ Some token
+    → Chooses chosen (first_fit grammar14 token built (map (with_more more) (plain_lines ((class.Infix least most ⇒ infix_row least power operator) ∷ [])))) old new)
     → power ≡ binary_power operator
     → ((token : Lexeme) → slice_get tokens place ≡ Some token → infix_of token ≡ Some operator)
     → IfOk r (λ chosen. ChoosesLine tokens place built (body_coded (Operators least most)) more chosen old new)
@@ -46,7 +46,7 @@ chosen_operator least most power operator more tokens place built r old new h p 
     IfOk-weaker r _ _
     (λ chosen f token s.
     subst (λ rest. Chooses chosen (first_fit grammar14 token built (map (with_more more) (plain_lines ((class.Infix least most ⇒ rest) ∷ [])))) old new)
-    (infix_row_is least power operator p ∙ ap (infix_rest least) (sym (is token s))) (f built token refl s)) h
+    (infix_row_is least power operator p ∙ ap (infix_rest least) (sym (is token s))) (f token s)) h
 
 -- the rows of an expression, where these symbols stand behind an operator before an operand
 abbrev pub operand_rows : ℕ → List Sym → Rows
@@ -62,8 +62,8 @@ operand_rows least prefix =
 
 pub chosen_operand : {E : Type 0} (least : ℕ) (prefix more : List Sym)
     (tokens : List Lexeme) (place : ℕ) (built : Built) (r : Result (Option Class) E) (old new : List Sym)
-    → IfOk r (λ chosen. (b : Built) (token : Lexeme) → built ≡ b → slice_get tokens place ≡ Some token
-    → Chooses chosen (first_fit grammar14 token b (map (with_more more) (plain_lines (operand_rows least prefix)))) old new)
+    → IfOk r (λ chosen. (token : Lexeme) → slice_get tokens place ≡ Some token
+    → Chooses chosen (first_fit grammar14 token built (map (with_more more) (plain_lines (operand_rows least prefix)))) old new)
     → (token : Lexeme) → slice_get tokens place ≡ Some token → prefix ≡ prefix_rest least (prefix_of token)
     → IfOk r (λ chosen. ChoosesLine tokens place built (body_coded (Expr least)) more chosen old new)
 chosen_operand least prefix more tokens place built r old new h token s e =
@@ -71,4 +71,4 @@ chosen_operand least prefix more tokens place built r old new h token s e =
     (λ chosen f next t.
     subst (λ x. Chooses chosen x old new)
     (ap (λ p. first_fit grammar14 next built (map (with_more more) (plain_lines (operand_rows least p)))) (e ∙ ap (λ a. prefix_rest least (prefix_of a)) (same_token token next (slice_get tokens place) s t)))
-    (f built next refl t)) h
+    (f next t)) h

@@ -11,7 +11,7 @@ use Rattle.p414_ast.specs.declared.node.StmtNode.{StmtNode}
 use Rattle.p414_ast.specs.declared.node.StmtNode.TheVariants.{NoStatements, Then, Apply, ApplyBranches, If, Call, NoElse, ElseBlock, ElseIf, NoBranches, Branch}
 use Rattle.p414_ast.specs.Tree.{Expr, Stmt, no_statements, if_then, Trees, expr_at, stmt_at, expr_of, stmt_of, ExprInOrder, StmtInOrder, Keeps, AddsExpr, AddsStmt}
 use Rattle.p414_ast.specs.Views.{TailTree, length_is, max_length_is, tail_tree, TailWithin, TailsWithin}
-use Rattle.p414_reader.specs.Built.{newest, older, extended}
+use Rattle.predictive_parser.specs.Values.{newest, older, extended}
 use Rattle.p414_reader.specs.Actions.{no_expr}
 use Rattle.p414_reader.specs.Forest.{Forest, forest_of, AllBelow, AllTailsWithin, StandIn, TakesExpr, TakesStmt}
 

@@ -1,9 +1,9 @@
 -- The rows read exactly what the grammar spells.
-use Rattle.std.proofs.Common.{◌≡◌, ℕ, List, [], ◌∷◌, Ok, Err, refl, sym, ap, subst}
+use Rattle.std.proofs.Common.{◌≡◌, ℕ, List, [], ◌∷◌, Ok, Err, refl, sym, subst}
 use Rattle.predictive_parser.specs.Grammar.{parse}
 use Rattle.predictive_parser.specs.Answers.{IsRefusedAt}
 use Rattle.predictive_parser.proofs.Chains.{reads_all}
-use Rattle.predictive_parser.proofs.Languages.{IsLanguage, spells_one, refused_at}
+use Rattle.predictive_parser.proofs.Languages.{IsLanguage, refused_at}
 use Rattle.p414_lexemes.specs.declared.lexeme.Lexeme.{Lexeme}
 use Rattle.p414_ast.specs.declared.syntax.Syntax14.{Syntax14}
 use Rattle.p414_ast.specs.Written.{written}
@@ -31,11 +31,6 @@ language14 = record {
   complete = complete14;
 }
 
--- tokens spell one program at most
-pub one_syntax : (s t : Syntax14) (tokens : List Lexeme) → Spells s tokens → Spells t tokens → s ≡ t
-one_syntax s t tokens h k =
-    ap (λ (b : Built). record { decls = b.decls }) (spells_one grammar14 word.Decls nothing Spells whole language14 s t tokens h k)
-
 -- where a token is refused, it is the first that can't stand there
-pub refused14 : (tokens : List Lexeme) (at : ℕ) → parse grammar14 word.Decls nothing tokens ≡ Err at → IsRefusedAt Spells tokens at
-refused14 tokens at e = refused_at grammar14 word.Decls nothing Spells whole language14 closing14 closed14 tokens at refl e
+pub refused_place : (tokens : List Lexeme) (at : ℕ) → parse grammar14 word.Decls nothing tokens ≡ Err at → IsRefusedAt Spells tokens at
+refused_place tokens at e = refused_at grammar14 word.Decls nothing Spells whole language14 closing14 closed14 tokens at refl e

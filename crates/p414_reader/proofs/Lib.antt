@@ -12,7 +12,5 @@ mod Words
 mod Choosing
 pub mod Kept
 pub mod LabelSets
-mod Answering
-pub mod Refused
 pub mod Clauses
 pub mod Spelt

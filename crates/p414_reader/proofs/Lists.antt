@@ -7,7 +7,7 @@ use Rattle.p414_ast.specs.declared.parts.Index.{Index}
 use Rattle.p414_ast.specs.Words.{name}
 use Rattle.p414_ast.specs.Written.{written_option, written_index}
 use Rattle.p414_ast.specs.Conditions.{is_among, all_different, is_bare}
-use Rattle.p414_reader.specs.Built.{newest, older, extended}
+use Rattle.predictive_parser.specs.Values.{newest, older, extended}
 use Rattle.p414_reader.proofs.Meaning.{extended_by, with_arguments, with_tokens, StayDifferent}
 
 -- What is shown where a word's tokens are those that its value is written with, is shown of all tokens that are equal to

@@ -56,7 +56,8 @@ use Rattle.p414_reader.specs.declared.symbols.ObjectWord.{ObjectWord}
 use Rattle.p414_reader.specs.declared.symbols.ObjectWord.TheVariants as object
 use Rattle.p414_reader.specs.declared.symbols.BodyWord.{BodyWord}
 use Rattle.p414_reader.specs.declared.symbols.BodyWord.TheVariants as body
-use Rattle.p414_reader.specs.Built.{Parts, Built, newest, older, extended, no_bodies}
+use Rattle.predictive_parser.specs.Values.{newest, older, extended}
+use Rattle.p414_reader.specs.Built.{Parts, Built, no_bodies}
 use Rattle.p414_reader.specs.Classes.{with_token}
 use Rattle.p414_reader.specs.Actions.{no_expr, with_argument, without_name, with_value, with_table_attr, with_state_attr, with_stmt, on_stmts}
 

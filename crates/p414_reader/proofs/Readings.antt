@@ -18,7 +18,8 @@ use Rattle.p414_ast.specs.Conditions.{is_among, all_different}
 use Rattle.p414_reader.specs.declared.symbols.Class.{Class}
 use Rattle.p414_reader.specs.declared.symbols.Action.{Action}
 use Rattle.p414_reader.specs.declared.symbols.Word.{Word}
-use Rattle.p414_reader.specs.Built.{Built, newest, extended}
+use Rattle.predictive_parser.specs.Values.{newest, extended}
+use Rattle.p414_reader.specs.Built.{Built}
 use Rattle.p414_reader.specs.Classes.{accepts, shift}
 use Rattle.p414_reader.specs.Rows.{Sym, Rows, grammar14}
 use Rattle.p414_reader.proofs.Meaning.{Value, after_word, extended_by}

@@ -11,17 +11,18 @@ use Rattle.p414_ast.specs.declared.syntax.Syntax14.{Syntax14}
 use Rattle.p414_ast.specs.Written.{written}
 use Rattle.p414_ast.specs.Conditions.{is_syntax}
 use Rattle.p414_ast.specs.Spelt.{is_spelt14}
-use Rattle.p414_reader.specs.declared.error.Read14.{Read14}
-use Rattle.p414_reader.specs.Reading.{IsRead, Reads14}
-use Rattle.p414_reader.proofs.Clauses.{found}
+use Rattle.text_reading.specs.declared.error.ReadError.{ReadError}
+use Rattle.p414_reader.specs.Reading.{Reads14}
+use Rattle.p414_reader.specs.internal.Machine.{IsRead14}
+use Rattle.p414_reader.proofs.Clauses.{found14}
 
 pub spelt : (text : List ℕ) (s : Syntax14) → Reads14 text s → is_spelt14 s ≡ true
 spelt text s h =
     and_from (is_syntax s) (list_all is_spelt_lexeme (written s)) h.spelled.keeps
     (ap (list_all is_spelt_lexeme) (sym h.spelled.tokens_are) ∙ division_spelt text h.tokens h.divided)
 
-pub spelt_answer : (text : List ℕ) (r : Result Syntax14 Read14) → IsRead text r → IfOk r (λ s. is_spelt14 s ≡ true)
-spelt_answer text r h = IfOk-weaker r (Reads14 text) (λ s. is_spelt14 s ≡ true) (spelt text) (found text r h)
+pub spelt_answer : (text : List ℕ) (r : Result Syntax14 ReadError) → IsRead14 text r → IfOk r (λ s. is_spelt14 s ≡ true)
+spelt_answer text r h = IfOk-weaker r (Reads14 text) (λ s. is_spelt14 s ≡ true) (spelt text) (found14 text r h)
 
 -- Each such syntax is what some text reads as: its tokens with a blank behind each.
 pub read_back : (s : Syntax14) → is_spelt14 s ≡ true → Reads14 (spaced (written s)) s

@@ -57,7 +57,8 @@ use Rattle.p414_reader.specs.declared.symbols.Action.{Action}
 use Rattle.p414_reader.specs.declared.symbols.Action.TheVariants as action
 use Rattle.p414_lexemes.specs.declared.keyword.Keyword.TheVariants as key
 use Rattle.p414_lexemes.specs.Keywords.{keyword_text}
-use Rattle.p414_reader.specs.Built.{Parts, Bodies, Built, newest, older, extended, no_bodies}
+use Rattle.predictive_parser.specs.Values.{newest, older, extended}
+use Rattle.p414_reader.specs.Built.{Parts, Bodies, Built, no_bodies}
 
 -- what stands in an empty place
 

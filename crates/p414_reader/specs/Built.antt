@@ -1,6 +1,6 @@
 -- What is built while a text is read: the parts that aren't part of a declaration yet, by their sorts and the newest first,
 -- and the declarations.
-use Rattle.std.specs.Prelude.{ℕ, Bool, List, [], ◌∷◌, ◌++◌, Option}
+use Rattle.std.specs.Prelude.{ℕ, Bool, List, [], Option}
 use Rattle.p414_lexemes.specs.declared.lexeme.Literal.{Literal}
 use Rattle.p414_lexemes.specs.declared.lexeme.Lexeme.{Lexeme}
 use Rattle.p414_ast.specs.declared.parts.Number.{Number}
@@ -29,20 +29,6 @@ use Rattle.p414_ast.specs.declared.objects.StateAttr.{StateAttr}
 use Rattle.p414_ast.specs.declared.syntax.Decl.{Decl}
 use Rattle.p414_ast.specs.Tree.{Expr, Stmt}
 use Rattle.p414_ast.specs.Views.{TailTree}
-
--- the newest of a stack, and the others
-abbrev pub newest : {A : Type 0} → A → List A → A
-newest other [] = other
-newest other (x ∷ xs) = x
-
-abbrev pub older : {A : Type 0} → List A → List A
-older [] = []
-older (x ∷ xs) = xs
-
--- a stack of lists, where more is put behind the newest list
-abbrev pub extended : {A : Type 0} → List A → List (List A) → List (List A)
-extended more [] = more ∷ []
-extended more (list ∷ lists) = (list ++ more) ∷ lists
 
 -- names, numbers, instances and fields
 pub record Parts : Type 0 where

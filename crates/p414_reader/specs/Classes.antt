@@ -17,7 +17,8 @@ use Rattle.p414_reader.specs.declared.symbols.Class.{Class}
 use Rattle.p414_reader.specs.declared.symbols.Class.TheVariants as class
 use Rattle.p414_lexemes.specs.declared.keyword.Keyword.TheVariants as key
 use Rattle.p414_lexemes.specs.Keywords.{keyword_text}
-use Rattle.p414_reader.specs.Built.{Built, newest, extended}
+use Rattle.predictive_parser.specs.Values.{newest, extended}
+use Rattle.p414_reader.specs.Built.{Built}
 
 abbrev pub mark_number : Mark → ℕ
 mark_number mark.BraceOpen = 0

@@ -3,7 +3,7 @@ use Rattle.std.specs.Prelude.{◌≡◌, ℕ, ◌<◌, Bool, List, [], ◌∷◌
 use Rattle.p414_ast.specs.declared.headers.TypeTail.{TypeTail}
 use Rattle.p414_ast.specs.Tree.{Expr, truth, Stmt, no_statements, Trees, expr_at, stmt_at, Keeps}
 use Rattle.p414_ast.specs.Views.{TailTree, tail_tree, TailsWithin}
-use Rattle.p414_reader.specs.Built.{newest, older}
+use Rattle.predictive_parser.specs.Values.{newest, older}
 
 -- the newest first
 pub record Forest : Type 0 where

@@ -7,4 +7,5 @@ pub mod Forest
 pub mod Labels
 pub mod Lexemes
 pub mod Coded
+pub mod internal
 pub mod Reading

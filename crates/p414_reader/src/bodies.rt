@@ -7,7 +7,8 @@ ghost use Rattle.p414_ast.specs.Conditions.{is_among};
 ghost use Rattle.p414_reader.specs.declared.symbols.BodyAction.TheVariants as BodyAction;
 ghost use Rattle.p414_lexemes.specs.Keywords.{keyword_text};
 ghost use Rattle.p414_reader.specs.Built as built;
-ghost use Rattle.p414_reader.specs.Built.{newest, older, extended, no_bodies};
+ghost use Rattle.predictive_parser.specs.Values.{newest, older, extended};
+ghost use Rattle.p414_reader.specs.Built.{no_bodies};
 ghost use Rattle.p414_reader.specs.Classes.{may_follow};
 ghost use Rattle.p414_reader.specs.Actions.{put_body, label_of, last_stmt, with_stmt};
 ghost use Rattle.p414_reader.specs.Updates.{with_bodies};
@@ -15,13 +16,13 @@ ghost use Rattle.p414_reader.specs.Updates.{with_bodies};
 use crate::forest::Forest;
 use crate::labels::Labels;
 use crate::parts::Parts;
-use crate::stack::ValueStack;
 use crate::symbols::BodyAction;
 use p4x_bits::{OutOfMemory, Rows, Text};
 use p414_ast::{
     BinaryOperator, Control, ExprNode, Field, HeaderType, Label, StmtNode, TypeTail, UnaryOperator,
 };
 use p414_lexemes::Keyword;
+use predictive_parser::ValueStack;
 use std::alloc::Global;
 use std::marker::Model;
 use std::mem;

@@ -14,15 +14,16 @@ use crate::headers::Headers;
 use crate::objects::put_object;
 use crate::operators::{is_infix, is_prefix};
 use crate::parts::Parts;
-use crate::stack::ValueStack;
 use crate::states::States;
 use crate::symbols::{Action, Class};
 use crate::tables::Tables;
 use crate::token::TokenView;
 use p4x_bits::{OutOfMemory, Rows};
 use p414_ast::{Decl, Lexeme, Mark, StateAttr};
+use predictive_parser::ValueStack;
 use std::alloc::Global;
 use std::marker::Model;
+use std::mem;
 
 /// Stacks of the parts that aren't part of a declaration yet, and the declarations.
 #[derive(Drop)]
@@ -81,11 +82,11 @@ impl Built {
         }
     }
 
-    /// The declarations.
-    pub fn into_decls(self) -> Rows<Decl>
-        ensures { result ≡ self.decls }
+    /// Takes the declarations out.
+    pub fn take_decls(&mut self, alloc: Global) -> Rows<Decl>
+        ensures { result ≡ self.old.decls }
     {
-        self.decls
+        mem::replace(&mut self.decls, Rows::new(alloc))
     }
 
     /// Whether the token is of the class.

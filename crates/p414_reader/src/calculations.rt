@@ -5,16 +5,17 @@ ghost use Rattle.p414_lexemes.specs.declared.keyword.Keyword.TheVariants as key;
 ghost use Rattle.p414_lexemes.specs.Keywords.{keyword_text};
 ghost use Rattle.p414_reader.specs.declared.symbols.CalculationAction.TheVariants as CalculationAction;
 ghost use Rattle.p414_reader.specs.Built as built;
-ghost use Rattle.p414_reader.specs.Built.{newest, older, no_calculations};
+ghost use Rattle.predictive_parser.specs.Values.{newest, older};
+ghost use Rattle.p414_reader.specs.Built.{no_calculations};
 ghost use Rattle.p414_reader.specs.Actions.{put_calculation, item_of};
 ghost use Rattle.p414_reader.specs.Updates.{with_calculations};
 
 use crate::parts::Parts;
-use crate::stack::ValueStack;
 use crate::symbols::CalculationAction;
 use p4x_bits::{OutOfMemory, Rows, Text};
 use p414_ast::{Calc, CalcCond, CalcUse, Inst, Item, Ref};
 use p414_lexemes::Keyword;
+use predictive_parser::ValueStack;
 use std::alloc::Global;
 use std::marker::Model;
 

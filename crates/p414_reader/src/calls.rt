@@ -2,15 +2,16 @@
 ghost use Rattle.std.specs.Prelude.{◌≡◌, [], OnOk};
 ghost use Rattle.p414_reader.specs.declared.symbols.CallAction.TheVariants as CallAction;
 ghost use Rattle.p414_reader.specs.Built as built;
-ghost use Rattle.p414_reader.specs.Built.{newest, older, no_calls};
+ghost use Rattle.predictive_parser.specs.Values.{newest, older};
+ghost use Rattle.p414_reader.specs.Built.{no_calls};
 ghost use Rattle.p414_reader.specs.Actions.{put_call, arg_of};
 ghost use Rattle.p414_reader.specs.Updates.{with_calls};
 
 use crate::parts::Parts;
-use crate::stack::ValueStack;
 use crate::symbols::CallAction;
 use p4x_bits::{OutOfMemory, Rows, Text};
 use p414_ast::{Arg, Call, Inst, Ref};
+use predictive_parser::ValueStack;
 use std::alloc::Global;
 use std::marker::Model;
 

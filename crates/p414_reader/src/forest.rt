@@ -6,17 +6,17 @@ ghost use Rattle.p414_ast.specs.Views.{length_is, max_length_is, tail_tree};
 ghost use Rattle.p414_ast.specs.Written.{tail_word};
 ghost use Rattle.p414_ast.specs.Conditions.{is_among};
 ghost use Rattle.p414_lexemes.specs.Keywords.{keyword_text};
-ghost use Rattle.p414_reader.specs.Built.{newest, older, extended};
+ghost use Rattle.predictive_parser.specs.Values.{newest, older, extended};
 ghost use Rattle.p414_reader.specs.Actions.{no_expr, on_expr, on_exprs, with_else_call};
 ghost use Rattle.p414_reader.specs.Forest.{AllBelow, TakesExpr, TakesStmt};
 
-use crate::stack::ValueStack;
 use p4x_bits::{OutOfMemory, Rows, Text};
 use p414_ast::{
     BinaryOperator, Control, ExprNode, Field, HeaderType, Label, Nodes, StmtNode, TypeTail,
     UnaryOperator,
 };
 use p414_lexemes::Keyword;
+use predictive_parser::ValueStack;
 use std::alloc::Global;
 use std::marker::Model;
 

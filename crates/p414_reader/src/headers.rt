@@ -2,15 +2,16 @@
 ghost use Rattle.std.specs.Prelude.{◌≡◌, [], None, OnOk};
 ghost use Rattle.p414_reader.specs.declared.symbols.HeaderAction.TheVariants as HeaderAction;
 ghost use Rattle.p414_reader.specs.Built as built;
-ghost use Rattle.p414_reader.specs.Built.{newest, older, no_headers};
+ghost use Rattle.predictive_parser.specs.Values.{newest, older};
+ghost use Rattle.p414_reader.specs.Built.{no_headers};
 ghost use Rattle.p414_reader.specs.Actions.{put_header};
 ghost use Rattle.p414_reader.specs.Updates.{with_headers};
 
 use crate::parts::Parts;
-use crate::stack::ValueStack;
 use crate::symbols::HeaderAction;
 use p4x_bits::{OutOfMemory, Rows};
 use p414_ast::{Field, FieldWidth, Initial, Initials};
+use predictive_parser::ValueStack;
 use std::alloc::Global;
 use std::marker::Model;
 

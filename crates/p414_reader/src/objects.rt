@@ -5,10 +5,10 @@ ghost use Rattle.p414_reader.specs.Actions.{put_object};
 ghost use Rattle.p414_reader.specs.Updates.{with_objects};
 
 use crate::parts::Parts;
-use crate::stack::ValueStack;
 use crate::symbols::ObjectAction;
 use p4x_bits::{OutOfMemory, Rows};
 use p414_ast::StateAttr;
+use predictive_parser::ValueStack;
 use std::alloc::Global;
 
 /// Does the action on the lists of attributes.

@@ -1,14 +1,15 @@
 // Names, numbers, instances and fields, as they are put together.
 ghost use Rattle.std.specs.Prelude.{◌≡◌, [], ◌∷◌, None, OnOk};
-ghost use Rattle.p414_reader.specs.Built.{newest, older, no_parts};
+ghost use Rattle.predictive_parser.specs.Values.{newest, older};
+ghost use Rattle.p414_reader.specs.Built.{no_parts};
 ghost use Rattle.p414_reader.specs.Actions.{last_name, last_literal, last_instance, last_field, no_number, no_instance, put_part};
 ghost use Rattle.p414_reader.specs.declared.symbols.PartAction.TheVariants as PartAction;
 
-use crate::stack::ValueStack;
 use crate::symbols::PartAction;
 use p4x_bits::{OutOfMemory, Rows, Text};
 use p414_ast::{Index, Inst, Literal, Number, Ref};
 use p414_lexemes::Keyword;
+use predictive_parser::ValueStack;
 use std::alloc::Global;
 use std::marker::Model;
 

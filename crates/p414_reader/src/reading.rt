@@ -42,7 +42,7 @@ impl Lookahead for Reading<'_> {
 
     ghost tokens = { λ reading. lexemes reading.text.now reading.tokens.now };
 
-    ghost Holds = { λ reading built. reading.built ≡ built };
+    ghost held = { λ reading. reading.built };
 
     fn count(&self) -> usize {
         self.tokens.len()

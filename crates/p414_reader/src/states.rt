@@ -7,16 +7,17 @@ ghost use Rattle.p414_lexemes.specs.declared.keyword.Keyword.TheVariants as key;
 ghost use Rattle.p414_reader.specs.declared.symbols.StateAction.TheVariants as StateAction;
 ghost use Rattle.p414_lexemes.specs.Keywords.{keyword_text};
 ghost use Rattle.p414_reader.specs.Built as built;
-ghost use Rattle.p414_reader.specs.Built.{newest, older, no_states};
+ghost use Rattle.predictive_parser.specs.Values.{newest, older};
+ghost use Rattle.p414_reader.specs.Built.{no_states};
 ghost use Rattle.p414_reader.specs.Actions.{put_state, no_value, value_of};
 ghost use Rattle.p414_reader.specs.Updates.{with_states};
 
 use crate::parts::Parts;
-use crate::stack::ValueStack;
 use crate::symbols::StateAction;
 use p4x_bits::{OutOfMemory, Rows, Text};
 use p414_ast::{Case, CaseTarget, CaseValues, Inst, Masked, PStmt, PValue, Ref, Return};
 use p414_lexemes::Keyword;
+use predictive_parser::ValueStack;
 use std::alloc::Global;
 use std::marker::Model;
 

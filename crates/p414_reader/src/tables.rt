@@ -2,15 +2,16 @@
 ghost use Rattle.std.specs.Prelude.{◌≡◌, [], OnOk};
 ghost use Rattle.p414_reader.specs.declared.symbols.TableAction.TheVariants as TableAction;
 ghost use Rattle.p414_reader.specs.Built as built;
-ghost use Rattle.p414_reader.specs.Built.{newest, older, no_tables};
+ghost use Rattle.predictive_parser.specs.Values.{newest, older};
+ghost use Rattle.p414_reader.specs.Built.{no_tables};
 ghost use Rattle.p414_reader.specs.Actions.{put_table, key_of};
 ghost use Rattle.p414_reader.specs.Updates.{with_tables};
 
 use crate::parts::Parts;
-use crate::stack::ValueStack;
 use crate::symbols::TableAction;
 use p4x_bits::{OutOfMemory, Rows, Text};
 use p414_ast::{Inst, Read, ReadKey, Ref, TableAttr};
+use predictive_parser::ValueStack;
 use std::alloc::Global;
 use std::marker::Model;
 

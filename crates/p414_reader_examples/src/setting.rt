@@ -1,6 +1,6 @@
 // What the examples have in common: what is expected of the reading of a text.
 use p4x_fault::{Fault, Place, Rule};
-use p414_reader::{Read14, read14};
+use p414_reader::{ReadError, read14};
 use std::process::Abort;
 use std::test::Fail;
 
@@ -24,7 +24,7 @@ pub fn expect_fault(
     column: u64,
 ) {
     let place = Some(Place { line, column });
-    let fault = Read14::Refused(Fault { rule, place });
+    let fault = ReadError::Refused(Fault { rule, place });
     assert_eq!(rt; read14(rt.alloc(), text).err(), Some(fault));
 }
 

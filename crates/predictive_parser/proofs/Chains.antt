@@ -5,7 +5,7 @@ use Rattle.predictive_parser.specs.declared.symbol.Symbol.{Symbol}
 use Rattle.predictive_parser.specs.declared.symbol.Symbol.TheVariants.{Token, Put, Word}
 use Rattle.predictive_parser.specs.declared.symbol.Otherwise.TheVariants.{Refuse}
 use Rattle.predictive_parser.specs.Machine.{Move, Takes, Passes, Stops, moved, settle, ended, finish, goes_on, run, next_of}
-use Rattle.predictive_parser.specs.Steps.{Chooses}
+use Rattle.predictive_parser.specs.Choices.{Chooses}
 use Rattle.predictive_parser.specs.Grammar.{Row, Plain, Like, Grammar, Line, with_more, plain_lines, lines_of, first_fit, passed, taken, move}
 
 module _ {S T B : Type 0} (step : S → Option T → B → Move S B) where

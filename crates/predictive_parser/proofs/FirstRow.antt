@@ -6,7 +6,7 @@ use Rattle.std.proofs.Math.Numerals.{add-one}
 use Rattle.std.specs.Option.{is_some}
 use Rattle.predictive_parser.specs.Grammar as grammar
 use Rattle.predictive_parser.specs.Grammar.{Grammar, Line, first_fit, lines_of, with_more, plain_lines}
-use Rattle.predictive_parser.specs.Steps.{Chooses}
+use Rattle.predictive_parser.specs.Choices.{Chooses}
 use Rattle.predictive_parser.specs.declared.symbol.Symbol.{Symbol}
 use Rattle.predictive_parser.specs.declared.row.Row.{Row}
 use Rattle.predictive_parser.specs.declared.row.Row.TheVariants.{Plain, Like, Coded}

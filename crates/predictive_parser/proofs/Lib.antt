@@ -1,5 +1,6 @@
 mod FirstRow
 pub mod Refusals
+pub mod Refused
 pub mod Chains
 pub mod Meanings
 pub mod Closings

@@ -7,7 +7,8 @@ use Rattle.predictive_parser.specs.declared.symbol.Symbol.{Symbol}
 use Rattle.predictive_parser.specs.declared.symbol.Symbol.TheVariants.{Token, Put, Word}
 use Rattle.predictive_parser.specs.Machine.{Move, Takes, Passes, Stops, moved, settle, ended, finish, goes_on, run}
 use Rattle.predictive_parser.specs.Grammar.{Grammar, Line, lines_of, first_fit, passed, taken, move}
-use Rattle.predictive_parser.specs.Steps.{Chooses, Settles, Finishes, Passing}
+use Rattle.predictive_parser.specs.Choices.{Chooses}
+use Rattle.predictive_parser.specs.internal.Steps.{Settles, Finishes, Passing}
 use Rattle.predictive_parser.specs.Answers.{Parses}
 
 module _ {C A W T B : Type 0} (grammar : Grammar C A W T B) (holds : B → Type 0) where

@@ -1,6 +1,6 @@
 // Rows that are made where they are chosen from.
 ghost use Rattle.std.specs.Prelude.{◌≡◌, ◌<◌, length, None, Some, IfOk, slice_get};
-ghost use Rattle.predictive_parser.specs.Steps.{Chooses, first_of};
+ghost use Rattle.predictive_parser.specs.Choices.{Chooses, first_of};
 
 use crate::{Lookahead, Stack, Symbol};
 use p4x_bits::OutOfMemory;
@@ -22,9 +22,8 @@ pub fn choose_first<L: Lookahead>(
     stack: &mut Stack<L::Class, L::Action, L::Word>,
 ) -> Result<Option<L::Class>, OutOfMemory>
     requires { place < length (L.tokens lookahead.now) }
-    ensures chooses { IfOk result (λ class. (built : L.Built) (token : L.Token) → L.Holds lookahead.now built
-        → slice_get (L.tokens lookahead.now) place ≡ Some token
-        → Chooses class (first_of L.grammar token built rows.now more.now) stack.old stack.new) }
+    ensures chooses { IfOk result (λ class. (token : L.Token) → slice_get (L.tokens lookahead.now) place ≡ Some token
+        → Chooses class (first_of L.grammar token (L.held lookahead.now) rows.now more.now) stack.old stack.new) }
     ensures none { IfOk result (λ class. class ≡ None → stack.new ≡ stack.old) }
 {
     for row in rows {

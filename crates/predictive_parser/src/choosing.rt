@@ -1,7 +1,7 @@
 // Which row of a word is taken.
 ghost use Rattle.std.specs.Prelude.{◌≡◌, ◌<◌, [], ◌∷◌, map, length, None, Some, IfOk, slice_get};
 ghost use Rattle.predictive_parser.specs.Grammar.{first_fit, lines_of, plain_lines, with_more};
-ghost use Rattle.predictive_parser.specs.Steps.{Chooses};
+ghost use Rattle.predictive_parser.specs.Choices.{Chooses};
 ghost use Rattle.predictive_parser.specs.Told.{line, told};
 
 use crate::{Builder, Row, Stack, Symbol};
@@ -16,9 +16,8 @@ pub fn choose<B: Builder>(
     stack: &mut Stack<B::Class, B::Action, B::Word>,
 ) -> Result<Option<B::Class>, OutOfMemory>
     requires { place < length (B.tokens builder.now) }
-    ensures chooses { IfOk result (λ class. (built : B.Built) (token : B.Token) → B.Holds builder.now built
-        → slice_get (B.tokens builder.now) place ≡ Some token
-        → Chooses class (first_fit B.grammar token built (lines_of B.grammar (B.grammar.rows word))) stack.old stack.new) }
+    ensures chooses { IfOk result (λ class. (token : B.Token) → slice_get (B.tokens builder.now) place ≡ Some token
+        → Chooses class (first_fit B.grammar token (B.held builder.now) (lines_of B.grammar (B.grammar.rows word))) stack.old stack.new) }
     ensures none { IfOk result (λ class. class ≡ None → stack.new ≡ stack.old) }
 {
     for row in builder.rows(word).rows {
@@ -39,9 +38,8 @@ fn choose_row<B: Builder>(
     stack: &mut Stack<B::Class, B::Action, B::Word>,
 ) -> Result<Option<B::Class>, OutOfMemory>
     requires { place < length (B.tokens builder.now) }
-    ensures chooses { IfOk result (λ class. (built : B.Built) (token : B.Token) → B.Holds builder.now built
-        → slice_get (B.tokens builder.now) place ≡ Some token
-        → Chooses class (first_fit B.grammar token built (lines_of B.grammar (told (B.coded word) (row.now ∷ []))))
+    ensures chooses { IfOk result (λ class. (token : B.Token) → slice_get (B.tokens builder.now) place ≡ Some token
+        → Chooses class (first_fit B.grammar token (B.held builder.now) (lines_of B.grammar (told (B.coded word) (row.now ∷ []))))
         stack.old stack.new) }
     ensures none { IfOk result (λ class. class ≡ None → stack.new ≡ stack.old) }
 {
@@ -62,9 +60,8 @@ fn choose_like<B: Builder>(
     stack: &mut Stack<B::Class, B::Action, B::Word>,
 ) -> Result<Option<B::Class>, OutOfMemory>
     requires { place < length (B.tokens builder.now) }
-    ensures chooses { IfOk result (λ class. (built : B.Built) (token : B.Token) → B.Holds builder.now built
-        → slice_get (B.tokens builder.now) place ≡ Some token
-        → Chooses class (first_fit B.grammar token built (map (with_more more.now) (plain_lines (B.grammar.rows word))))
+    ensures chooses { IfOk result (λ class. (token : B.Token) → slice_get (B.tokens builder.now) place ≡ Some token
+        → Chooses class (first_fit B.grammar token (B.held builder.now) (map (with_more more.now) (plain_lines (B.grammar.rows word))))
         stack.old stack.new) }
     ensures none { IfOk result (λ class. class ≡ None → stack.new ≡ stack.old) }
 {
@@ -87,10 +84,9 @@ fn choose_line<B: Builder>(
     stack: &mut Stack<B::Class, B::Action, B::Word>,
 ) -> Result<Option<B::Class>, OutOfMemory>
     requires { place < length (B.tokens builder.now) }
-    ensures chooses { IfOk result (λ class. (built : B.Built) (token : B.Token) → B.Holds builder.now built
-        → slice_get (B.tokens builder.now) place ≡ Some token
+    ensures chooses { IfOk result (λ class. (token : B.Token) → slice_get (B.tokens builder.now) place ≡ Some token
         → Chooses class
-        (first_fit B.grammar token built (map (with_more more.now) (plain_lines (told (B.coded word) (row.now ∷ [])))))
+        (first_fit B.grammar token (B.held builder.now) (map (with_more more.now) (plain_lines (told (B.coded word) (row.now ∷ [])))))
         stack.old stack.new) }
     ensures none { IfOk result (λ class. class ≡ None → stack.new ≡ stack.old) }
 {
@@ -111,9 +107,8 @@ fn take<B: Builder>(
     stack: &mut Stack<B::Class, B::Action, B::Word>,
 ) -> Result<Option<B::Class>, OutOfMemory>
     requires { place < length (B.tokens builder.now) }
-    ensures chooses { IfOk result (λ class. (built : B.Built) (token : B.Token) → B.Holds builder.now built
-        → slice_get (B.tokens builder.now) place ≡ Some token
-        → Chooses class (first_fit B.grammar token built (map (with_more more.now) (line first rest.now ∷ [])))
+    ensures chooses { IfOk result (λ class. (token : B.Token) → slice_get (B.tokens builder.now) place ≡ Some token
+        → Chooses class (first_fit B.grammar token (B.held builder.now) (map (with_more more.now) (line first rest.now ∷ [])))
         stack.old stack.new) }
     ensures none { IfOk result (λ class. class ≡ None → stack.new ≡ stack.old) }
 {

@@ -9,6 +9,7 @@ mod parser;
 mod row;
 mod stack;
 mod symbol;
+mod values;
 
 pub use alternatives::{Alternative, choose_first};
 pub use builder::{Builder, Lookahead};
@@ -16,3 +17,4 @@ pub use parser::{ParseError, parse};
 pub use row::{Row, WordRows};
 pub use stack::Stack;
 pub use symbol::{Otherwise, Symbol};
+pub use values::ValueStack;

@@ -4,7 +4,7 @@ ghost use Rattle.predictive_parser.specs.declared.parser.ParseError.TheVariants.
 ghost use Rattle.predictive_parser.specs.Machine.{settle, finish};
 ghost use Rattle.predictive_parser.specs.Grammar as grammar;
 ghost use Rattle.predictive_parser.specs.Grammar.{move, passed};
-ghost use Rattle.predictive_parser.specs.Steps.{Settles, Finishes, Passing};
+ghost use Rattle.predictive_parser.specs.internal.Steps.{Settles, Finishes, Passing};
 ghost use Rattle.predictive_parser.specs.Answers.{Parses};
 
 use crate::choosing::choose;
@@ -33,13 +33,12 @@ impl From<OutOfMemory> for ParseError {
     }
 }
 
-/// Reads the tokens that the builder holds, all of them, as the word, and builds what they stand for; or
-/// says which token can't stand where it stands. It goes over the tokens once. Of the builder after an
-/// error nothing is said.
+/// Reads the tokens that the builder holds, all of them, as the word. What the builder has built grows to what the
+/// grammar builds of them, and the tokens stay. Where the grammar refuses a token, that is the error, with the number of
+/// the token. Memory may run out in any case. Of the builder after an error nothing is said.
 pub fn parse<B: Builder>(alloc: Global, builder: &mut B, word: B::Word) -> Result<(), ParseError>
-    ensures is { (built : B.Built) → B.Holds builder.old built
-        → Parses result (grammar.parse B.grammar word built (B.tokens builder.old))
-        (λ done. B.Holds builder.new) }
+    ensures is { Parses result (grammar.parse B.grammar word (B.held builder.old) (B.tokens builder.old))
+        (λ done built. B.held builder.new ≡ built) }
     ensures tokens { OnOk result (B.tokens builder.new ≡ B.tokens builder.old) }
 {
     let mut stack = Stack::new(alloc);
@@ -65,9 +64,9 @@ fn settle<B: Builder>(
     place: usize,
 ) -> Result<bool, OutOfMemory>
     requires { place < length (B.tokens builder.old) }
-    ensures settles { IfOk result (λ taken. (built : B.Built) (token : B.Token) → B.Holds builder.old built
-        → slice_get (B.tokens builder.old) place ≡ Some token
-        → Settles taken (settle (move B.grammar) stack.old built token) stack.new (B.Holds builder.new)) }
+    ensures settles { IfOk result (λ taken. (token : B.Token) → slice_get (B.tokens builder.old) place ≡ Some token
+        → Settles taken (settle (move B.grammar) stack.old (B.held builder.old) token) stack.new
+        (λ built. B.held builder.new ≡ built)) }
     ensures tokens { OnOk result (B.tokens builder.new ≡ B.tokens builder.old) }
 {
     while let Some(symbol) = stack.pop() {
@@ -99,8 +98,8 @@ fn finish<B: Builder>(
     builder: &mut B,
     stack: &mut Stack<B::Class, B::Action, B::Word>,
 ) -> Result<bool, OutOfMemory>
-    ensures finishes { IfOk result (λ done. (built : B.Built) (place : ℕ) → B.Holds builder.old built
-        → Finishes done place (finish (move B.grammar) stack.old built place) (B.Holds builder.new)) }
+    ensures finishes { IfOk result (λ done. (place : ℕ) → Finishes done place (finish (move B.grammar) stack.old (B.held builder.old) place)
+        (λ built. B.held builder.new ≡ built)) }
     ensures tokens { OnOk result (B.tokens builder.new ≡ B.tokens builder.old) }
 {
     while let Some(symbol) = stack.pop() {
@@ -119,8 +118,8 @@ fn finish<B: Builder>(
 
 /// Does what the word does where it stands for no token. Whether it can.
 fn pass<B: Builder>(builder: &mut B, word: B::Word) -> Result<bool, OutOfMemory>
-    ensures passes { IfOk result (λ done. (built : B.Built) → B.Holds builder.old built
-        → Passing done (passed B.grammar (B.grammar.otherwise word) built) (B.Holds builder.new)) }
+    ensures passes { IfOk result (λ done. Passing done (passed B.grammar (B.grammar.otherwise word) (B.held builder.old))
+        (λ built. B.held builder.new ≡ built)) }
     ensures tokens { OnOk result (B.tokens builder.new ≡ B.tokens builder.old) }
 {
     match builder.rows(word).otherwise {

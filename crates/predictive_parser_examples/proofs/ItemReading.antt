@@ -12,7 +12,7 @@ use Rattle.predictive_parser_examples.specs.declared.example.Event.TheVariants a
 use Rattle.predictive_parser.specs.declared.symbol.Symbol.{Symbol}
 use Rattle.predictive_parser.specs.declared.symbol.Symbol.TheVariants.{Token, Put, Word}
 use Rattle.predictive_parser.specs.Grammar.{◌⇒◌}
-use Rattle.predictive_parser.specs.Steps.{Chooses}
+use Rattle.predictive_parser.specs.Choices.{Chooses}
 use Rattle.predictive_parser_examples.specs.Syntax as syntax
 use Rattle.predictive_parser_examples.specs.Syntax.{Items, None_left, First, Name, Both, Group, power, Spells, SpellsMore, postorder, postorders}
 use Rattle.predictive_parser_examples.specs.Items.{items, accepts, is_operator}

@@ -6,7 +6,7 @@ ghost use Rattle.predictive_parser_examples.specs.declared.example.Lexeme.{Lexem
 ghost use Rattle.predictive_parser_examples.specs.declared.example.Event.{Event};
 ghost use Rattle.predictive_parser_examples.specs.declared.example.Phrase.TheVariants as phrase;
 ghost use Rattle.predictive_parser.specs.Grammar.{parse, first_fit, with_more, plain_lines};
-ghost use Rattle.predictive_parser.specs.Steps.{Chooses};
+ghost use Rattle.predictive_parser.specs.Choices.{Chooses};
 ghost use Rattle.predictive_parser.specs.Told.{told};
 ghost use Rattle.predictive_parser.specs.Answers.{IsRefusedAt, Parses, Gives};
 ghost use Rattle.predictive_parser_examples.specs.Syntax as syntax;
@@ -167,7 +167,7 @@ impl Lookahead for Reading<'_> {
 
     ghost tokens = { λ reading. reading.tokens.now };
 
-    ghost Holds = { λ reading built. reading.events ≡ built };
+    ghost held = { λ reading. reading.events };
 
     fn count(&self) -> usize {
         self.tokens.len()

@@ -158,3 +158,10 @@ fn place_behind(place: Place, piece: &[u8]) -> Place
     }
     Place { line, column }
 }
+
+/// The place behind a text: that of an octet that would follow it.
+pub fn place_behind_text(text: &[u8]) -> Place
+    ensures { result ≡ place_after text.now }
+{
+    place_behind(Place { line: 1, column: 1 }, text)
+}

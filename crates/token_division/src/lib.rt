@@ -7,6 +7,6 @@ mod literals;
 pub mod octets;
 mod pieces;
 
-pub use division::{Lex, Lexicon, Piece, Token, What, divide};
+pub use division::{Lex, Lexicon, Piece, Token, What, divide, place_behind_text};
 pub use literals::{Base, Literal, decimal_value, number};
 pub use pieces::{Mark, comment_size, mark_at};

@@ -19,7 +19,8 @@ use Rattle.p414_reader.specs.declared.symbols.Class.TheVariants as class
 use Rattle.p414_reader.specs.declared.symbols.Word.TheVariants as word
 use Rattle.p414_reader.specs.declared.symbols.HeaderWord.TheVariants as header
 use Rattle.p414_reader.specs.declared.symbols.BodyWord.TheVariants as body
-use Rattle.p414_reader.specs.Built.{Built, newest}
+use Rattle.predictive_parser.specs.Values.{newest}
+use Rattle.p414_reader.specs.Built.{Built}
 use Rattle.p414_reader.specs.Rows.{Sym, header_sym}
 use Rattle.p414_reader.proofs.Meaning.{after_word}
 use Rattle.p414_reader.proofs.Readings.{Goes, Calm, Reads, ReadsCalm, ◌▷◌, reads, does, from, giving, skips, builds, extended_is, both, takes_row, is_new_text, next_words}

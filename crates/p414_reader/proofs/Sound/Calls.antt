@@ -12,7 +12,8 @@ use Rattle.p414_ast.specs.Written.{written_option, by_commas, written_inst, writ
 use Rattle.p414_reader.specs.declared.symbols.Word.TheVariants as word
 use Rattle.p414_reader.specs.declared.symbols.CallWord.{CallWord}
 use Rattle.p414_reader.specs.declared.symbols.CallWord.TheVariants as call
-use Rattle.p414_reader.specs.Built.{Built, newest, older, extended}
+use Rattle.predictive_parser.specs.Values.{newest, older, extended}
+use Rattle.p414_reader.specs.Built.{Built}
 use Rattle.p414_reader.specs.Actions.{arg_of}
 use Rattle.p414_reader.specs.Rows.{grammar14}
 use Rattle.p414_reader.proofs.Meaning.{extended_by, written_dot, meaning14}

@@ -12,7 +12,8 @@ use Rattle.p414_ast.specs.Conditions.{is_expr, is_label, are_labels, labels_of, 
 use Rattle.p414_reader.specs.declared.symbols.Word.TheVariants as word
 use Rattle.p414_reader.specs.declared.symbols.BodyWord.{BodyWord}
 use Rattle.p414_reader.specs.declared.symbols.BodyWord.TheVariants as body
-use Rattle.p414_reader.specs.Built.{Built, newest}
+use Rattle.predictive_parser.specs.Values.{newest}
+use Rattle.p414_reader.specs.Built.{Built}
 use Rattle.p414_reader.specs.Classes.{may_follow}
 use Rattle.p414_reader.specs.Actions.{label_of, with_else_call}
 use Rattle.p414_reader.specs.Rows.{grammar14}

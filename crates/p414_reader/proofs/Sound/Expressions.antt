@@ -16,7 +16,8 @@ use Rattle.p414_ast.specs.Written.{written_option, written_index, written_inst, 
 use Rattle.p414_ast.specs.Conditions.{is_expression_name, is_expr}
 use Rattle.p414_reader.specs.declared.symbols.Word.TheVariants as word
 use Rattle.p414_reader.specs.declared.symbols.BodyWord.TheVariants as body
-use Rattle.p414_reader.specs.Built.{Built, older}
+use Rattle.predictive_parser.specs.Values.{older}
+use Rattle.p414_reader.specs.Built.{Built}
 use Rattle.p414_reader.specs.Classes.{prefix_of, infix_of, is_prefix, is_infix}
 use Rattle.p414_reader.specs.Rows.{grammar14, prefix_rest, infix_rest}
 use Rattle.p414_reader.proofs.Meaning.{meaning14, with_operators, last_expr}

@@ -20,7 +20,8 @@ use Rattle.p414_ast.specs.Conditions.{is_bare, is_pvalue, is_select_value, is_ps
 use Rattle.p414_reader.specs.declared.symbols.Word.TheVariants as word
 use Rattle.p414_reader.specs.declared.symbols.StateWord.{StateWord}
 use Rattle.p414_reader.specs.declared.symbols.StateWord.TheVariants as state
-use Rattle.p414_reader.specs.Built.{Built, newest, older, extended}
+use Rattle.predictive_parser.specs.Values.{newest, older, extended}
+use Rattle.p414_reader.specs.Built.{Built}
 use Rattle.p414_reader.specs.Actions.{value_of}
 use Rattle.p414_reader.specs.Rows.{grammar14}
 use Rattle.p414_reader.proofs.Meaning.{meaning14}

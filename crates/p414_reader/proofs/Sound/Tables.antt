@@ -13,7 +13,8 @@ use Rattle.p414_ast.specs.Conditions.{is_among, is_table_attr, has_word, table_n
 use Rattle.p414_reader.specs.declared.symbols.Word.TheVariants as word
 use Rattle.p414_reader.specs.declared.symbols.TableWord.{TableWord}
 use Rattle.p414_reader.specs.declared.symbols.TableWord.TheVariants as table
-use Rattle.p414_reader.specs.Built.{Built, newest}
+use Rattle.predictive_parser.specs.Values.{newest}
+use Rattle.p414_reader.specs.Built.{Built}
 use Rattle.p414_reader.specs.Actions.{key_of}
 use Rattle.p414_reader.specs.Rows.{grammar14}
 use Rattle.p414_reader.proofs.Meaning.{meaning14, written_dot, extended_by, table_words}

@@ -5,8 +5,7 @@ use Rattle.predictive_parser.proofs.parser.finish.Given as goal
 
 abbrev pub invariant-loop-symbol : goal.invariant-loop-symbol
 invariant-loop-symbol g l = record {
-  finishes : (built : g.B.Lookahead.Built) (place : ℕ) → g.B.Lookahead.Holds l.fn.builder built
-      → (next : g.B.Lookahead.Built) × g.B.Lookahead.Holds l.builder next × (finish (move g.B.Lookahead.grammar) l.fn.stack built place ≡ finish (move g.B.Lookahead.grammar) l.stack next place);
+  finishes : (place : ℕ) → finish (move g.B.Lookahead.grammar) l.fn.stack (g.B.Lookahead.held l.fn.builder) place ≡ finish (move g.B.Lookahead.grammar) l.stack (g.B.Lookahead.held l.builder) place;
   tokens : g.B.Lookahead.tokens l.builder ≡ g.B.Lookahead.tokens l.fn.builder;
 }
 

@@ -6,8 +6,7 @@ use Rattle.predictive_parser.proofs.parser.parse.Given as goal
 
 abbrev pub invariant-loop-place : goal.invariant-loop-place
 invariant-loop-place g l = record {
-  runs : (built : g.B.Lookahead.Built) → g.B.Lookahead.Holds l.fn.builder built
-      → (next : g.B.Lookahead.Built) × g.B.Lookahead.Holds l.builder next
-      × (run (move g.B.Lookahead.grammar) (Word l.fn.word ∷ []) built 0 (g.B.Lookahead.tokens l.fn.builder) ≡ run (move g.B.Lookahead.grammar) l.stack next l.place (drop l.place (g.B.Lookahead.tokens l.fn.builder)));
+  runs : run (move g.B.Lookahead.grammar) (Word l.fn.word ∷ []) (g.B.Lookahead.held l.fn.builder) 0 (g.B.Lookahead.tokens l.fn.builder)
+      ≡ run (move g.B.Lookahead.grammar) l.stack (g.B.Lookahead.held l.builder) l.place (drop l.place (g.B.Lookahead.tokens l.fn.builder));
   tokens : g.B.Lookahead.tokens l.builder ≡ g.B.Lookahead.tokens l.fn.builder;
 }

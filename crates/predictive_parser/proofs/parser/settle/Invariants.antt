@@ -6,8 +6,8 @@ use Rattle.predictive_parser.proofs.parser.settle.Given as goal
 
 abbrev pub invariant-loop-symbol : goal.invariant-loop-symbol
 invariant-loop-symbol g l = record {
-  settles : (built : g.B.Lookahead.Built) (token : g.B.Lookahead.Token) → g.B.Lookahead.Holds l.fn.builder built → slice_get (g.B.Lookahead.tokens l.fn.builder) l.place ≡ Some token
-      → (next : g.B.Lookahead.Built) × g.B.Lookahead.Holds l.builder next × (settle (move g.B.Lookahead.grammar) l.fn.stack built token ≡ settle (move g.B.Lookahead.grammar) l.stack next token);
+  settles : (token : g.B.Lookahead.Token) → slice_get (g.B.Lookahead.tokens l.fn.builder) l.place ≡ Some token
+      → settle (move g.B.Lookahead.grammar) l.fn.stack (g.B.Lookahead.held l.fn.builder) token ≡ settle (move g.B.Lookahead.grammar) l.stack (g.B.Lookahead.held l.builder) token;
   tokens : g.B.Lookahead.tokens l.builder ≡ g.B.Lookahead.tokens l.fn.builder;
 }
 

@@ -2,7 +2,7 @@ use Rattle.std.proofs.Common.{[], map, ap, ap₂, ◌∙◌}
 use Rattle.p414_ast.specs.Views.{tail_tree}
 use Rattle.p414_ast.specs.Written.{tail_word}
 use Rattle.p414_ast.specs.Conditions.{is_among}
-use Rattle.p414_reader.specs.Built.{newest}
+use Rattle.predictive_parser.specs.Values.{newest}
 use Rattle.p414_reader.specs.Forest.{Forest}
 use Rattle.p414_reader.proofs.Kept.{map_newest}
 use Rattle.p414_reader.proofs.forest.Forest.has_tail.Goals as goal

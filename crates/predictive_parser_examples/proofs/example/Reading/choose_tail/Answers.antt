@@ -8,5 +8,5 @@ pub returns-clause-chooses : goal.returns-clause-chooses
 returns-clause-chooses c =
     IfOk-weaker c.choose_first.result _ _
     (λ chosen f token s.
-    tail_row c.args.least c.args.most c.power-power.result _ token c.args.more.now chosen c.args.stack.now c.choose_first.new.stack (get_or_from_slice_get c.args.self.now.tokens.now c.args.place token _ s) c.power-power.ensures.is (f c.args.self.now.events token refl s))
+    tail_row c.args.least c.args.most c.power-power.result _ token c.args.more.now chosen c.args.stack.now c.choose_first.new.stack (get_or_from_slice_get c.args.self.now.tokens.now c.args.place token _ s) c.power-power.ensures.is (f token s))
     c.choose_first.ensures.chooses

@@ -1,12 +1,12 @@
-// Stacks of the parts of a syntax.
+// Stacks of what is built.
 ghost use Rattle.std.specs.Prelude.{◌≡◌, List, [], ◌∷◌, reverse, OnOk, MatchOption};
-ghost use Rattle.p414_reader.specs.Built.{newest, older, extended};
+ghost use Rattle.predictive_parser.specs.Values.{newest, older, extended};
 
 use p4x_bits::{OutOfMemory, Rows};
 use std::alloc::Global;
 use std::marker::Model;
 
-/// Parts of one sort. Contracts see the list of them, the newest first.
+/// Values of one sort that are built, and not part of another yet. Contracts see the list of them, the newest first.
 #[derive(Drop)]
 pub struct ValueStack<T: Drop> {
     items: Vec<T>,
@@ -19,7 +19,7 @@ impl<T: Drop> Model for ValueStack<T> {
 }
 
 impl<T: Drop> ValueStack<T> {
-    /// No parts. It takes no memory until the first push.
+    /// No values. It takes no memory until the first push.
     pub fn new(alloc: Global) -> Self
         ensures { result ≡ [] }
     {
@@ -28,7 +28,7 @@ impl<T: Drop> ValueStack<T> {
         }
     }
 
-    /// Puts a part in front of the others.
+    /// Puts a value in front of the others.
     pub fn push(&mut self, item: T) -> Result<(), OutOfMemory>
         ensures { OnOk result (self.new ≡ item ∷ self.old) }
     {
@@ -36,21 +36,21 @@ impl<T: Drop> ValueStack<T> {
         Ok(())
     }
 
-    /// Takes the newest part off, if there is one.
+    /// Takes the newest value off, if there is one.
     pub fn pop(&mut self) -> Option<T>
         ensures { MatchOption result ((self.old ≡ []) × (self.new ≡ [])) (λ item. self.old ≡ item ∷ self.new) }
     {
         self.items.pop()
     }
 
-    /// The newest part, if there is one.
+    /// The newest value, if there is one.
     pub fn newest(&self) -> Option<&T>
         ensures { MatchOption result (self.now ≡ []) (λ item. (other : T) → newest other self.now ≡ item.now) }
     {
         self.items.last()
     }
 
-    /// Takes the newest part off; where there is none, gives the other one.
+    /// Takes the newest value off; where there is none, gives the other one.
     pub fn pop_or(&mut self, other: T) -> T
         ensures newest { result ≡ newest other self.old }
         ensures older { self.new ≡ older self.old }
