@@ -1,6 +1,6 @@
 -- What the grammar of P4_14 asks of a syntax besides its words and marks: how operators group, what stands at most once
 -- or at least once, and which of two alternatives is meant where both could be written so. Where an earlier alternative
--- of a line can be written with the same tokens, that one is meant (P4_14 1.0.5, "P4 BNF Grammar"; the tightness of
+-- of a line can be written with the same tokens, that one is meant (P4_14 1.0.5, "Summary of P4 BNF"; the tightness of
 -- operators, and that no word is reserved everywhere, are this project's own).
 use Rattle.std.specs.Prelude.{ℕ, zero, suc, Bool, true, false, not, ◌&&◌, nat_eq, nat_le, List, [], ◌∷◌, ◌++◌, map, Option, Some, None}
 use Rattle.std.specs.List.{list_all, list_any}

@@ -1,4 +1,4 @@
--- The declarations of a program, sort by sort (P4_14 1.0.5, "P4 BNF Grammar"; which sorts are told apart is this
+-- The declarations of a program, sort by sort (P4_14 1.0.5, "Summary of P4 BNF"; which sorts are told apart is this
 -- project's own).
 use Rattle.std.specs.Prelude.{List, [], ◌∷◌, ◌++◌}
 use Rattle.p414_ast.specs.declared.syntax.Decl.{Decl}

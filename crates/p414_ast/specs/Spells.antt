@@ -1,4 +1,4 @@
--- Which tokens a syntax is spelled with (P4_14 1.0.5, "P4 BNF Grammar").
+-- Which tokens a syntax is spelled with (P4_14 1.0.5, "Summary of P4 BNF").
 use Rattle.std.specs.Prelude.{◌≡◌, true, List}
 use Rattle.p414_lexemes.specs.declared.lexeme.Lexeme.{Lexeme}
 use Rattle.p414_ast.specs.declared.syntax.Syntax14.{Syntax14}

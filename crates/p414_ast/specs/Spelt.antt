@@ -1,4 +1,4 @@
--- Which syntaxes a text can have (P4_14 1.0.5, "P4 BNF Grammar"; the bounds on widths and values are this project's
+-- Which syntaxes a text can have (P4_14 1.0.5, "Summary of P4 BNF"; the bounds on widths and values are this project's
 -- own).
 use Rattle.std.specs.Prelude.{Bool, ◌&&◌}
 use Rattle.std.specs.List.{list_all}

@@ -1,4 +1,4 @@
--- The words and marks that the grammar of P4_14 quotes, as tokens (P4_14 1.0.5, "P4 BNF Grammar").
+-- The words and marks that the grammar of P4_14 quotes, as tokens (P4_14 1.0.5, "Summary of P4 BNF").
 use Rattle.std.specs.Prelude.{ℕ, List}
 use Rattle.p414_lexemes.specs.declared.keyword.Keyword.{Keyword}
 use Rattle.p414_lexemes.specs.Keywords.{keyword_text}

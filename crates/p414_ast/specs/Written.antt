@@ -1,5 +1,5 @@
 -- The tokens that a syntax is written with: each part of the grammar with its words, its marks and its parts in order
--- (P4_14 1.0.5, "P4 BNF Grammar").
+-- (P4_14 1.0.5, "Summary of P4 BNF").
 use Rattle.std.specs.Prelude.{ℕ, Bool, true, false, cond, List, [], ◌∷◌, ◌++◌, Option, Some, None}
 use Rattle.std.specs.List.{flat_map}
 use Rattle.p414_lexemes.specs.declared.keyword.Keyword.TheVariants as key

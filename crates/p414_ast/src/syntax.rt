@@ -33,7 +33,7 @@ pub struct LeftOut {
     pub group: Option<Rows<Lexeme>>,
 }
 
-/// A declaration (P4_14 1.0.5, "P4 BNF Grammar").
+/// A declaration (P4_14 1.0.5, "Summary of P4 BNF").
 #[derive(Debug, Drop)]
 pub enum Decl {
     /// A header type.

@@ -1,4 +1,4 @@
--- The words that the grammar quotes, with their texts (P4_14 1.0.5, "P4 BNF Grammar").
+-- The words that the grammar quotes, with their texts (P4_14 1.0.5, "Summary of P4 BNF").
 use Rattle.std.specs.Prelude.{ℕ, List, codes}
 use Rattle.p414_lexemes.specs.declared.keyword.Keyword.{Keyword}
 use Rattle.p414_lexemes.specs.declared.keyword.Keyword.TheVariants as word

@@ -1,4 +1,4 @@
--- The marks of the grammar, with their texts (P4_14 1.0.5, "P4 BNF Grammar").
+-- The marks of the grammar, with their texts (P4_14 1.0.5, "Summary of P4 BNF").
 use Rattle.std.specs.Prelude.{ℕ, List, [], ◌∷◌, codes}
 use Rattle.p414_lexemes.specs.declared.mark.Mark.{Mark}
 use Rattle.p414_lexemes.specs.declared.mark.Mark.TheVariants as mark

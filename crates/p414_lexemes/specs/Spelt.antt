@@ -1,4 +1,4 @@
--- Which tokens a text can have (P4_14 1.0.5, "P4 BNF Grammar" for names, "Value Specifications" for numbers; the
+-- Which tokens a text can have (P4_14 1.0.5, "Summary of P4 BNF" for names, "Value Specifications" for numbers; the
 -- bounds on widths and values are this project's own).
 use Rattle.std.specs.Prelude.{ℕ, ◌^◌, Bool, true, nat_le, nat_lt, ◌&&◌, List, Option, Some, None, slice_index}
 use Rattle.std.specs.List.{list_all}

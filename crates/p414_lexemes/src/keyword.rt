@@ -5,7 +5,7 @@ ghost use Rattle.p414_lexemes.specs.Keywords.{keyword_text};
 use p4x_bits::{OutOfMemory, Text};
 use std::alloc::Global;
 
-/// A word that the grammar quotes (P4_14 1.0.5, "P4 BNF Grammar"). None is reserved everywhere.
+/// A word that the grammar quotes (P4_14 1.0.5, "Summary of P4 BNF"). None is reserved everywhere.
 #[derive(Clone, Copy, Drop)]
 pub enum Keyword {
     /// `header_type`.

@@ -2,7 +2,7 @@
 ghost use Rattle.std.specs.Prelude.{◌≡◌, ◌<◌, length};
 ghost use Rattle.p414_lexemes.specs.Marks.{mark_text};
 
-/// A mark of the grammar (P4_14 1.0.5, "P4 BNF Grammar").
+/// A mark of the grammar (P4_14 1.0.5, "Summary of P4 BNF").
 #[derive(Clone, Copy, Debug, PartialEq, Eq, Drop)]
 pub enum Mark {
     /// `{`.

@@ -1,5 +1,5 @@
 -- Which P4_14 text reads as which syntax, and with which fault a text is refused. The numbers are those of P4_14 1.0.5,
--- "Value Specifications"; names, marks and the grammar are those of its "P4 BNF Grammar" (`Spells` of p414_ast); the rules
+-- "Value Specifications"; names, marks and the grammar are those of its "Summary of P4 BNF" (`Spells` of p414_ast); the rules
 -- L1 to L4 and S1, and their places, are this project's own.
 use Rattle.std.specs.Prelude.{ℕ, List}
 use Rattle.p4x_fault.specs.declared.Fault.{Fault}

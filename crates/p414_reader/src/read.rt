@@ -21,7 +21,7 @@ use p414_tok::{Token14, tokens};
 use std::alloc::Global;
 use text_reading::{ReadError, parse_text};
 
-/// The syntax of a P4_14 text (P4_14 1.0.5, "Value Specifications" for its numbers, "P4 BNF Grammar" for its names, marks
+/// The syntax of a P4_14 text (P4_14 1.0.5, "Value Specifications" for its numbers, "Summary of P4 BNF" for its names, marks
 /// and grammar; the rules and their places are this project's own).
 ///
 /// What is given is a syntax that a text can have: it keeps to the grammar, each of its names is an identifier, and each

@@ -1,4 +1,4 @@
--- The names that a program declares, sort by sort, and what a name stands for (P4_14 1.0.5, "P4 BNF Grammar"; which
+-- The names that a program declares, sort by sort, and what a name stands for (P4_14 1.0.5, "Summary of P4 BNF"; which
 -- sorts are told apart is this project's own). Declarations that are left out by name are in no sort.
 use Rattle.std.specs.Prelude.{ℕ, Bool, true, false, ◌||◌, is_some, List, [], ◌∷◌, ◌++◌, Option, Some, None, filter, filter_map, position, slice_get, option_and_then}
 use Rattle.std.specs.List.{list_any}

@@ -1,6 +1,6 @@
 -- C1: a name is declared twice in its sort: header types; instances; parser states and controls together; actions;
 -- tables; field lists; calculations; counters, meters and registers together; fields of a type; parameters of an
--- action; initial values of an instance (P4_14 1.0.5, "P4 BNF Grammar"; the sorts are this project's own).
+-- action; initial values of an instance (P4_14 1.0.5, "Summary of P4 BNF"; the sorts are this project's own).
 use Rattle.std.specs.Prelude.{Bool, false, ◌||◌, List, [], ◌∷◌, map}
 use Rattle.std.specs.List.{list_any}
 use Rattle.p414_ast.specs.declared.syntax.Decl.{Decl}

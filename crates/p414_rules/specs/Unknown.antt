@@ -1,5 +1,5 @@
 -- C2: a name is used that its sort or type doesn't have, or there is no state `start` or no control `ingress` (P4_14
--- 1.0.5, "P4 BNF Grammar", "Packet Processing and Control Flow"). A transition names a parser state or the control
+-- 1.0.5, "Summary of P4 BNF", "Packet Processing and Control Flow"). A transition names a parser state or the control
 -- `ingress`, a control calls a control, and a table lists actions that the program declares. Primitives and fields of
 -- `standard_metadata` that are left out count as names: other rules refuse them.
 use Rattle.std.specs.Prelude.{Bool, false, not, ◌||◌, ◌&&◌, is_none, List, Option, Some, None, codes}
