@@ -14,10 +14,10 @@ use Rattle.p414_ast.specs.declared.headers.Field.{Field}
 use Rattle.p414_ast.specs.declared.syntax.Decl.{Decl}
 use Rattle.p414_ast.specs.declared.syntax.Decl.TheVariants as decl
 use Rattle.p414_ast.specs.declared.syntax.Syntax14.{Syntax14}
-use Rattle.p414_ast.specs.Views.{HeaderTypeTree, ControlTree}
+use Rattle.p414_ast.specs.Views.{HeaderTypeTree}
 use Rattle.p414_ast.specs.Words.{name, keyword, brace_open, brace_close, dot}
 use Rattle.p414_ast.specs.Written.{written, written_decl, written_header_type, written_field, written_tail, written_inst, written_option, written_index, written_ref, in_braces}
-use Rattle.p414_ast.specs.Conditions.{is_syntax, is_decl, is_stmt, block}
+use Rattle.p414_ast.specs.Conditions.{is_syntax, is_decl}
 use Rattle.p414_ast.specs.Spelt.{is_spelt14}
 
 -- the tokens are ones that a text can have
@@ -110,7 +110,3 @@ ref_spelt r e = (
   inst_spelt r.instance (front_of (written_inst r.instance) (dot ∷ name r.field ∷ []) e),
   name_behind dot r.field [] (behind_of (written_inst r.instance) (dot ∷ name r.field ∷ []) e),
 )
-
--- the body of a control that keeps to the grammar is a list of statements
-pub body_is_block : (c : ControlTree) → is_decl (decl.Control c) ≡ true → is_stmt block c.body ≡ true
-body_is_block c h = h
