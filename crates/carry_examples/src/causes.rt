@@ -115,12 +115,12 @@ fn a_report_that_is_not_appended_to(rt: HostRuntime) -> Result<(), Fail> {
 }
 
 /// A desk that has room for these outputs alone, and what each holds after the fault.
-fn expect_unmade(
+fn expect_unmade<'a>(
     rt: &impl Abort,
     alloc: Global,
     rooms: &[&str],
-    text: Option<&[u8]>,
-    sent: Option<&[u8]>,
+    text: Option<&'a [u8]>,
+    sent: Option<&'a [u8]>,
 ) -> Result<(), Fail> {
     let mut desk = inputs(alloc, program(), b"", capture())?;
     for name in rooms {
