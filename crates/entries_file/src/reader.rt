@@ -1,7 +1,9 @@
 // An entries file, line by line.
 ghost use Rattle.std.specs.Prelude.{◌≡◌, IfOk};
 ghost use Rattle.std.specs.Str.Lines.{lines};
+ghost use Rattle.match_core.specs.Signatures.{IsSignature};
 ghost use Rattle.match_core.specs.Fits.{Fits};
+ghost use Rattle.match_core.specs.Tables.{AllCanBuild};
 ghost use Rattle.entries_file.specs.Reading as reading;
 ghost use Rattle.entries_file.specs.Reading.{EntriesText};
 ghost use Rattle.entries_file.specs.internal.Drafts.{drafted, fault_of, IsDraft, IsNames, IsRead};
@@ -76,7 +78,8 @@ fn read_lines(
 /// - E11: there is no such meter, or a colour isn't 0, 1 or 2.
 /// - E12: the table would have more entries than its size.
 ///
-/// The only other error is want of memory. The entries that are given fit the signature. The text is gone
+/// The only other error is want of memory. The entries that are given fit the signature, so
+/// where it is well formed, each of its tables can be built of them. The text is gone
 /// over once, in time linear in its length but for a logarithm, and but for ranges between a decimal number
 /// over 128 bits and one of another base: see `whole_numbers`.
 ///
@@ -88,6 +91,7 @@ pub fn read_entries(
 ) -> Result<Entries, EntryFault>
     ensures is { EntriesText text.now signature.now result }
     ensures fits { IfOk result (λ entries. Fits entries signature.now) }
+    ensures builds { IsSignature signature.now → IfOk result (AllCanBuild signature.now) }
 {
     let Ok(names) = names_of(alloc, signature) else {
         return Err(EntryFault::Memory);
