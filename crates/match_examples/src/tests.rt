@@ -517,7 +517,16 @@ fn the_longest_prefix_beside_nine_exact_keys_counts_first(rt: HostRuntime) -> Re
         width: 8,
     };
     let specs = [
-        OCTET, OCTET, OCTET, OCTET, OCTET, OCTET, OCTET, OCTET, OCTET, WIDE_PREFIX,
+        OCTET,
+        OCTET,
+        OCTET,
+        OCTET,
+        OCTET,
+        OCTET,
+        OCTET,
+        OCTET,
+        OCTET,
+        WIDE_PREFIX,
     ];
     let entries = [
         ten(alloc, 1, 0, 0)?,
@@ -533,7 +542,11 @@ fn the_longest_prefix_beside_nine_exact_keys_counts_first(rt: HostRuntime) -> Re
         (8, 1, 0x12345678, None),
     ] {
         let values = [first, 7, 7, 7, 7, 7, 7, 7, ninth, value];
-        assert_eq!(rt; hit(alloc, &table, &values)?, want, "{first} {ninth} {value:x}");
+        assert_eq!(rt;
+            hit(alloc, &table, &values)?,
+            want,
+            "{first} {ninth} {value:x}"
+        );
     }
     Ok(())
 }
