@@ -1,5 +1,5 @@
 // Look-ups against worked examples, and the indexes against the scan on random tables.
-ghost use Rattle.std.specs.Prelude.{◌⊎◌, ◌≡◌, ℕ, ◌^◌, ◌<◌, ◌≤◌, [], ◌∷◌, ◌++◌, replicate, length, All, IfOk};
+ghost use Rattle.std.specs.Prelude.{◌⊎◌, ◌≡◌, ℕ, ◌^◌, ◌<◌, ◌≤◌, [], ◌∷◌, length, All, IfOk};
 ghost use Rattle.match_core.specs.Fits.{FitsKey, FitsKeys};
 ghost use Rattle.match_core.specs.Signatures.{AreSpecs};
 ghost use Rattle.match_core.specs.declared.signatures.KeySpec.{KeySpec};
@@ -489,64 +489,6 @@ fn the_longest_prefix_beside_an_exact_key_counts_first(rt: HostRuntime) -> Resul
         key.push(exact)?;
         key.push(value)?;
         assert_eq!(rt; table.lookup(&key), want, "{exact} {value:x}");
-    }
-    Ok(())
-}
-
-/// An entry of a table with nine exact keys, eight of which are 7, and an lpm key.
-fn ten(alloc: Global, ninth: u128, value: u128, length: u8) -> Result<Entry, OutOfMemory>
-    ensures { IfOk result (λ entry. entry.keys ≡ replicate 8 (Exact 7) ++ Exact ninth ∷ Lpm value length ∷ []) }
-{
-    let seven = KeyMatch::Exact(7);
-    let mut keys = Rows::from_slice(alloc, &[seven; 8])?;
-    keys.push(KeyMatch::Exact(ninth))?;
-    keys.push(KeyMatch::Lpm { value, length })?;
-    Ok(Entry {
-        keys,
-        priority: 0,
-        action: 0,
-        arguments: Numbers::new(alloc),
-    })
-}
-
-#[test]
-fn the_longest_prefix_beside_nine_exact_keys_counts_first(rt: HostRuntime) -> Result<(), Fail> {
-    let alloc = rt.alloc();
-    const OCTET: KeySpec = KeySpec {
-        kind: KeyKind::Exact,
-        width: 8,
-    };
-    let specs = [
-        OCTET,
-        OCTET,
-        OCTET,
-        OCTET,
-        OCTET,
-        OCTET,
-        OCTET,
-        OCTET,
-        OCTET,
-        WIDE_PREFIX,
-    ];
-    let entries = [
-        ten(alloc, 1, 0, 0)?,
-        ten(alloc, 1, 0x12000000, 8)?,
-        ten(alloc, 2, 0x12340000, 16)?,
-    ];
-    let table = Table::build(alloc, entries.as_slice(), specs.as_slice())?;
-    for (first, ninth, value, want) in [
-        (7, 1, 0x12345678, Some(1)),
-        (7, 1, 0x56345678, Some(0)),
-        (7, 2, 0x1234ffff, Some(2)),
-        (7, 2, 0x12350000, None),
-        (8, 1, 0x12345678, None),
-    ] {
-        let values = [first, 7, 7, 7, 7, 7, 7, 7, ninth, value];
-        assert_eq!(rt;
-            hit(alloc, &table, &values)?,
-            want,
-            "{first} {ninth} {value:x}"
-        );
     }
     Ok(())
 }
