@@ -493,6 +493,21 @@ fn the_longest_prefix_beside_an_exact_key_counts_first(rt: HostRuntime) -> Resul
     Ok(())
 }
 
+/// A key of one bit.
+const BIT: KeySpec = KeySpec {
+    kind: KeyKind::Exact,
+    width: 1,
+};
+
+#[test]
+fn index_and_scan_agree_on_nine_exact_keys_beside_a_prefix(rt: HostRuntime) -> Result<(), Fail> {
+    let specs = [BIT, BIT, BIT, BIT, BIT, BIT, BIT, BIT, BIT, LPM];
+    let (same, hits) = agreements(rt.alloc(), &specs, 20_000)?;
+    assert_eq!(&rt; same, 20_000);
+    assert!(&rt; hits > 20, "{hits} hits");
+    Ok(())
+}
+
 #[test]
 fn a_table_without_keys_and_entries_never_hits(rt: HostRuntime) -> Result<(), Fail> {
     let table = Table::build(rt.alloc(), &[], &[])?;
