@@ -8,8 +8,8 @@ use Rattle.digraph.specs.declared.search.Mark.{Mark}
 use Rattle.digraph.specs.declared.search.Mark.TheVariants.{New, Open, Done}
 use Rattle.digraph.specs.declared.search.Frame.{Frame}
 use Rattle.digraph.specs.Graphs.{Among, successors}
-use Rattle.digraph.specs.Components.{Rises}
-use Rattle.digraph.specs.internal.Search.{State, entered, joined, closed, led_by, shut, shed, AreWaiting, IsListed, number_of, mark_weight, frame_weight, work}
+use Rattle.digraph.specs.Components.{Rises, StandOnce}
+use Rattle.digraph.specs.internal.Search.{State, entered, joined, closed, led_by, shut, shed, Waits, AreWaiting, IsListed, number_of, mark_weight, frame_weight, work}
 use Rattle.digraph.proofs.Marking.{by_test, done_before, stays_done, is_ended, waits_within, shed_waits, waits_shed, shut_weights}
 use Rattle.digraph.proofs.Turning.{stays_done_at, done_was}
 
@@ -31,6 +31,11 @@ pub among_at : (xs : List ℕ) (k x : ℕ) → slice_get xs k ≡ Some x → Amo
 among_at [] k x e = cc
 among_at (y ∷ ys) zero x e = inl (sym (same_Some y x e))
 among_at (y ∷ ys) (suc k) x e = inr (among_at ys k x e)
+
+abbrev place_of : Mark → ℕ
+place_of New = 0
+place_of (Open place) = place
+place_of (Done number) = 0
 
 length-shed : (k : ℕ) (waiting : List ℕ) → k < length waiting → 0 < length (shed k waiting)
 length-shed k [] h = absurd (omega arith)
@@ -60,14 +65,40 @@ rises_append numbers (x ∷ xs) ys hx hy le = (
   rises_append numbers xs ys hx.1 hy (λ a b l r. le a b (inr l) r),
 )
 
+once_append : (xs ys : List ℕ) → StandOnce xs → StandOnce ys → ((a : ℕ) → Among a xs → Among a ys → ⊥) → StandOnce (xs ++ ys)
+once_append [] ys hx hy apart = hy
+once_append (x ∷ xs) ys hx hy apart =
+    (λ i. ⊎_elim hx.0 (apart x (inl refl)) (among_append x xs ys i), once_append xs ys hx.1 hy (λ a i. apart a (inr i)))
+
+-- nodes that wait at one place each stand once among those that a closed component takes
+once_shed : (k : ℕ) (waiting : List ℕ) → ((a p q : ℕ) → Waits waiting p a → Waits waiting q a → p ≡ q) → StandOnce (shed k waiting)
+once_shed k [] one = tt
+once_shed k (x ∷ rest) one =
+    by_test (nat_lt (length rest) k)
+    (λ t. subst (λ b. StandOnce (cond b [] (x ∷ shed k rest))) (sym t) tt)
+    (λ t. subst (λ b. StandOnce (cond b [] (x ∷ shed k rest))) (sym t) (
+      λ i.
+          let q = shed_waits k rest x i in
+          let within = waits_within rest q.0 x q.1 in
+          let same = one x (length rest) q.0 (inl (refl, refl)) (inr q.1) in
+          absurd (omega (arith, within, same)),
+      once_shed k rest (λ a p q h i. one a p q (inr h) (inr i)),
+    ))
+
+-- an open node waits at one place
+one_place : (s : State) → AreWaiting s.marks s.waiting → (a p q : ℕ) → Waits s.waiting p a → Waits s.waiting q a → p ≡ q
+one_place s w a p q at other =
+    let same : Some (Open p) ≡ Some (Open q) = sym (w.marked a p at) ∙ w.marked a q other in
+    ap place_of (same_Some (Open p) (Open q) same)
+
 pub listed_on : (s : State) (f : Frame) → IsListed s → IsListed (led_by f s)
-listed_on s f l = record { few = l.few; done = l.done; listed = l.listed; used = l.used; rises = l.rises }
+listed_on s f l = record { few = l.few; done = l.done; listed = l.listed; used = l.used; once = l.once; rises = l.rises }
 
 pub listed_under : (s : State) (f : Frame) → IsListed (led_by f s) → IsListed s
-listed_under s f l = record { few = l.few; done = l.done; listed = l.listed; used = l.used; rises = l.rises }
+listed_under s f l = record { few = l.few; done = l.done; listed = l.listed; used = l.used; once = l.once; rises = l.rises }
 
 pub listed_joined : (s : State) (q : ℕ) → IsListed s → IsListed (joined s q)
-listed_joined s q l = record { few = l.few; done = l.done; listed = l.listed; used = l.used; rises = l.rises }
+listed_joined s q l = record { few = l.few; done = l.done; listed = l.listed; used = l.used; once = l.once; rises = l.rises }
 
 pub listed_entered : (s : State) (x edges : ℕ) → IsListed s → slice_get s.marks x ≡ Some New → IsListed (entered s x edges)
 listed_entered s x edges l new =
@@ -76,6 +107,7 @@ listed_entered s x edges l new =
       done = λ a i. let d = l.done a i in (d.0, stays_done_at s.marks x a d.0 (Open (length s.waiting)) new d.1);
       listed = λ a n d. l.listed a n (done_was s.marks x a (length s.waiting) n d);
       used = λ n lt. let u = l.used n lt in (u.0, stays_done_at s.marks x u.0 n (Open (length s.waiting)) new u.1);
+      once = l.once;
       rises = rises_same (map number_of s.marks) (map number_of (set s.marks x (Open (length s.waiting)))) s.order
           (λ a i. let d = l.done a i in
           number_at s.marks a d.0 d.1 ∙ sym (number_at (set s.marks x (Open (length s.waiting))) a d.0 (stays_done_at s.marks x a d.0 (Open (length s.waiting)) new d.1)))
@@ -101,6 +133,11 @@ listed_closed s node p w below l is =
           (λ old. let u = l.used n old in (u.0, stays_done p s.count s.marks u.0 n u.1))
           (λ ge. let same : s.count ≡ n = omega arith in (node, is_ended p s.count s.marks node p is (omega arith) ∙ ap (λ k. Some (Done k)) same))
           (cases_lt n s.count);
+      once = once_append s.order (shed p s.waiting) l.once (once_shed p s.waiting (one_place s w))
+          (λ a old new.
+          let d = l.done a old in
+          let q = shed_waits p s.waiting a new in
+          let bad : Some (Done d.0) ≡ Some (Open q.0) = sym d.1 ∙ w.marked a q.0 q.1 in cc);
       rises = rises_append (map number_of (map (shut p s.count) s.marks)) s.order (shed p s.waiting)
           (rises_same (map number_of s.marks) (map number_of (map (shut p s.count) s.marks)) s.order
           (λ a i. let d = was a i in number_at s.marks a d.0 d.2 ∙ sym (number_at (map (shut p s.count) s.marks) a d.0 d.1))

@@ -140,6 +140,7 @@ fresh_listed n =
       done = λ a i. absurd i;
       listed = λ a k d. let bad = fresh_at n a (Done k) d in absurd (cc);
       used = λ k lt. absurd (omega (arith, lt));
+      once = tt;
       rises = tt;
     }
 
@@ -190,5 +191,6 @@ are_components g s h l e all =
         λ i. let d = l.done a i in subst (λ k. a < k) h.size (slice_get_within s.marks a (Done d.0) d.1),
         λ lt. let d = known a lt in l.listed a d.0 d.1,
       );
+      once = l.once;
       rises = l.rises;
     }

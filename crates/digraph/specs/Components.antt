@@ -7,6 +7,11 @@ abbrev pub Rises : List ℕ → List ℕ → Type 0
 Rises numbers [] = Unit {0}
 Rises numbers (a ∷ rest) = ((b : ℕ) → Among b rest → slice_index numbers a ≤ slice_index numbers b) × Rises numbers rest
 
+-- no node stands twice
+abbrev pub StandOnce : List ℕ → Type 0
+StandOnce [] = Unit {0}
+StandOnce (a ∷ rest) = (Among a rest → ⊥) × StandOnce rest
+
 -- the number of each node's component, the nodes in order, and how many components there are
 pub record Condensation : Type 0 where
   pub numbers : List ℕ
@@ -25,6 +30,7 @@ pub record AreComponents (g : List (List ℕ)) (c : Condensation) : Type 0 where
   -- the numbers are those below the count
   pub below : (a : ℕ) → a < length g → slice_index c.numbers a < c.count
   pub used : (n : ℕ) → n < c.count → (a : ℕ) × (a < length g) × (slice_index c.numbers a ≡ n)
-  -- the order has the nodes of the graph, by their numbers
+  -- the order has each node of the graph once, by their numbers
   pub nodes : (a : ℕ) → Among a c.order ↔ (a < length g)
+  pub once : StandOnce c.order
   pub rises : Rises c.numbers c.order

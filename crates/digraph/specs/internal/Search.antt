@@ -4,7 +4,7 @@ use Rattle.digraph.specs.declared.search.Mark.{Mark}
 use Rattle.digraph.specs.declared.search.Mark.TheVariants.{New, Open, Done}
 use Rattle.digraph.specs.declared.search.Frame.{Frame}
 use Rattle.digraph.specs.Graphs.{Among, successors, IsEdge, Reaches}
-use Rattle.digraph.specs.Components.{Rises}
+use Rattle.digraph.specs.Components.{Rises, StandOnce}
 
 -- the marks of the nodes; the nodes whose components aren't whole yet, the last reached first; the places at which
 -- components begin among these; the nodes on the path, the last first; the nodes of whole components; and how many
@@ -181,6 +181,7 @@ pub record IsListed (s : State) : Type 0 where
   pub done : (a : ℕ) → Among a s.order → (n : ℕ) × (IsDone s.marks a n)
   pub listed : (a n : ℕ) → IsDone s.marks a n → Among a s.order
   pub used : (n : ℕ) → n < s.count → (a : ℕ) × (IsDone s.marks a n)
+  pub once : StandOnce s.order
   pub rises : Rises (map number_of s.marks) s.order
 
 -- a turn of the search
