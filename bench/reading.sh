@@ -7,7 +7,7 @@ top=$(cd "$(dirname "$0")/.." && pwd)
 work=$(mktemp -d)
 trap 'rm -rf "$work"' EXIT
 mkdir -p "$work/crates/bench_reading/src"
-for crate in p4x_bits p4x_fault token_division predictive_parser text_reading p414_lexemes p414_tok p414_ast p414_reader; do
+for crate in p4x_bits p4x_fault token_division predictive_parser text_reading p414_lexemes p414_tok node_lists p414_ast p414_reader; do
     mkdir "$work/crates/$crate"
     for part in src specs proofs; do cp -r "$top/crates/$crate/$part" "$work/crates/$crate"; done
     grep "^$crate:" "$top/crates.txt" >>"$work/crates.txt"
