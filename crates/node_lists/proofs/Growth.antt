@@ -16,15 +16,18 @@ module _ {T : Type 0} (none : T) where
 pub longer : {T : Type 0} (trees : List T) (tree : T) → length (trees ++ tree ∷ []) ≡ suc (length trees)
 longer trees tree = omega (arith, length-append trees (tree ∷ []))
 
-module _ {T : Type 0} (none : T) (old new : List T) (i : ℕ) (tree : T) (adds : Adds old new i tree) where
+module _ {T : Type 0} (old new : List T) (i : ℕ) (tree : T) (adds : Adds old new i tree) where
   pub adds_len : length new ≡ suc (length old)
   adds_len = ap length adds.trees ∙ longer old tree
 
-  pub adds_keeps : KeepsPlaces none old new
-  adds_keeps k h = ap (λ l. tree_at none l k) adds.trees ∙ at_front none old tree k h
+  pub adds_place : i < length new
+  adds_place = omega (arith, adds.last, adds_len)
 
-  pub adds_tree : tree_at none new i ≡ tree
-  adds_tree = ap (λ l. tree_at none l i) adds.trees ∙ at_end none old tree i adds.last
+  pub adds_keeps : (none : T) → KeepsPlaces none old new
+  adds_keeps none k h = ap (λ l. tree_at none l k) adds.trees ∙ at_front none old tree k h
+
+  pub adds_tree : (none : T) → tree_at none new i ≡ tree
+  adds_tree none = ap (λ l. tree_at none l i) adds.trees ∙ at_end none old tree i adds.last
 
 -- the trees of a list of nodes
 
@@ -64,6 +67,10 @@ module _ {N : Type 0} (InOrder : ℕ → N → Type 0) where
 
   pub order_at : (i : ℕ) (ns : List N) (d : N) → AllInOrder InOrder 0 ns → i < length ns → InOrder i (get_or ns i d)
   order_at i ns d o h = let e : 0 + i ≡ i = omega arith in subst (λ j. InOrder j (get_or ns i d)) e (order_behind 0 i ns d o h)
+
+pub one_more_in_order : {N T : Type 0} (tree_of : List T → N → T) (InOrder : ℕ → N → Type 0) (ns : List N) (n : N) → AllInOrder InOrder 0 ns → InOrder (length (grow tree_of [] ns)) n → AllInOrder InOrder 0 (ns ++ n ∷ [])
+one_more_in_order tree_of InOrder ns n o h =
+    let e : length (grow tree_of [] ns) ≡ 0 + length ns = omega (arith, count tree_of ns) in order_more InOrder 0 ns n o (subst (λ k. InOrder k n) e h)
 
 -- what holds of each node in order holds of the list
 pub order_wider : {N : Type 0} (P Q : ℕ → N → Type 0) → ((k : ℕ) (n : N) → P k n → Q k n) → (k : ℕ) (ns : List N) → AllInOrder P k ns → AllInOrder Q k ns

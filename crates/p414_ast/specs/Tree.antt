@@ -1,6 +1,7 @@
 -- Expressions and statements as trees, and the trees that a list of nodes stands for (P4_14 1.0.5,
 -- "Header Type Declarations", "Packet Processing and Control Flow").
 use Rattle.std.specs.Prelude.{◌≡◌, ℕ, suc, ◌<◌, ◌≤◌, Bool, List, [], ◌∷◌, ◌++◌, length, slice_index_or}
+use Rattle.node_lists.specs.Trees.{tree_at, grow, AllInOrder, KeepsPlaces, Adds}
 use Rattle.p414_lexemes.specs.declared.lexeme.Literal.{Literal}
 use Rattle.p414_ast.specs.declared.parts.Inst.{Inst}
 use Rattle.p414_ast.specs.declared.parts.Ref.{Ref}
@@ -39,10 +40,10 @@ pub data Stmt : Type 0 where
 
 -- the trees at a place
 abbrev pub expr_at : List Expr → ℕ → Expr
-expr_at es i = slice_index_or es i (truth Bool.false)
+expr_at = tree_at (truth Bool.false)
 
 abbrev pub stmt_at : List Stmt → ℕ → Stmt
-stmt_at ss i = slice_index_or ss i no_statements
+stmt_at = tree_at no_statements
 
 -- the tree of a node, given the trees of the nodes before it
 abbrev pub expr_of : List Expr → ExprNode → Expr
@@ -69,12 +70,10 @@ stmt_of es ss (Branch a label b) = branch (stmt_at ss a) label (stmt_at ss b)
 
 -- trees, and behind them the trees of the nodes that follow
 abbrev pub grow_exprs : List Expr → List ExprNode → List Expr
-grow_exprs es [] = es
-grow_exprs es (n ∷ ns) = grow_exprs (es ++ expr_of es n ∷ []) ns
+grow_exprs = grow expr_of
 
 abbrev pub grow_stmts : List Expr → List Stmt → List StmtNode → List Stmt
-grow_stmts es ss [] = ss
-grow_stmts es ss (n ∷ ns) = grow_stmts es (ss ++ stmt_of es ss n ∷ []) ns
+grow_stmts es = grow (stmt_of es)
 
 -- what contracts see of lists of nodes: the tree of each node
 pub record Trees : Type 0 where
@@ -110,12 +109,10 @@ StmtInOrder m n (Branch a label b) = (a < n) × (b < n)
 
 -- each child stands before its parent
 abbrev pub ExprsInOrder : ℕ → List ExprNode → Type 0
-ExprsInOrder n [] = Unit {0}
-ExprsInOrder n (x ∷ xs) = ExprInOrder n x × ExprsInOrder (suc n) xs
+ExprsInOrder = AllInOrder ExprInOrder
 
 abbrev pub StmtsInOrder : ℕ → ℕ → List StmtNode → Type 0
-StmtsInOrder m n [] = Unit {0}
-StmtsInOrder m n (x ∷ xs) = StmtInOrder m n x × StmtsInOrder m (suc n) xs
+StmtsInOrder m = AllInOrder (StmtInOrder m)
 
 pub record InOrder (es : List ExprNode) (ss : List StmtNode) : Type 0 where
   pub exprs : ExprsInOrder 0 es
@@ -125,16 +122,15 @@ pub record InOrder (es : List ExprNode) (ss : List StmtNode) : Type 0 where
 pub record Keeps (old new : Trees) : Type 0 where
   pub exprs_len : length old.exprs ≤ length new.exprs
   pub stmts_len : length old.stmts ≤ length new.stmts
-  pub exprs : (i : ℕ) → i < length old.exprs → expr_at new.exprs i ≡ expr_at old.exprs i
-  pub stmts : (i : ℕ) → i < length old.stmts → stmt_at new.stmts i ≡ stmt_at old.stmts i
+  pub exprs : KeepsPlaces (truth Bool.false) old.exprs new.exprs
+  pub stmts : KeepsPlaces no_statements old.stmts new.stmts
 
 -- one more expression, at the place i: it stands behind the earlier ones, and nothing else is added
 pub record AddsExpr (old new : Trees) (i : ℕ) (e : Expr) : Type 0 where
   pub keeps : Keeps old new
   pub place : i < length new.exprs
   pub tree : expr_at new.exprs i ≡ e
-  pub last : i ≡ length old.exprs
-  pub exprs : new.exprs ≡ old.exprs ++ e ∷ []
+  pub exprs : Adds old.exprs new.exprs i e
   pub stmts : new.stmts ≡ old.stmts
 
 -- one more statement, at the place i: it stands behind the earlier ones, and nothing else is added
@@ -142,6 +138,5 @@ pub record AddsStmt (old new : Trees) (i : ℕ) (s : Stmt) : Type 0 where
   pub keeps : Keeps old new
   pub place : i < length new.stmts
   pub tree : stmt_at new.stmts i ≡ s
-  pub last : i ≡ length old.stmts
   pub exprs : new.exprs ≡ old.exprs
-  pub stmts : new.stmts ≡ old.stmts ++ s ∷ []
+  pub stmts : Adds old.stmts new.stmts i s

@@ -2,16 +2,15 @@
 use Rattle.std.proofs.Common.{◌≡◌, ℕ, suc, ◌≤◌, List, [], ◌∷◌, length, refl, ap, ap₂, ◌∙◌, arith}
 use Rattle.std.specs.Prelude.{map, All}
 use Rattle.p416_ast.specs.declared.node.ExpNode.{ExpNode}
-use Rattle.p416_ast.specs.declared.node.ExpNode.TheVariants.{Literal, Name, Error, Member, Binary, Call, NoArguments, Argument}
 use Rattle.p416_ast.specs.declared.node.StmtNode.{StmtNode}
-use Rattle.p416_ast.specs.declared.node.StmtNode.TheVariants.{NoStatements, Then, Block, Assign, Expression, IfElse}
 use Rattle.p416_ast.specs.declared.parser.State.{State}
 use Rattle.p416_ast.specs.declared.control.Property.{Property}
 use Rattle.p416_ast.specs.declared.control.Property.TheVariants.{Actions, DefaultAction}
 use Rattle.p416_ast.specs.declared.control.Local.{Local}
 use Rattle.p416_ast.specs.declared.control.Local.TheVariants.{Action, Table}
-use Rattle.p416_ast.specs.Tree.{member, binary, call, argument, then, block, assign, expression, if_else, Trees, exp_at, stmt_at, exp_of, stmt_of, ExpInOrder, StmtInOrder, Keeps}
+use Rattle.p416_ast.specs.Tree.{Trees, exp_of, stmt_of, ExpInOrder, StmtInOrder, Keeps}
 use Rattle.p416_ast.specs.Blocks.{default_action, table_local}
+use Rattle.p416_ast.proofs.Grow.{exp_of_same, stmt_of_same}
 use Rattle.p416_ast.specs.Views.{state_tree, property_tree, local_tree, StateWithin, PropertyWithin, LocalWithin}
 
 pub Keeps_same : (t : Trees) → Keeps t t
@@ -24,24 +23,6 @@ Keeps_twice a b c p q = record {
   exps = λ k h. q.exps k (omega (arith, p.exps_len)) ∙ p.exps k h;
   stmts = λ k h. q.stmts k (omega (arith, p.stmts_len)) ∙ p.stmts k h;
 }
-
-pub ExpInOrder_more : (m n : ℕ) (x : ExpNode) → m ≤ n → ExpInOrder m x → ExpInOrder n x
-ExpInOrder_more m n (Literal width value) le o = tt
-ExpInOrder_more m n (Name text) le o = tt
-ExpInOrder_more m n Error le o = tt
-ExpInOrder_more m n (Member a word) le o = omega arith
-ExpInOrder_more m n (Binary operator a b) le o = (omega arith, omega arith)
-ExpInOrder_more m n (Call a b) le o = (omega arith, omega arith)
-ExpInOrder_more m n NoArguments le o = tt
-ExpInOrder_more m n (Argument a b) le o = (omega arith, omega arith)
-
-pub StmtInOrder_more : (m n j k : ℕ) (x : StmtNode) → m ≤ n → j ≤ k → StmtInOrder m j x → StmtInOrder n k x
-StmtInOrder_more m n j k NoStatements le le2 o = tt
-StmtInOrder_more m n j k (Then a b) le le2 o = (omega arith, omega arith)
-StmtInOrder_more m n j k (Block a) le le2 o = omega arith
-StmtInOrder_more m n j k (Assign a b) le le2 o = (omega arith, omega arith)
-StmtInOrder_more m n j k (Expression a) le le2 o = omega arith
-StmtInOrder_more m n j k (IfElse c a b) le le2 o = (omega arith, omega arith, omega arith)
 
 pub PropertyWithin_more : (m n : ℕ) (p : Property) → m ≤ n → PropertyWithin m p → PropertyWithin n p
 PropertyWithin_more m n (Actions names) le w = tt
@@ -58,24 +39,10 @@ maps_same P f g same (x ∷ xs) h = ap₂ ◌∷◌ (same x (h 0 x (omega arith)
 
 module _ (old new : Trees) (keeps : Keeps old new) where
   pub exp_of_kept : (x : ExpNode) → ExpInOrder (length old.exps) x → exp_of new.exps x ≡ exp_of old.exps x
-  exp_of_kept (Literal width value) o = refl
-  exp_of_kept (Name text) o = refl
-  exp_of_kept Error o = refl
-  exp_of_kept (Member a word) o = ap (λ e. member e word) (keeps.exps a o)
-  exp_of_kept (Binary operator a b) o = ap₂ (binary operator) (keeps.exps a o.0) (keeps.exps b o.1)
-  exp_of_kept (Call a b) o = ap₂ call (keeps.exps a o.0) (keeps.exps b o.1)
-  exp_of_kept NoArguments o = refl
-  exp_of_kept (Argument a b) o = ap₂ argument (keeps.exps a o.0) (keeps.exps b o.1)
+  exp_of_kept x o = exp_of_same (length old.exps) new.exps old.exps x o keeps.exps
 
   pub stmt_of_kept : (x : StmtNode) → StmtInOrder (length old.exps) (length old.stmts) x → stmt_of new.exps new.stmts x ≡ stmt_of old.exps old.stmts x
-  stmt_of_kept NoStatements o = refl
-  stmt_of_kept (Then a b) o = ap₂ then (keeps.stmts a o.0) (keeps.stmts b o.1)
-  stmt_of_kept (Block a) o = ap block (keeps.stmts a o)
-  stmt_of_kept (Assign a b) o = ap₂ assign (keeps.exps a o.0) (keeps.exps b o.1)
-  stmt_of_kept (Expression a) o = ap expression (keeps.exps a o)
-  stmt_of_kept (IfElse c a b) o =
-      ap (λ e. if_else e (stmt_at new.stmts a) (stmt_at new.stmts b)) (keeps.exps c o.0)
-      ∙ ap₂ (if_else (exp_at old.exps c)) (keeps.stmts a o.1) (keeps.stmts b o.2)
+  stmt_of_kept x o = stmt_of_same (length old.exps) (length old.stmts) new.exps old.exps new.stmts old.stmts x o keeps.exps keeps.stmts
 
   pub state_tree_kept : (s : State) → StateWithin (length old.stmts) s → state_tree new s ≡ state_tree old s
   state_tree_kept s w = ap (λ b. record { name = s.name; body = b; transition = s.transition }) (keeps.stmts s.body w)

@@ -1,7 +1,8 @@
--- A tree as a list of its nodes, from the leaves up: a code, by which proofs tell trees apart.
+-- The codes of trees, and of what is seen of parsers, controls, actions and tables. Proofs tell values apart by them.
 use Rattle.std.specs.Prelude.{◌≡◌, ◌⊎◌, ℕ, List, [], ◌∷◌, ◌++◌, refl}
-use Rattle.std.proofs.Common.{◌∙◌, ap, append_assoc, inl, inr}
+use Rattle.std.proofs.Common.{inl, inr}
 use Rattle.std.specs.Coded.{Coded, code_by, coded×, coded⊎, coded_ℕ, coded_list}
+use Rattle.node_lists.specs.Codes.{on_one, on_two, Puts, behind_one, behind_two, coded_tree}
 use Rattle.p416_ast.specs.declared.decl.Note.{Note}
 use Rattle.p416_ast.specs.declared.decl.Param.{Param}
 use Rattle.p416_ast.specs.declared.parser.Transition.{Transition}
@@ -30,16 +31,7 @@ exp_marks (call a b) = exp_marks a ++ (exp_marks b ++ Call 0 0 ∷ [])
 exp_marks no_arguments = NoArguments ∷ []
 exp_marks (argument a b) = exp_marks a ++ (exp_marks b ++ Argument 0 0 ∷ [])
 
--- a function of the topmost one or two of a stack
-abbrev pub on_one : {A : Type 0} → (A → A) → List A → List A
-on_one f [] = []
-on_one f (a ∷ as_) = f a ∷ as_
-
-abbrev pub on_two : {A : Type 0} → (A → A → A) → List A → List A
-on_two f [] = []
-on_two f (b ∷ []) = []
-on_two f (b ∷ a ∷ rest) = f a b ∷ rest
-
+-- what a node does to a stack of expressions
 abbrev pub exp_step : ExpNode → List Exp16 → List Exp16
 exp_step (Literal width value) es = literal width value ∷ es
 exp_step (Name text) es = name text ∷ es
@@ -50,37 +42,18 @@ exp_step (Call i j) es = on_two call es
 exp_step NoArguments es = no_arguments ∷ es
 exp_step (Argument i j) es = on_two argument es
 
-abbrev pub exp_stack : List ExpNode → List Exp16 → List Exp16
-exp_stack [] es = es
-exp_stack (m ∷ ms) es = exp_stack ms (exp_step m es)
-
-abbrev pub top : {A : Type 0} → A → List A → A
-top d [] = d
-top d (a ∷ rest) = a
-
-one_back : (e : Exp16) (m : ExpNode) (ms : List ExpNode) (es : List Exp16) → ((ms : List ExpNode) (es : List Exp16) → exp_stack (exp_marks e ++ ms) es ≡ exp_stack ms (e ∷ es)) → exp_stack ((exp_marks e ++ m ∷ []) ++ ms) es ≡ exp_stack (m ∷ ms) (e ∷ es)
-one_back e m ms es back = ap (λ l. exp_stack l es) (append_assoc (exp_marks e) (m ∷ []) ms) ∙ back (m ∷ ms) es
-
-two_back : (a b : Exp16) (m : ExpNode) (ms : List ExpNode) (es : List Exp16) → ((ms : List ExpNode) (es : List Exp16) → exp_stack (exp_marks a ++ ms) es ≡ exp_stack ms (a ∷ es)) → ((ms : List ExpNode) (es : List Exp16) → exp_stack (exp_marks b ++ ms) es ≡ exp_stack ms (b ∷ es)) → exp_stack ((exp_marks a ++ (exp_marks b ++ m ∷ [])) ++ ms) es ≡ exp_stack (m ∷ ms) (b ∷ a ∷ es)
-two_back a b m ms es back_a back_b =
-    ap (λ l. exp_stack l es) (append_assoc (exp_marks a) _ ms) ∙ back_a _ es ∙ one_back b m ms (a ∷ es) back_b
-
-pub exp_back : (e : Exp16) (ms : List ExpNode) (es : List Exp16) → exp_stack (exp_marks e ++ ms) es ≡ exp_stack ms (e ∷ es)
-exp_back (literal width value) ms es = refl
-exp_back (name text) ms es = refl
-exp_back error ms es = refl
-exp_back (member e word) ms es = one_back e (Member 0 word) ms es (exp_back e)
-exp_back (binary operator a b) ms es = two_back a b (Binary operator 0 0) ms es (exp_back a) (exp_back b)
-exp_back (call a b) ms es = two_back a b (Call 0 0) ms es (exp_back a) (exp_back b)
-exp_back no_arguments ms es = refl
-exp_back (argument a b) ms es = two_back a b (Argument 0 0) ms es (exp_back a) (exp_back b)
-
-pub exp_round : (e : Exp16) → top error (exp_stack (exp_marks e ++ []) []) ≡ e
-exp_round e = ap (top error) (exp_back e [] [])
+pub exp_puts : (e : Exp16) → Puts exp_step (exp_marks e) e
+exp_puts (literal width value) = λ ms es. refl
+exp_puts (name text) = λ ms es. refl
+exp_puts error = λ ms es. refl
+exp_puts (member e word) = behind_one exp_step (exp_marks e) e (Member 0 word) (exp_puts e)
+exp_puts (binary operator a b) = behind_two exp_step (exp_marks a) (exp_marks b) a b (Binary operator 0 0) (exp_puts a) (exp_puts b)
+exp_puts (call a b) = behind_two exp_step (exp_marks a) (exp_marks b) a b (Call 0 0) (exp_puts a) (exp_puts b)
+exp_puts no_arguments = λ ms es. refl
+exp_puts (argument a b) = behind_two exp_step (exp_marks a) (exp_marks b) a b (Argument 0 0) (exp_puts a) (exp_puts b)
 
 abbrev pub coded_exp : Coded Exp16
-coded_exp =
-    code_by (List ExpNode) (coded_list exp_node.the_row.coded) (λ e. exp_marks e ++ []) (λ ms. top error (exp_stack ms [])) exp_round
+coded_exp = coded_tree exp_node.the_row.coded error exp_step exp_marks exp_puts
 
 -- a statement's node with the expressions that it holds
 abbrev pub StmtMark : Type 0
@@ -97,39 +70,27 @@ stmt_marks (assign a b) = (Assign 0 0, (a, b)) ∷ []
 stmt_marks (expression e) = (Expression 0, (e, error)) ∷ []
 stmt_marks (if_else e s t) = stmt_marks s ++ (stmt_marks t ++ (IfElse 0 0 0, (e, error)) ∷ [])
 
-abbrev pub stmt_step : StmtNode → Exp16 → Exp16 → List Stmt16 → List Stmt16
-stmt_step NoStatements a b ss = no_statements ∷ ss
-stmt_step (Then i j) a b ss = on_two then ss
-stmt_step (Block i) a b ss = on_one block ss
-stmt_step (Assign i j) a b ss = assign a b ∷ ss
-stmt_step (Expression i) a b ss = expression a ∷ ss
-stmt_step (IfElse c i j) a b ss = on_two (if_else a) ss
+abbrev pub node_step : StmtNode → Exp16 → Exp16 → List Stmt16 → List Stmt16
+node_step NoStatements a b ss = no_statements ∷ ss
+node_step (Then i j) a b ss = on_two then ss
+node_step (Block i) a b ss = on_one block ss
+node_step (Assign i j) a b ss = assign a b ∷ ss
+node_step (Expression i) a b ss = expression a ∷ ss
+node_step (IfElse c i j) a b ss = on_two (if_else a) ss
 
-abbrev pub stmt_stack : List StmtMark → List Stmt16 → List Stmt16
-stmt_stack [] ss = ss
-stmt_stack (m ∷ ms) ss = stmt_stack ms (stmt_step m.0 m.1.0 m.1.1 ss)
+abbrev pub stmt_step : StmtMark → List Stmt16 → List Stmt16
+stmt_step m ss = node_step m.0 m.1.0 m.1.1 ss
 
-one_stmt_back : (s : Stmt16) (m : StmtMark) (ms : List StmtMark) (ss : List Stmt16) → ((ms : List StmtMark) (ss : List Stmt16) → stmt_stack (stmt_marks s ++ ms) ss ≡ stmt_stack ms (s ∷ ss)) → stmt_stack ((stmt_marks s ++ m ∷ []) ++ ms) ss ≡ stmt_stack (m ∷ ms) (s ∷ ss)
-one_stmt_back s m ms ss back = ap (λ l. stmt_stack l ss) (append_assoc (stmt_marks s) _ ms) ∙ back _ ss
-
-two_stmts_back : (a b : Stmt16) (m : StmtMark) (ms : List StmtMark) (ss : List Stmt16) → ((ms : List StmtMark) (ss : List Stmt16) → stmt_stack (stmt_marks a ++ ms) ss ≡ stmt_stack ms (a ∷ ss)) → ((ms : List StmtMark) (ss : List Stmt16) → stmt_stack (stmt_marks b ++ ms) ss ≡ stmt_stack ms (b ∷ ss)) → stmt_stack ((stmt_marks a ++ (stmt_marks b ++ m ∷ [])) ++ ms) ss ≡ stmt_stack (m ∷ ms) (b ∷ a ∷ ss)
-two_stmts_back a b m ms ss back_a back_b =
-    ap (λ l. stmt_stack l ss) (append_assoc (stmt_marks a) _ ms) ∙ back_a _ ss ∙ one_stmt_back b m ms (a ∷ ss) back_b
-
-pub stmt_back : (s : Stmt16) (ms : List StmtMark) (ss : List Stmt16) → stmt_stack (stmt_marks s ++ ms) ss ≡ stmt_stack ms (s ∷ ss)
-stmt_back no_statements ms ss = refl
-stmt_back (then s t) ms ss = two_stmts_back s t (bare (Then 0 0)) ms ss (stmt_back s) (stmt_back t)
-stmt_back (block s) ms ss = one_stmt_back s (bare (Block 0)) ms ss (stmt_back s)
-stmt_back (assign a b) ms ss = refl
-stmt_back (expression e) ms ss = refl
-stmt_back (if_else e s t) ms ss = two_stmts_back s t (IfElse 0 0 0, (e, error)) ms ss (stmt_back s) (stmt_back t)
-
-pub stmt_round : (s : Stmt16) → top no_statements (stmt_stack (stmt_marks s ++ []) []) ≡ s
-stmt_round s = ap (top no_statements) (stmt_back s [] [])
+pub stmt_puts : (s : Stmt16) → Puts stmt_step (stmt_marks s) s
+stmt_puts no_statements = λ ms ss. refl
+stmt_puts (then s t) = behind_two stmt_step (stmt_marks s) (stmt_marks t) s t (bare (Then 0 0)) (stmt_puts s) (stmt_puts t)
+stmt_puts (block s) = behind_one stmt_step (stmt_marks s) s (bare (Block 0)) (stmt_puts s)
+stmt_puts (assign a b) = λ ms ss. refl
+stmt_puts (expression e) = λ ms ss. refl
+stmt_puts (if_else e s t) = behind_two stmt_step (stmt_marks s) (stmt_marks t) s t (IfElse 0 0 0, (e, error)) (stmt_puts s) (stmt_puts t)
 
 abbrev pub coded_stmt : Coded Stmt16
-coded_stmt =
-    code_by (List StmtMark) (coded_list (coded× stmt_node.the_row.coded (coded× coded_exp coded_exp))) (λ s. stmt_marks s ++ []) (λ ms. top no_statements (stmt_stack ms [])) stmt_round
+coded_stmt = coded_tree (coded× stmt_node.the_row.coded (coded× coded_exp coded_exp)) no_statements stmt_step stmt_marks stmt_puts
 
 abbrev pub coded_trees : Coded Trees
 coded_trees =

@@ -1,6 +1,7 @@
 -- Expressions and statements as trees, and the trees that a list of nodes stands for (this project's own form of the
 -- expressions and statements of P4_16 1.2).
 use Rattle.std.specs.Prelude.{◌≡◌, ℕ, suc, ◌<◌, ◌≤◌, Option, List, [], ◌∷◌, ◌++◌, length, slice_index_or}
+use Rattle.node_lists.specs.Trees.{tree_at, grow, AllInOrder, KeepsPlaces, Adds}
 use Rattle.p416_ast.specs.declared.node.Operator.{Operator}
 use Rattle.p416_ast.specs.declared.node.ExpNode.{ExpNode}
 use Rattle.p416_ast.specs.declared.node.ExpNode.TheVariants.{Literal, Name, Error, Member, Binary, Call, NoArguments, Argument}
@@ -29,10 +30,10 @@ pub data Stmt16 : Type 0 where
 
 -- the trees at a place
 abbrev pub exp_at : List Exp16 → ℕ → Exp16
-exp_at es i = slice_index_or es i no_arguments
+exp_at = tree_at no_arguments
 
 abbrev pub stmt_at : List Stmt16 → ℕ → Stmt16
-stmt_at ss i = slice_index_or ss i no_statements
+stmt_at = tree_at no_statements
 
 -- the tree of a node, given the trees of the nodes before it
 abbrev pub exp_of : List Exp16 → ExpNode → Exp16
@@ -55,12 +56,10 @@ stmt_of es ss (IfElse c a b) = if_else (exp_at es c) (stmt_at ss a) (stmt_at ss 
 
 -- trees, and behind them the trees of the nodes that follow
 abbrev pub grow_exps : List Exp16 → List ExpNode → List Exp16
-grow_exps es [] = es
-grow_exps es (n ∷ ns) = grow_exps (es ++ exp_of es n ∷ []) ns
+grow_exps = grow exp_of
 
 abbrev pub grow_stmts : List Exp16 → List Stmt16 → List StmtNode → List Stmt16
-grow_stmts es ss [] = ss
-grow_stmts es ss (n ∷ ns) = grow_stmts es (ss ++ stmt_of es ss n ∷ []) ns
+grow_stmts es = grow (stmt_of es)
 
 -- what contracts see of lists of nodes: the tree of each node
 pub record Trees : Type 0 where
@@ -92,12 +91,10 @@ StmtInOrder m n (IfElse c a b) = (c < m) × (a < n) × (b < n)
 
 -- each child stands before its parent
 abbrev pub ExpsInOrder : ℕ → List ExpNode → Type 0
-ExpsInOrder n [] = Unit {0}
-ExpsInOrder n (x ∷ xs) = ExpInOrder n x × ExpsInOrder (suc n) xs
+ExpsInOrder = AllInOrder ExpInOrder
 
 abbrev pub StmtsInOrder : ℕ → ℕ → List StmtNode → Type 0
-StmtsInOrder m n [] = Unit {0}
-StmtsInOrder m n (x ∷ xs) = StmtInOrder m n x × StmtsInOrder m (suc n) xs
+StmtsInOrder m = AllInOrder (StmtInOrder m)
 
 pub record InOrder (es : List ExpNode) (ss : List StmtNode) : Type 0 where
   pub exps : ExpsInOrder 0 es
@@ -107,17 +104,21 @@ pub record InOrder (es : List ExpNode) (ss : List StmtNode) : Type 0 where
 pub record Keeps (old new : Trees) : Type 0 where
   pub exps_len : length old.exps ≤ length new.exps
   pub stmts_len : length old.stmts ≤ length new.stmts
-  pub exps : (i : ℕ) → i < length old.exps → exp_at new.exps i ≡ exp_at old.exps i
-  pub stmts : (i : ℕ) → i < length old.stmts → stmt_at new.stmts i ≡ stmt_at old.stmts i
+  pub exps : KeepsPlaces no_arguments old.exps new.exps
+  pub stmts : KeepsPlaces no_statements old.stmts new.stmts
 
--- one more expression, at the place i
+-- one more expression, at the place i: it stands behind the earlier ones, and nothing else is added
 pub record AddsExp (old new : Trees) (i : ℕ) (e : Exp16) : Type 0 where
   pub keeps : Keeps old new
   pub place : i < length new.exps
   pub tree : exp_at new.exps i ≡ e
+  pub exps : Adds old.exps new.exps i e
+  pub stmts : new.stmts ≡ old.stmts
 
--- one more statement, at the place i
+-- one more statement, at the place i: it stands behind the earlier ones, and nothing else is added
 pub record AddsStmt (old new : Trees) (i : ℕ) (s : Stmt16) : Type 0 where
   pub keeps : Keeps old new
   pub place : i < length new.stmts
   pub tree : stmt_at new.stmts i ≡ s
+  pub exps : new.exps ≡ old.exps
+  pub stmts : Adds old.stmts new.stmts i s
