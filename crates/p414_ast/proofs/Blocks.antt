@@ -1,6 +1,6 @@
 -- The four words of the grammar whose trees share one type, told apart: what a tree is that stands as a list of
 -- statements, as a statement, behind an `if` block, or as a list of branches.
-use Rattle.std.proofs.Common.{◌≡◌, ℕ, Bool, true, List, ap}
+use Rattle.std.proofs.Common.{◌≡◌, ℕ, true, List}
 use Rattle.std.proofs.lemmas.Bool.{and_parts}
 use Rattle.p414_ast.specs.declared.node.Label.{Label}
 use Rattle.p414_ast.specs.declared.syntax.Decl.TheVariants as decl

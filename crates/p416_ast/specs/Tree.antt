@@ -1,6 +1,6 @@
 -- Expressions and statements as trees, and the trees that a list of nodes stands for (this project's own form of the
 -- expressions and statements of P4_16 1.2).
-use Rattle.std.specs.Prelude.{◌≡◌, ℕ, suc, ◌<◌, ◌≤◌, Option, List, [], ◌∷◌, ◌++◌, length, slice_index_or}
+use Rattle.std.specs.Prelude.{◌≡◌, ℕ, ◌<◌, ◌≤◌, Option, List, [], length}
 use Rattle.node_lists.specs.Trees.{tree_at, grow, AllInOrder, KeepsPlaces, Adds}
 use Rattle.p416_ast.specs.declared.node.Operator.{Operator}
 use Rattle.p416_ast.specs.declared.node.ExpNode.{ExpNode}
