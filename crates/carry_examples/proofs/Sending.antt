@@ -6,7 +6,8 @@ use Rattle.fabric.specs.declared.packets.Arrival.{Arrival}
 use Rattle.fabric.specs.declared.packets.Sent.{Sent}
 use Rattle.p4x_cmd.specs.Entries.{no_entries}
 use Rattle.p4x_cmd.specs.Meaning14.{Run14, pass14, signature14}
-use Rattle.p4x_cmd.specs.Passes.{Pass, Ran, sent_from}
+use Rattle.run_stream.specs.Runs.{Ran}
+use Rattle.p4x_cmd.specs.Passes.{Pass, sent_from}
 use Rattle.p4x_cmd.proofs.RunLaws.{run_left, run_more, run_done}
 use Rattle.carry_examples.specs.declared.plain.Leaving.{Leaving}
 use Rattle.carry_examples.specs.Plain.{IsProgram, IsRun14, sent_of}

@@ -14,10 +14,12 @@ use Rattle.file_work.specs.declared.stop.Stop.{Stop}
 use Rattle.file_work.specs.declared.stop.Stop.TheVariants.{Fault, Usage, Program, Entries, Refused, Limit, Memory}
 use Rattle.file_work.proofs.Ends.{stop_in, not_done}
 use Rattle.p4x_cmd.specs.Calls.{CaptureIs, GivesNothing, IsOver}
-use Rattle.p4x_cmd.specs.Carry.{Reports, capture_limit, stopped, run_reports, reading_reports, capture_reports}
+use Rattle.run_stream.specs.Captured.{Reports, capture_limit, stopped, run_reports, reading_reports}
+use Rattle.p4x_cmd.specs.Carry.{capture_reports}
 use Rattle.p4x_cmd.specs.Meaning16.{Run16}
-use Rattle.p4x_cmd.specs.Passes.{Ran}
-use Rattle.p4x_cmd.specs.Reports.{sent_lines, report_of, carried_line_of}
+use Rattle.run_stream.specs.Runs.{Ran}
+use Rattle.run_stream.specs.Reports.{sent_lines, report_of}
+use Rattle.p4x_cmd.specs.Reports.{carried_line_of, lined}
 use Rattle.p4x_cmd.specs.Runs.{this_run}
 use Rattle.file_work.specs.Stops.{code_of}
 
@@ -35,15 +37,15 @@ abbrev pub capture_stop : Option (List ℕ) → Option Stop
 capture_stop None = Some Fault
 capture_stop (Some octets) = limited_stop octets (nat_lt capture_limit (length octets))
 
-run_stop : (found : Option Refusal) (head : Option Head) (arrivals : List Arrival) (run : Ran) → stop_in (run_reports found head arrivals run).end ≡ refused_by found
+run_stop : (found : Option Refusal) (head : Option Head) (arrivals : List Arrival) (run : Ran) → stop_in (lined (run_reports found head arrivals run).end) ≡ refused_by found
 run_stop None head arrivals run = refl
 run_stop (Some fault) head arrivals run = refl
 
-pub reports_stop : (s : Syntax16) (ports : List ℕ) (o : Option (List ℕ)) → stop_in (capture_reports s ports o).end ≡ capture_stop o
+pub reports_stop : (s : Syntax16) (ports : List ℕ) (o : Option (List ℕ)) → stop_in (lined (capture_reports s ports o).end) ≡ capture_stop o
 reports_stop s ports None = refl
 reports_stop s ports (Some octets) = by_limit (nat_lt capture_limit (length octets))
   where
-    by_limit : (over : Bool) → stop_in (if over then stopped (Limit Capture) else reading_reports s ports (reading_of octets)).end ≡ limited_stop octets over
+    by_limit : (over : Bool) → stop_in (lined (if over then stopped (Limit Capture) else reading_reports (this_run s) ports (reading_of octets)).end) ≡ limited_stop octets over
     by_limit true = refl
     by_limit false = run_stop _ _ _ _
 
@@ -90,7 +92,7 @@ pub record Whole (s : Syntax16) (ports : List ℕ) (file : Option (List ℕ)) (r
   pub whole : IsCapture octets ports link nano arrivals
   pub sent : r.sent ≡ sent_bytes_of link nano arrivals (this_run s arrivals).sent
   pub report : r.report ≡ report_of (length arrivals) (this_run s arrivals).sent ((this_run s arrivals).cut % 2 ^ 64) ((this_run s arrivals).work % 2 ^ 64)
-  pub end : r.end ≡ Ok (carried_line_of (length arrivals) (length (this_run s arrivals).sent) ((this_run s arrivals).cut % 2 ^ 64))
+  pub end : lined r.end ≡ Ok (carried_line_of (length arrivals) (length (this_run s arrivals).sent) ((this_run s arrivals).cut % 2 ^ 64))
 
 -- what no rule refuses has a file header
 headed : (fault : Option Refusal) (head : Option Head) (left : List ℕ) → refusal_by fault head left ≡ None → (h : Head) × (head ≡ Some h)
@@ -116,19 +118,19 @@ module _ (s : Syntax16) (ports octets : List ℕ) where
     end = refl;
   }
 
-  whole_reading : length octets ≤ capture_limit → (found : Option Refusal) → refusal octets ≡ found → 0 ≡ code_of (run_reports found (reading_of octets).head arrivals_in (this_run s arrivals_in)).end
+  whole_reading : length octets ≤ capture_limit → (found : Option Refusal) → refusal octets ≡ found → 0 ≡ code_of (lined (run_reports found (reading_of octets).head arrivals_in (this_run s arrivals_in)).end)
       → Whole s ports (Some octets) (run_reports found (reading_of octets).head arrivals_in (this_run s arrivals_in))
   whole_reading fits (Some fault) is done = absurd (not_done (Refused fault) done)
   whole_reading fits None is done =
       let there = headed (reading_of octets).fault (reading_of octets).head (reading_of octets).left is in
       subst (λ (x : Option Head). Whole s ports (Some octets) (run_reports None x arrivals_in (this_run s arrivals_in))) (sym there.1) (whole_run fits there.0 is there.1)
 
-  whole_octets : (over : Bool) → nat_lt capture_limit (length octets) ≡ over → 0 ≡ code_of (if over then stopped (Limit Capture) else reading_reports s ports (reading_of octets)).end
-      → Whole s ports (Some octets) (if over then stopped (Limit Capture) else reading_reports s ports (reading_of octets))
+  whole_octets : (over : Bool) → nat_lt capture_limit (length octets) ≡ over → 0 ≡ code_of (lined (if over then stopped (Limit Capture) else reading_reports (this_run s) ports (reading_of octets)).end)
+      → Whole s ports (Some octets) (if over then stopped (Limit Capture) else reading_reports (this_run s) ports (reading_of octets))
   whole_octets true test done = absurd (not_done (Limit Capture) done)
   whole_octets false test done = whole_reading (grind (arith, nat_tests)) (refusal octets) refl done
 
-pub whole_capture : (s : Syntax16) (ports : List ℕ) (file : Option (List ℕ)) → 0 ≡ code_of (capture_reports s ports file).end → Whole s ports file (capture_reports s ports file)
+pub whole_capture : (s : Syntax16) (ports : List ℕ) (file : Option (List ℕ)) → 0 ≡ code_of (lined (capture_reports s ports file).end) → Whole s ports file (capture_reports s ports file)
 whole_capture s ports None done = absurd (not_done Fault done)
 whole_capture s ports (Some octets) done = whole_octets s ports octets (nat_lt capture_limit (length octets)) refl done
 
@@ -204,14 +206,14 @@ empty_run s ports fault (Some other) None (one ∷ records) is none rest = absur
 empty_run s ports fault (Some other) None [] is none rest = (refl, ap sent_lines (no_run s))
 
 empty_within : (s : Syntax16) (ports octets : List ℕ) (over : Bool) → nat_lt capture_limit (length octets) ≡ over → (rule : ℕ) → rule ≤ 3 → length octets ≤ capture_limit → refusal octets ≡ Some (refused rule)
-    → Empty (if over then stopped (Limit Capture) else reading_reports s ports (reading_of octets))
+    → Empty (if over then stopped (Limit Capture) else reading_reports (this_run s) ports (reading_of octets))
 empty_within s ports octets true test rule early fits is = (refl, refl)
 empty_within s ports octets false test rule early fits is =
     let none = early_reading rule early octets is in
     empty_run s ports (refused rule) (refusal octets) (reading_of octets).head (reading_of octets).records is none.0 none.1
 
 empty_over : (s : Syntax16) (ports octets : List ℕ) (over : Bool) → nat_lt capture_limit (length octets) ≡ over → capture_limit < length octets
-    → Empty (if over then stopped (Limit Capture) else reading_reports s ports (reading_of octets))
+    → Empty (if over then stopped (Limit Capture) else reading_reports (this_run s) ports (reading_of octets))
 empty_over s ports octets true test above = (refl, refl)
 empty_over s ports octets false test above = let below : length octets ≤ capture_limit = grind (arith, nat_tests) in absurd (omega arith)
 

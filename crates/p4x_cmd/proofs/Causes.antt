@@ -18,7 +18,8 @@ use Rattle.file_work.proofs.Laws.{all_part, IsDone, left_fronts, left_ends, left
 use Rattle.p4x_cmd.specs.declared.one_table.OneTable14.{OneTable14}
 use Rattle.p4x_cmd.specs.Calls.{OnTold, AreTold, Carried, Done, CarryStatuses, Statuses, AcceptsAll, Usages, CarryLeft, Left, FilesLeft, Translated, IsEnd, PacketsFit, WorksFor, inputs_in, outputs_in, Accepts, RefusesCapture, OverCapture}
 use Rattle.p4x_cmd.specs.Carries.{SameRuns}
-use Rattle.p4x_cmd.specs.Carry.{CarryDue, ProgramIs, Begins, StopsBefore, Written, Reports, capture_reports, delivered}
+use Rattle.run_stream.specs.Captured.{Reports}
+use Rattle.p4x_cmd.specs.Carry.{CarryDue, ProgramIs, Begins, StopsBefore, Written, capture_reports, delivered}
 use Rattle.p4x_cmd.specs.Entries.{no_entries}
 use Rattle.p4x_cmd.specs.Forms14.{Reads14}
 use Rattle.p4x_cmd.specs.Meaning14.{signature14}

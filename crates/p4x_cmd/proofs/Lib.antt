@@ -12,7 +12,6 @@ pub mod Named
 pub mod Packets
 pub mod Pass16
 pub mod Phases
-pub mod Pieces
 pub mod Pieces16
 pub mod Reading14
 pub mod Reading16
@@ -22,8 +21,6 @@ pub mod Sizes
 pub mod Spaced
 pub mod Spelling14
 pub mod Statuses
-pub mod StreamRuns
-pub mod Streams
 pub mod Taking
 pub mod Typing16
 pub mod Writing

@@ -11,19 +11,14 @@ use Rattle.p4x_cmd.specs.declared.one_table.Field.{Field}
 use Rattle.p4x_cmd.specs.declared.one_table.OneTable16.{OneTable16}
 use Rattle.p4x_cmd.specs.Forms16.{program16, bit_field}
 use Rattle.p4x_cmd.specs.Entries.{no_entries, fill_at}
-use Rattle.p4x_cmd.specs.Passes.{PassEnd, dropped, leaves, Pass, Ran, run_from, followed, sent_from}
+use Rattle.run_stream.specs.Runs.{Ran, followed}
+use Rattle.run_stream.specs.Runs as running
+use Rattle.fabric.specs.declared.packets.Sent.{Sent}
+use Rattle.p4x_cmd.specs.Passes.{PassEnd, dropped, leaves, Pass, run_from, sent_from}
 use Rattle.p4x_cmd.specs.Meaning16.{pass16, Run16, signature16}
-use Rattle.p4x_cmd.specs.internal.Plain.{plain_pass, IsSized}
+use Rattle.p4x_cmd.specs.internal.Plain.{plain_pass, no_store, own_pass, own_outcome, outs_of, IsSized}
 use Rattle.p4x_cmd.specs.Runs.{default_bound, this_run}
 use Rattle.p4x_cmd.proofs.Pass16.{pass16_is, no_default, TakesAction}
-
--- the pass of the program without entries
-unfoldable pub own_pass : OneTable16 → Arrival → Pass
-own_pass q a = pass16 (program16 q) (no_entries (signature16 (program16 q))) a
-
--- the store of a program that declares no object
-abbrev pub no_store : Contents
-no_store = record { shapes = []; cells = [] }
 
 -- the run over the arrivals from a number on, for any pass
 abbrev pub run_left : (Arrival → Pass) → ℕ → List Arrival → Ran
@@ -44,21 +39,6 @@ pub run_done : (f : Arrival → Pass) (number : ℕ) (arrivals : List Arrival) �
     → run_left f number arrivals ≡ record { sent = []; store = no_store; cut = 0; work = 0 }
 run_done f number arrivals past = ap (run_from f default_bound no_store number) (drop_all number arrivals past)
 
--- no item is cut
-pub run_cut : (f : Arrival → Pass) (number : ℕ) (arrivals : List Arrival) → (run_from f default_bound no_store number arrivals).cut ≡ 0
-run_cut f number [] = refl
-run_cut f number (a ∷ arrivals) = ap (λ (n : ℕ). 0 + n) (run_cut f (number + 1) arrivals)
-
--- a packet leaves at most once
-end_once : (number : ℕ) (end : PassEnd) → length (sent_from number end) ≤ 1
-end_once number dropped = omega arith
-end_once number (leaves port octets) = omega arith
-
-pub run_sent : (f : Arrival → Pass) (number : ℕ) (arrivals : List Arrival) → length (run_from f default_bound no_store number arrivals).sent ≤ length arrivals
-run_sent f number [] = omega arith
-run_sent f number (a ∷ arrivals) =
-    omega (arith, run_sent f (number + 1) arrivals, end_once number (f a).end, length-append (sent_from number (f a).end) (run_from f default_bound no_store (number + 1) arrivals).sent)
-
 pub sum_of_widths : (fields : List Field) → sum (map (λ x. x.width) (map bit_field fields)) ≡ sum_by (λ f. f.width) fields
 sum_of_widths [] = refl
 sum_of_widths (f ∷ fields) =
@@ -77,3 +57,18 @@ own_pass_is q a sized octets =
 pub run_is : (q : OneTable16) (arrivals : List Arrival) → this_run (program16 q) arrivals ≡ run_left (own_pass q) 0 arrivals
 unfolding Run16 own_pass
 run_is q arrivals = refl
+
+sent_is : (number : ℕ) (end : PassEnd) → sent_from number end ≡ map (running.numbered number) (outs_of end)
+sent_is number dropped = refl
+sent_is number (leaves port octets) = refl
+
+run_by : (q : OneTable16) (number : ℕ) (arrivals : List Arrival) → run_from (own_pass q) default_bound no_store number arrivals ≡ running.run_from (own_outcome q) number no_store arrivals
+run_by q number [] = refl
+run_by q number (a ∷ arrivals) =
+    ap (λ (r : Ran). followed (once (own_pass q) number a) r) (run_by q (number + 1) arrivals)
+    ∙ ap (λ (l : List Sent). let one : Ran = record { sent = l; store = no_store; cut = 0; work = (own_pass q a).work } in followed one (running.run_from (own_outcome q) (number + 1) no_store arrivals))
+    (sent_is number (own_pass q a).end)
+
+-- and that of the runner
+pub run_of_is : (q : OneTable16) (arrivals : List Arrival) → running.run_of (own_outcome q) no_store arrivals ≡ this_run (program16 q) arrivals
+run_of_is q arrivals = sym (run_is q arrivals ∙ run_by q 0 arrivals)

@@ -17,12 +17,14 @@ use Rattle.match_core.specs.Signatures.{IsSignature}
 use Rattle.match_core.specs.Fits.{Fits}
 use Rattle.p4x_cmd.specs.declared.one_table.OneTable14.{OneTable14}
 use Rattle.p4x_cmd.specs.Carries.{SameRuns}
-use Rattle.p4x_cmd.specs.Carry.{CarryDue, ProgramIs, HasProgram, Begins, StopsBefore, Written, entries_stop, ports_end, capture_limit, capture_reports}
+use Rattle.run_stream.specs.Captured.{capture_limit}
+use Rattle.p4x_cmd.specs.Carry.{CarryDue, ProgramIs, HasProgram, Begins, StopsBefore, Written, entries_stop, ports_end, capture_reports}
 use Rattle.p4x_cmd.specs.Entries.{no_entries}
 use Rattle.p4x_cmd.specs.Forms14.{Reads14}
 use Rattle.p4x_cmd.specs.Meaning16.{signature16}
-use Rattle.p4x_cmd.specs.Passes.{Ran}
-use Rattle.p4x_cmd.specs.Reports.{report_of, carried_line_of}
+use Rattle.run_stream.specs.Runs.{Ran}
+use Rattle.run_stream.specs.Reports.{report_of}
+use Rattle.p4x_cmd.specs.Reports.{carried_line_of}
 use Rattle.p4x_cmd.specs.Runs.{this_run, this_run14}
 
 -- The premise of what is said of content: the words are a form of this command, and the desk tells what its input files

@@ -8,7 +8,7 @@ use Rattle.fabric.specs.declared.packets.Arrival.{Arrival}
 use Rattle.p4x_cmd.specs.declared.one_table.OneTable14.{OneTable14}
 use Rattle.p4x_cmd.specs.Meaning14.{Run14, signature14}
 use Rattle.p4x_cmd.specs.Meaning16.{Run16, signature16}
-use Rattle.p4x_cmd.specs.Passes.{Ran}
+use Rattle.run_stream.specs.Runs.{Ran}
 
 -- equal packets on equal ports in the same order, equal stores, equally many items cut
 pub record SameRuns (a b : Ran) : Type 0 where

@@ -1,13 +1,8 @@
 -- The command `carry`: what is due for what its input files hold (this project's own).
-use Rattle.std.specs.Prelude.{◌≡◌, ◌⊎◌, ◌<◌, ◌≤◌, ◌%◌, ◌^◌, ℕ, nat_lt, if◌then◌else◌, true, List, [], ◌∷◌, length, Option, Some, None, Result, Ok, Err}
+use Rattle.std.specs.Prelude.{◌≡◌, ◌⊎◌, ◌<◌, ◌≤◌, ℕ, nat_lt, if◌then◌else◌, true, List, [], ◌∷◌, length, Option, Some, None, Result, Ok, Err}
 use Rattle.p416_ast.specs.declared.syntax.Syntax16.{Syntax16}
 use Rattle.p4x_fault.specs.declared.Fault.{Fault as Refusal}
-use Rattle.fabric.specs.declared.packets.Arrival.{Arrival}
-use Rattle.fabric.specs.declared.packets.Sent.{Sent}
-use Rattle.pcap_io.specs.declared.head.Head.{Head}
-use Rattle.pcap_io.specs.Captures.{Reading, reading_of, refusal_in, arrivals_of}
 use Rattle.pcap_io.specs.Ports.{ports_of}
-use Rattle.pcap_io.specs.Sent.{sent_bytes_of}
 use Rattle.p4x_cmd.specs.declared.one_table.OneTable14.{OneTable14}
 use Rattle.file_work.specs.declared.stop.Limited.TheVariants as limited
 use Rattle.file_work.specs.declared.stop.Stop.{Stop}
@@ -18,18 +13,14 @@ use Rattle.p4x_cmd.specs.FirstCut.{is_first_cut}
 use Rattle.p4x_cmd.specs.Forms14.{Reads14}
 use Rattle.p4x_cmd.specs.Forms16.{Reads16}
 use Rattle.file_work.specs.Works.{Held, Due}
-use Rattle.p4x_cmd.specs.Passes.{Ran}
-use Rattle.p4x_cmd.specs.Reports.{sent_lines, report_of, carried_line_of}
+use Rattle.run_stream.specs.Captured.{Reports, reports_over}
+use Rattle.p4x_cmd.specs.Reports.{lined}
 use Rattle.p4x_cmd.specs.Runs.{this_run}
 use Rattle.command_words.specs.Words.{CarryFiles}
 
 -- the greatest length in octets of a program
 abbrev pub program_limit : ℕ
 program_limit = 1048576
-
--- that of a capture
-abbrev pub capture_limit : ℕ
-capture_limit = 1073741824
 
 -- that of a ports file
 abbrev pub ports_limit : ℕ
@@ -97,47 +88,9 @@ pub record Written (p : OneTable14) (text : List ℕ) (s : Syntax16) : Type 0 wh
   pub whole : is_first_cut s ≡ true
   pub carries : Carries p s
 
--- what a capture comes to: the sent file, the report, and the line of the command or why it stops
-pub record Reports : Type 0 where
-  pub sent : List ℕ
-  pub report : List ℕ
-  pub end : Result (List ℕ) Stop
-
--- the sent file of a capture with this file header; an empty one where no file header is taken
-abbrev pub sent_file : Option Head → List Arrival → List Sent → List ℕ
-sent_file None arrivals sent = []
-sent_file (Some head) arrivals sent = sent_bytes_of head.link head.nano arrivals sent
-
--- A run over the packets of a capture that is whole, or over those in front of what is refused: then the report has no
--- end part.
-abbrev pub run_reports : Option Refusal → Option Head → List Arrival → Ran → Reports
-run_reports None head arrivals run = record {
-  sent = sent_file head arrivals run.sent;
-  report = report_of (length arrivals) run.sent (run.cut % 2 ^ 64) (run.work % 2 ^ 64);
-  end = Ok (carried_line_of (length arrivals) (length run.sent) (run.cut % 2 ^ 64));
-}
-run_reports (Some fault) head arrivals run = record {
-  sent = sent_file head arrivals run.sent;
-  report = sent_lines run.sent;
-  end = Err (Refused fault);
-}
-
--- what octets come to that are read as this, with packets on these ports
-abbrev pub reading_reports : Syntax16 → List ℕ → Reading → Reports
-reading_reports s ports reading =
-    let arrivals = arrivals_of ports reading.records in
-    run_reports (refusal_in reading) reading.head arrivals (this_run s arrivals)
-
--- nothing was sent
-abbrev pub stopped : Stop → Reports
-stopped stop = record { sent = []; report = []; end = Err stop }
-
--- what the file of the capture comes to
+-- what the file of the capture comes to, with packets on these ports
 abbrev pub capture_reports : Syntax16 → List ℕ → Option (List ℕ) → Reports
-capture_reports s ports None = stopped Fault
-capture_reports s ports (Some octets) =
-    if nat_lt capture_limit (length octets) then stopped (Limit limited.Capture)
-    else reading_reports s ports (reading_of octets)
+capture_reports s ports file = reports_over (this_run s) ports file
 
 -- nothing is written
 abbrev pub untouched : CarryFiles → Stop → Due
@@ -147,7 +100,7 @@ untouched f stop = record { outs = (f.text, None) ∷ (f.sent, None) ∷ (f.repo
 abbrev pub delivered : CarryFiles → List ℕ → Reports → Due
 delivered f text r = record {
   outs = (f.text, Some text) ∷ (f.sent, Some r.sent) ∷ (f.report, Some r.report) ∷ [];
-  end = r.end;
+  end = lined r.end;
 }
 
 -- What is due: the first cause in the order of the work, or a text that reads as one program, with the files of this

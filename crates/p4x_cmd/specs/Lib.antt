@@ -5,7 +5,7 @@
 --   Calls      what each clause says: `Carried`, the cause of each status, the line, and what stands in the files
 --   Carry      what is due for the files that `carry` reads: what stops it, and the written text with this run's files
 --   Runs       the run over the capture
---   Reports    the report and the line of a run
+--   Reports    the line of a run (`run_stream` says what its files are)
 --
 -- What the written text is:
 --   Carries    both programs do the same on all entries, under every bound, for every list of arrivals

@@ -12,7 +12,8 @@ use Rattle.match_core.specs.Stores.{first_store}
 use Rattle.p4x_cmd.specs.declared.one_table.OneTable14.{OneTable14}
 use Rattle.fabric.specs.declared.packets.Arrival.{Arrival}
 use Rattle.p4x_cmd.specs.Headers.{numbers_in, bits_in, octets_in, zeros}
-use Rattle.p4x_cmd.specs.Passes.{PassEnd, dropped, leaves, Pass, Ran, run_of}
+use Rattle.run_stream.specs.Runs.{Ran}
+use Rattle.p4x_cmd.specs.Passes.{PassEnd, dropped, leaves, Pass, run_of}
 use Rattle.p4x_cmd.specs.Entries.{fill_at}
 
 -- the widths of the header's fields

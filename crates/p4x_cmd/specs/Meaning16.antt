@@ -28,7 +28,8 @@ use Rattle.p416_ast.specs.declared.control.ActionName.{ActionName}
 use Rattle.p416_ast.specs.declared.control.ActionName.TheVariants.{Declared, NoAction}
 use Rattle.fabric.specs.declared.packets.Arrival.{Arrival}
 use Rattle.p4x_cmd.specs.Headers.{numbers_in, bits_in, octets_in, zeros}
-use Rattle.p4x_cmd.specs.Passes.{dropped, leaves, Pass, Ran, run_of}
+use Rattle.run_stream.specs.Runs.{Ran}
+use Rattle.p4x_cmd.specs.Passes.{dropped, leaves, Pass, run_of}
 use Rattle.p4x_cmd.specs.Entries.{fill_at}
 
 -- a member of H, the struct of headers: its name, and the names and widths of its header's fields

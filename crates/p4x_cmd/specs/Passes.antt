@@ -1,9 +1,10 @@
 -- The queue of passes for programs that make no further items and declare no object, and what a run over a list of
 -- arrivals gives (this project's own).
-use Rattle.std.specs.Prelude.{ℕ, zero, suc, ◌+◌, List, [], ◌∷◌, ◌++◌}
+use Rattle.std.specs.Prelude.{ℕ, zero, suc, ◌+◌, List, [], ◌∷◌}
 use Rattle.state_store.specs.State.{Contents}
 use Rattle.fabric.specs.declared.packets.Arrival.{Arrival}
 use Rattle.fabric.specs.declared.packets.Sent.{Sent}
+use Rattle.run_stream.specs.Runs.{Ran, followed}
 
 -- what a pass ends in: the packet is dropped, or it leaves on a port
 pub data PassEnd : Type 0 where
@@ -13,13 +14,6 @@ pub data PassEnd : Type 0 where
 -- a pass: its end, and how many statements and transitions began in it
 pub record Pass : Type 0 where
   pub end : PassEnd
-  pub work : ℕ
-
--- what a run gives: the packets sent in order, the store, how many items were cut, and the work
-pub record Ran : Type 0 where
-  pub sent : List Sent
-  pub store : Contents
-  pub cut : ℕ
   pub work : ℕ
 
 -- the packet that leaves, under the number of its arrival
@@ -34,10 +28,6 @@ served pass zero store number arrival = record { sent = []; store = store; cut =
 served pass (suc bound) store number arrival =
     let p = pass arrival in
     record { sent = sent_from number p.end; store = store; cut = 0; work = p.work }
-
--- one run, and another behind it
-abbrev pub followed : Ran → Ran → Ran
-followed a b = record { sent = a.sent ++ b.sent; store = b.store; cut = a.cut + b.cut; work = a.work + b.work }
 
 -- The run over arrivals that are numbered from a number on. No pass changes the store.
 abbrev pub run_from : (Arrival → Pass) → ℕ → Contents → ℕ → List Arrival → Ran

@@ -1,33 +1,15 @@
--- What a run writes beside the file of sent packets: the report, and the line of the command.
-use Rattle.std.specs.Prelude.{ℕ, List, [], ◌∷◌, ◌++◌, length, codes}
-use Rattle.std.specs.List.{flat_map}
+-- The line that the command prints.
+use Rattle.std.specs.Prelude.{ℕ, List, [], ◌∷◌, ◌++◌, codes, Result, Ok, Err}
 use Rattle.std.specs.Fmt.{decimal}
-use Rattle.fabric.specs.declared.packets.Sent.{Sent}
+use Rattle.file_work.specs.declared.stop.Stop.{Stop}
+use Rattle.run_stream.specs.declared.counts.Counts.{Counts}
 
--- a word, a blank, a number in decimal and a line feed
-abbrev pub count_line : List ℕ → ℕ → List ℕ
-count_line word n = word ++ (32 ∷ decimal n) ++ 10 ∷ []
-
--- the line of a sent packet: its port and how many octets it has
-abbrev pub sent_line : Sent → List ℕ
-sent_line packet = (codes "sent " ++ decimal packet.port) ++ (32 ∷ decimal (length packet.octets)) ++ 10 ∷ []
-
--- the records' part of the report: a line for each sent packet in order
-abbrev pub sent_lines : List Sent → List ℕ
-sent_lines sent = flat_map sent_line sent
-
--- The end part of the report: how many packets came in and went out, how many items the bound on passes cut, and the
--- work. It is that of a program without counters and registers, which have no lines yet.
-abbrev pub end_lines : ℕ → ℕ → ℕ → ℕ → List ℕ
-end_lines arrivals departures cut work =
-    count_line (codes "in") arrivals
-    ++ (count_line (codes "out") departures ++ (count_line (codes "cut") cut ++ count_line (codes "work") work))
-
--- the report of a run over a whole capture
-abbrev pub report_of : ℕ → List Sent → ℕ → ℕ → List ℕ
-report_of arrivals sent cut work = sent_lines sent ++ end_lines arrivals (length sent) cut work
-
--- the line that the command prints: packets in, packets out, and what was cut
+-- packets in, packets out, and what was cut
 abbrev pub carried_line_of : ℕ → ℕ → ℕ → List ℕ
 carried_line_of arrivals departures cut =
     (codes "carried " ++ decimal arrivals) ++ (32 ∷ decimal departures) ++ (32 ∷ decimal cut) ++ 10 ∷ []
+
+-- the end of the command by that of its run
+abbrev pub lined : Result Counts Stop → Result (List ℕ) Stop
+lined (Ok counts) = Ok (carried_line_of counts.arrivals counts.sent counts.cut)
+lined (Err stop) = Err stop

@@ -3,6 +3,5 @@ pub mod Lowering
 pub mod Phases
 pub mod Places14
 pub mod Plain
-pub mod Streams
 pub mod Views
 pub mod Written

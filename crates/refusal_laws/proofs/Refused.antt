@@ -14,7 +14,7 @@ use Rattle.p4x_cmd.specs.Headers.{numbers_in, bits_in, octets_in}
 use Rattle.p4x_cmd.specs.internal.Lowering.{lowered}
 use Rattle.p4x_cmd.specs.Meaning14.{Run14, signature14, widths14}
 use Rattle.p4x_cmd.specs.Meaning16.{Run16}
-use Rattle.p4x_cmd.specs.Passes.{Ran}
+use Rattle.run_stream.specs.Runs.{Ran}
 use Rattle.p4x_cmd.proofs.Carrying.{carries_is}
 use Rattle.p4x_cmd.proofs.Filling.{no_entries_fit}
 use Rattle.p4x_cmd.proofs.HeaderLaws.{whole_again}

@@ -4,11 +4,12 @@ use Rattle.p4x_io.specs.Desk.{grown}
 use Rattle.file_work.specs.declared.stop.Stop.{Stop}
 use Rattle.file_work.specs.Phases.{Told, GrownByFront}
 use Rattle.file_work.specs.Works.{IsLoose}
-use Rattle.p4x_cmd.specs.Carry.{Reports}
+use Rattle.run_stream.specs.Captured.{Reports}
+use Rattle.p4x_cmd.specs.Reports.{lined}
 
 -- The sent file and the report have grown by what the capture comes to, and the work ended as it says; or it ended with
 -- a fault or want of memory, and they have grown by fronts of that.
 abbrev pub Delivers : Reports → Result (List ℕ) Stop → Told → Told → Told → Told → Type 0
 Delivers r end sent sent' report report' =
-    ((end ≡ r.end) × (sent' ≡ grown sent r.sent) × (report' ≡ grown report r.report))
+    ((end ≡ lined r.end) × (sent' ≡ grown sent r.sent) × (report' ≡ grown report r.report))
     ⊎ (IsLoose end × GrownByFront sent r.sent sent' × GrownByFront report r.report report')

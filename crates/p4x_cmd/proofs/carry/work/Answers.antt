@@ -86,9 +86,6 @@ begin-requires-clause-text_report g c = (apart_of c.args.names.now).1.1.0
 pub begin-requires-clause-sent_report : goal.begin-requires-clause-sent_report
 begin-requires-clause-sent_report g c = (apart_of c.args.names.now).2.1.0
 
-pub run_capture-requires-clause-apart : goal.run_capture-requires-clause-apart
-run_capture-requires-clause-apart g c = (apart_of c.args.names.now).2.1.0
-
 pub returns-clause-cause : goal.returns-clause-cause
 returns-clause-cause g c =
     run_blames (files_of c.args.names.now) _ _ _ _ _ _ c.prepare.ensures.moves c.begin.ensures.moves c.run_capture.ensures.cause

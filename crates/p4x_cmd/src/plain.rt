@@ -1,0 +1,105 @@
+// The written program as a runner of packets.
+ghost use Rattle.std.specs.Prelude.{◌≡◌, ◌≤◌, ◌+◌, ◌%◌, ◌^◌, sum_by, IfOk, OnOk};
+ghost use Rattle.state_store.specs.Ports.{drop_port};
+ghost use Rattle.fabric.specs.Numbers.{IsArrival};
+ghost use Rattle.p4x_cmd.specs.declared.one_table.OneTable16.{OneTable16 as Program};
+ghost use Rattle.p4x_cmd.specs.internal.Plain.{plain_pass, own_outcome, no_store, outs_of, end_of, are_few, IsSized};
+
+use crate::one_table::{Field, OneTable16};
+use fabric::{Arrival, Fate, Out};
+use p4x_bits::{Octets, OutOfMemory, Rows};
+use run_stream::Runner;
+use state_store::DROP_PORT;
+use std::alloc::Global;
+
+/// A program of the one-table form that runs packets, without entries.
+#[derive(Drop)]
+pub struct Plain<'a> {
+    alloc: Global,
+    program: &'a OneTable16,
+    // How many bits its header has.
+    bits: u64,
+    // How many statements and transitions began so far, modulo 2^64.
+    work: u64,
+    ghost bits_are: { bits ≡ sum_by (λ f. f.width) program.now.fields },
+    ghost sized: { IsSized program.now },
+}
+
+// How many bits the fields have together.
+fn header_bits(fields: &[Field]) -> u64
+    requires { sum_by (λ f. f.width) fields.now ≤ 8192 }
+    ensures { result ≡ sum_by (λ f. f.width) fields.now }
+{
+    fields.iter().map(|field| field.width).sum()
+}
+
+// The port that a packet leaves on, if it does, and how many statements and transitions began. It is
+// dropped where it is too short or the port drops, and else leaves as it came.
+fn pass(bits: u64, port: u64, arrival: &Arrival) -> (Option<u16>, u64)
+    requires bits { bits ≤ 8192 }
+    requires port { port ≤ drop_port }
+    ensures end { (plain_pass bits port arrival.now).end ≡ end_of result.0 arrival.now.octets }
+    ensures work { (plain_pass bits port arrival.now).work ≡ result.1 }
+{
+    let octets = arrival.octets.len();
+    if (octets as u128) * 8 < u128::from(bits) {
+        (None, 3)
+    } else if port == u64::from(DROP_PORT) {
+        (None, 5)
+    } else {
+        (Some(port as u16), 6)
+    }
+}
+
+// What leaves of a packet with these octets on this port.
+fn outs(alloc: Global, port: Option<u16>, octets: &[u8]) -> Result<Rows<Out>, OutOfMemory>
+    ensures { IfOk result (λ outs. outs ≡ outs_of (end_of port octets.now)) }
+{
+    let mut outs = Rows::new(alloc);
+    if let Some(port) = port {
+        let octets = Octets::from_slice(alloc, octets)?;
+        outs.push(Out { port, octets })?;
+    }
+    Ok(outs)
+}
+
+impl<'a> Plain<'a> {
+    /// The runner before its first packet. It takes no memory.
+    pub(crate) fn new(alloc: Global, program: &'a OneTable16) -> Plain<'a>
+        requires { IsSized program.now }
+        ensures program { result.program.now ≡ program.now }
+        ensures work { result.work ≡ 0 }
+    {
+        Plain {
+            alloc,
+            program,
+            bits: header_bits(program.fields.as_slice()),
+            work: 0,
+        }
+    }
+}
+
+impl<'a> Runner for Plain<'a> {
+    ghost Setting = { Program };
+
+    ghost setting = { λ plain. plain.program.now };
+
+    ghost outcome = { own_outcome };
+
+    ghost store = { λ plain. no_store };
+
+    ghost done = { λ plain. plain.work };
+
+    fn one(&mut self, arrival: &Arrival) -> Result<Fate, OutOfMemory> {
+        let (port, work) = pass(self.bits, self.program.port, arrival);
+        self.work = self.work.wrapping_add(work);
+        let sent = outs(self.alloc, port, arrival.octets.as_slice())?;
+        Ok(Fate { sent, cut: 0 })
+    }
+
+    fn work(&self) -> u64 {
+        self.work
+    }
+
+    ghost few = { are_few };
+}

@@ -1,0 +1,70 @@
+-- What one packet adds to a run.
+use Rattle.std.proofs.Common.{◌≡◌, ℕ, ◌+◌, ◌%◌, ◌^◌, ◌<◌, ◌≤◌, List, [], ◌∷◌, ◌++◌, length, take, drop, get_or, refl, sym, ◌∙◌, ap, append_assoc}
+use Rattle.std.specs.List.{flat_map}
+use Rattle.std.proofs.lemmas.List.{append-nil, take_all, take_more}
+use Rattle.std.proofs.lemmas.List.Concat.{flat_map-append}
+use Rattle.std.proofs.Math.Nat.{add-mod-mod}
+use Rattle.state_store.specs.State.{Contents}
+use Rattle.fabric.specs.declared.packets.Arrival.{Arrival}
+use Rattle.fabric.specs.declared.packets.Out.{Out}
+use Rattle.pcap_io.specs.declared.records.Record.{Record}
+use Rattle.pcap_io.specs.Captures.{arrival_of}
+use Rattle.run_stream.specs.Runs.{Outcome}
+use Rattle.run_stream.specs.internal.Streams.{Held, View, out_record, out_line, with_out, with_written, with_outs, with_arrival, with_outcome, after_one}
+
+abbrev wrote : Held → List ℕ → List ℕ → Held
+wrote h sent report = record h { sent = sent; report = report }
+
+pub written_none : (a : Arrival) (h : Held) → h ≡ with_written a [] h
+written_none a h =
+    ap (λ (l : List ℕ). wrote h l h.report) (sym (append-nil h.sent)) ∙ ap (λ (l : List ℕ). wrote h (h.sent ++ []) l) (sym (append-nil h.report))
+
+-- one more of a list, behind those that were written
+behind : (f : Out → List ℕ) (outs : List Out) (out : Out) (front : List ℕ) → (front ++ flat_map f outs) ++ f out ≡ front ++ flat_map f (outs ++ out ∷ [])
+behind f outs out front =
+    append_assoc front (flat_map f outs) (f out)
+    ∙ ap (λ (l : List ℕ). front ++ l) (ap (λ (l : List ℕ). flat_map f outs ++ l) (sym (append-nil (f out))) ∙ sym (flat_map-append f outs (out ∷ [])))
+
+pub written_more : (a : Arrival) (outs : List Out) (out : Out) (h old new : Held) → old ≡ with_written a outs h → new ≡ with_out a out old → new ≡ with_written a (outs ++ out ∷ []) h
+written_more a outs out h old new before now =
+    now ∙ ap (with_out a out) before
+    ∙ ap (λ (l : List ℕ). wrote h l ((h.report ++ flat_map out_line outs) ++ out_line out)) (behind (out_record a) outs out h.sent)
+    ∙ ap (λ (l : List ℕ). wrote h (h.sent ++ flat_map (out_record a) (outs ++ out ∷ [])) l) (behind out_line outs out h.report)
+
+-- the same of the packets at a slice's front
+pub written_next : (a : Arrival) (outs : List Out) (i : ℕ) (out : Out) (h old new : Held) → i < length outs → out ≡ get_or outs i out → old ≡ with_written a (take i outs) h → new ≡ with_out a out old
+    → new ≡ with_written a (take (i + 1) outs) h
+written_next a outs i out h old new inside is before now =
+    written_more a (take i outs) out h old new before now
+    ∙ ap (λ (l : List Out). with_written a l h) (sym (take_more outs i out inside ∙ ap (λ (o : Out). take i outs ++ o ∷ []) (sym is)))
+
+-- so many are counted
+abbrev pub counted : ℕ → Held → Held
+counted more h = record h { departures = (h.departures + more) % 2 ^ 64 }
+
+pub written_all : (a : Arrival) (outs : List Out) (i : ℕ) (h now : Held) → length outs ≤ i → now ≡ with_written a (take i outs) h → counted (length outs) now ≡ with_outs a outs h
+written_all a outs i h now past is = ap (counted (length outs)) (is ∙ ap (λ (l : List Out). with_written a l h) (take_all i outs past))
+
+-- a packet came in on the first of these ports, and so many items were cut
+abbrev pub came : Held → List ℕ → ℕ → Held
+came h ports cut = record h { ports = ports; arrivals = (h.arrivals + 1) % 2 ^ 64; cut = cut }
+
+abbrev viewed : Held → Contents → ℕ → View
+viewed h store work = record { held = h; store = store; work = work }
+
+-- what a runner gives is what comes of the packet
+pub ran_one : (outcome : Contents → Arrival → Outcome) (one : Record) (old : View) (a : Arrival) (ports : List ℕ) (outs : List Out) (cut work : ℕ) (store : Contents) (new : Held)
+    → a ≡ arrival_of old.held.ports one → ports ≡ drop 1 old.held.ports → outs ≡ (outcome old.store a).sent → cut ≡ (outcome old.store a).cut % 2 ^ 64
+    → store ≡ (outcome old.store a).store → work ≡ (old.work + (outcome old.store a).work) % 2 ^ 64 → new ≡ with_outs a outs (came old.held ports ((old.held.cut + cut) % 2 ^ 64))
+    → viewed new store work ≡ after_one outcome one old
+ran_one outcome one old a ports outs cut work store new a_is ports_are outs_are cut_is store_is work_is new_is =
+    let o = outcome old.store a in
+    let cut_same : (old.held.cut + cut) % 2 ^ 64 ≡ (old.held.cut + o.cut) % 2 ^ 64 =
+    ap (λ (n : ℕ). (old.held.cut + n) % 2 ^ 64) cut_is ∙ add-mod-mod old.held.cut o.cut (2 ^ 64) in
+    ap (λ (h : Held). viewed h store work) new_is
+    ∙ ap (λ (l : List Out). viewed (with_outs a l (came old.held ports ((old.held.cut + cut) % 2 ^ 64))) store work) outs_are
+    ∙ ap (λ (n : ℕ). viewed (with_outs a o.sent (came old.held ports n)) store work) cut_same
+    ∙ ap (λ (l : List ℕ). viewed (with_outs a o.sent (came old.held l ((old.held.cut + o.cut) % 2 ^ 64))) store work) ports_are
+    ∙ ap (λ (s : Contents). viewed (with_outs a o.sent (with_arrival o.cut old.held)) s work) store_is
+    ∙ ap (λ (n : ℕ). viewed (with_outs a o.sent (with_arrival o.cut old.held)) o.store n) work_is
+    ∙ ap (λ (b : Arrival). with_outcome b (outcome old.store b) old) a_is

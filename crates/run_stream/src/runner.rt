@@ -1,0 +1,46 @@
+// Runners of packets.
+ghost use Rattle.std.specs.Prelude.{◌≡◌, ℕ, ◌+◌, ◌%◌, ◌^◌, IfOk, OnOk};
+ghost use Rattle.state_store.specs.State.{Contents};
+ghost use Rattle.fabric.specs.declared.packets.Arrival.{Arrival as Came};
+ghost use Rattle.fabric.specs.Numbers.{IsArrival};
+ghost use Rattle.run_stream.specs.Runs.{Outcome, AreFew};
+
+use fabric::{Arrival, Fate};
+use p4x_bits::OutOfMemory;
+
+/// A runner of packets: a program with what stands in its tables and a bound on passes, and the counters,
+/// registers and meters as the packets so far left them.
+pub trait Runner {
+    // The program, what stands in its tables, and the bound on passes. They stay.
+    ghost Setting: { Type 0 };
+
+    ghost setting: { Self → Setting };
+
+    // What comes of an arrival that finds this store.
+    ghost outcome: { Setting → Contents → Came → Outcome };
+
+    // The store as the arrivals so far left it.
+    ghost store: { Self → Contents };
+
+    // How many statements and transitions began so far, modulo 2^64.
+    ghost done: { Self → ℕ };
+
+    /// A packet comes in: it makes its passes, and what is queued by them makes its own. It gives what comes of it.
+    ///
+    /// # Errors
+    /// It fails for want of memory alone, and then the runner is not used again.
+    fn one(&mut self, arrival: &Arrival) -> Result<Fate, OutOfMemory>
+        requires { IsArrival arrival.now }
+        ensures setting { OnOk result (setting self.new ≡ setting self.old) }
+        ensures store { OnOk result (store self.new ≡ (outcome (setting self.old) (store self.old) arrival.now).store) }
+        ensures work { OnOk result (done self.new ≡ (done self.old + (outcome (setting self.old) (store self.old) arrival.now).work) % 2 ^ 64) }
+        ensures sent { IfOk result (λ fate. fate.sent ≡ (outcome (setting self.old) (store self.old) arrival.now).sent) }
+        ensures cut { IfOk result (λ fate. fate.cut ≡ (outcome (setting self.old) (store self.old) arrival.now).cut % 2 ^ 64) };
+
+    /// How many statements and transitions began so far, modulo 2^64.
+    fn work(&self) -> u64
+        ensures { result ≡ done self.now };
+
+    // A pass sends at most one packet.
+    ghost few: { (s : Setting) → AreFew (outcome s) };
+}

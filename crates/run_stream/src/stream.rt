@@ -1,0 +1,171 @@
+// The run over a capture that is read in pieces.
+ghost use Rattle.std.specs.Prelude.{◌≡◌, ◌∷◌, [], ◌≤◌, string_bytes, All, IfOk, OnOk};
+ghost use Rattle.state_store.specs.Ports.{IsPort};
+ghost use Rattle.pcap_io.specs.Captures.{IsRecord};
+ghost use Rattle.pcap_io.specs.Reader.{fed, taken_from};
+ghost use Rattle.run_stream.specs.Reports.{end_lines};
+ghost use Rattle.run_stream.specs.internal.Streams.{held_of, view_of, empty, headed_by, begun, with_out, with_outs, after_one, after_all, drained};
+
+use crate::counts::Counts;
+use crate::runner::Runner;
+use fabric::{Arrival, Out};
+use p4x_bits::OutOfMemory;
+use p4x_fault::Fault;
+use pcap_io::{CaptureFault, CaptureReader, Record, arrive, file_header, record_header};
+use std::alloc::Global;
+
+/// A run that goes on, with what it hasn't appended yet to the sent file and the report.
+#[derive(Drop)]
+pub struct Stream<'a> {
+    /// The ports of the packets that are still to come.
+    pub ports: &'a [u128],
+    /// Whether the file header of the sent file was written.
+    pub headed: bool,
+    pub counts: Counts,
+    pub sent: Vec<u8>,
+    pub report: String,
+}
+
+impl<'a> Stream<'a> {
+    /// A run before its first packet. It takes no memory.
+    pub(crate) fn new(alloc: Global, ports: &'a [u128]) -> Stream<'a>
+        ensures { held_of result ≡ empty ports.now }
+    {
+        Stream {
+            ports,
+            headed: false,
+            counts: Counts {
+                arrivals: 0,
+                sent: 0,
+                cut: 0,
+            },
+            sent: Vec::new(alloc),
+            report: String::new(alloc),
+        }
+    }
+
+    // Writes the file header as soon as that of the capture is known.
+    fn begin(&mut self, reader: &CaptureReader) -> Result<(), OutOfMemory>
+        ensures begun { OnOk result (held_of self.new ≡ headed_by reader.now.head (held_of self.old)) }
+        ensures ports { self.new.ports.now ≡ self.old.ports.now }
+    {
+        if self.headed {
+            return Ok(());
+        }
+        if let (Some(link), Some(nano)) = (reader.link(), reader.nano()) {
+            self.sent.extend_from_slice(&file_header(link, nano))?;
+            self.headed = true;
+        }
+        Ok(())
+    }
+
+    // Writes the record and the line of a packet that leaves.
+    fn send(&mut self, arrival: &Arrival, out: &Out) -> Result<(), OutOfMemory>
+        ensures sent { OnOk result (held_of self.new ≡ with_out arrival.now out.now (held_of self.old)) }
+        ensures ports { self.new.ports.now ≡ self.old.ports.now }
+    {
+        let octets = out.octets.as_slice();
+        let port = out.port;
+        let size = octets.len();
+        let length = (size % 0x1_0000_0000) as u32;
+        let header = record_header(arrival.seconds, arrival.fraction, length);
+        self.sent.extend_from_slice(&header)?;
+        self.sent.extend_from_slice(octets)?;
+        writeln!(self.report, "sent {port} {size}")?;
+        Ok(())
+    }
+
+    // Writes those of all packets that one arrival gives.
+    fn send_all(&mut self, arrival: &Arrival, outs: &[Out]) -> Result<(), OutOfMemory>
+        ensures sent { OnOk result (held_of self.new ≡ with_outs arrival.now outs.now (held_of self.old)) }
+        ensures ports { self.new.ports.now ≡ self.old.ports.now }
+    {
+        for out in outs {
+            self.send(arrival, out)?;
+        }
+        self.counts.sent = self.counts.sent.wrapping_add(outs.len() as u64);
+        Ok(())
+    }
+
+    // A packet comes in on the next port and is run.
+    fn run<R: Runner>(&mut self, runner: &mut R, one: Record) -> Result<(), OutOfMemory>
+        requires known { IsRecord one }
+        requires ports { All IsPort self.old.ports.now }
+        ensures setting { OnOk result (R.setting runner.new ≡ R.setting runner.old) }
+        ensures ran { OnOk result (view_of self.new (R.store runner.new) (R.done runner.new) ≡ after_one (R.outcome (R.setting runner.old)) one (view_of self.old (R.store runner.old) (R.done runner.old))) }
+        ensures ports { All IsPort self.new.ports.now }
+    {
+        let (arrival, behind) = arrive(one, self.ports);
+        self.ports = behind;
+        let fate = runner.one(&arrival)?;
+        self.counts.arrivals = self.counts.arrivals.wrapping_add(1);
+        self.counts.cut = self.counts.cut.wrapping_add(fate.cut);
+        self.send_all(&arrival, fate.sent.as_slice())?;
+        Ok(())
+    }
+
+    // The packets of all records that the reader has come in.
+    fn run_all<R: Runner>(
+        &mut self,
+        runner: &mut R,
+        reader: &mut CaptureReader,
+    ) -> Result<(), OutOfMemory>
+        requires ports { All IsPort self.old.ports.now }
+        ensures setting { OnOk result (R.setting runner.new ≡ R.setting runner.old) }
+        ensures ran { OnOk result (view_of self.new (R.store runner.new) (R.done runner.new) ≡ after_all (R.outcome (R.setting runner.old)) reader.old.records (view_of self.old (R.store runner.old) (R.done runner.old))) }
+        ensures taken { OnOk result (reader.new ≡ drained reader.old) }
+        ensures known { OnOk result (All IsRecord reader.old.records) }
+        ensures ports { All IsPort self.new.ports.now }
+    {
+        'records: while let Some(one) = reader.next() {
+            self.run(runner, one)?;
+        }
+        Ok(())
+    }
+
+    /// Reads on through a piece of the capture, and runs each packet of which the whole record is there. It gives the rule that the capture
+    /// breaks, where it breaks one of K2, K3 and K5, and fails for want of memory alone.
+    pub(crate) fn feed<R: Runner>(
+        &mut self,
+        runner: &mut R,
+        reader: &mut CaptureReader,
+        piece: &[u8],
+    ) -> Result<Option<Fault>, OutOfMemory>
+        requires ports { All IsPort self.old.ports.now }
+        ensures setting { OnOk result (R.setting runner.new ≡ R.setting runner.old) }
+        ensures ran { OnOk result (view_of self.new (R.store runner.new) (R.done runner.new) ≡ after_all (R.outcome (R.setting runner.old)) (fed reader.old piece.now).records (begun (fed reader.old piece.now).head (view_of self.old (R.store runner.old) (R.done runner.old)))) }
+        ensures reads { OnOk result (reader.new ≡ drained (fed reader.old piece.now)) }
+        ensures known { OnOk result (All IsRecord (fed reader.old piece.now).records) }
+        ensures refused { IfOk result (λ refused. refused ≡ (fed reader.old piece.now).fault) }
+        ensures ports { All IsPort self.new.ports.now }
+    {
+        let refused = feed_piece(reader, piece)?;
+        self.begin(reader)?;
+        self.run_all(runner, reader)?;
+        Ok(refused)
+    }
+}
+
+// Feeds a piece to the reader, and gives the rule that the capture breaks.
+fn feed_piece(reader: &mut CaptureReader, piece: &[u8]) -> Result<Option<Fault>, OutOfMemory>
+    ensures fed { OnOk result (reader.new ≡ fed reader.old piece.now) }
+    ensures refused { IfOk result (λ refused. refused ≡ (fed reader.old piece.now).fault) }
+{
+    match reader.feed(piece) {
+        Ok(()) => Ok(None),
+        Err(CaptureFault::Refused(fault)) => Ok(Some(fault)),
+        Err(CaptureFault::Memory) => Err(OutOfMemory),
+    }
+}
+
+/// The end part of the report of a run with this work.
+pub(crate) fn end_part(alloc: Global, counts: Counts, work: u64) -> Result<String, OutOfMemory>
+    ensures { IfOk result (λ text. string_bytes text ≡ end_lines counts.arrivals counts.sent counts.cut work) }
+{
+    let Counts {
+        arrivals,
+        sent,
+        cut,
+    } = counts;
+    Ok(format!(in alloc; "in {arrivals}\nout {sent}\ncut {cut}\nwork {work}\n")?)
+}
