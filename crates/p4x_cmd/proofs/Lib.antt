@@ -17,6 +17,7 @@ pub mod Reading14
 pub mod Reading16
 pub mod Refused16
 pub mod RunLaws
+pub mod Running
 pub mod Sizes
 pub mod Spaced
 pub mod Spelling14

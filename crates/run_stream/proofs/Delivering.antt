@@ -168,6 +168,13 @@ module _ (sent report sent' report' : Option (Option (List ℕ))) (outcome : Con
       let done = (so (fits text refl)).1 in
       delivers_refused sent report sent' report' outcome store few ports text (fits text refl) fault (sym (ap refusal_in done.reader_is) ∙ is) done.sent_is done.report_is
 
+-- the end part with the work under another name
+pub reported_by : (told told' : Option (Option (List ℕ))) (arrivals departures cut n work : ℕ) → n ≡ work → told' ≡ grown told (end_lines arrivals departures cut n) → told' ≡ grown told (end_lines arrivals departures cut work)
+reported_by told told' arrivals departures cut n work is now = now ∙ ap (λ (k : ℕ). grown told (end_lines arrivals departures cut k)) is
+
+pub partly_by : (told told' : Option (Option (List ℕ))) (arrivals departures cut n work : ℕ) → n ≡ work → GrownByFront told (end_lines arrivals departures cut n) told' → GrownByFront told (end_lines arrivals departures cut work) told'
+partly_by told told' arrivals departures cut n work is part = subst (λ (k : ℕ). GrownByFront told (end_lines arrivals departures cut k) told') is part
+
 -- the end part of the report is appended
 module _ (sent report sent' report0 report' : Option (Option (List ℕ))) (outcome : Contents → Arrival → Outcome) (store : Contents) (few : AreFew outcome) (ports : List ℕ) (reader : Reading) (stream : View) where
   pub pieces_reported : (file : Option (List ℕ)) → ((text : List ℕ) → file ≡ Some text → length text ≤ capture_limit) → PiecesEnd outcome store ports file sent report sent' report0 reader stream (Ok tt)

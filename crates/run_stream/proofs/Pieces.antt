@@ -21,7 +21,7 @@ use Rattle.file_work.specs.declared.stop.Stop.TheVariants.{Fault, Refused, Memor
 use Rattle.run_stream.specs.Captured.{capture_limit}
 use Rattle.file_work.specs.Phases.{GrownByFront}
 use Rattle.run_stream.specs.Runs.{Outcome}
-use Rattle.run_stream.specs.internal.Streams.{View, start, begun, after_all, run_view, emptied, drained, nothing_read, Streamed, Cut, Refuses, PieceEnds, PiecesEnd}
+use Rattle.run_stream.specs.internal.Streams.{Held, View, empty, start, begun, after_all, run_view, emptied, drained, nothing_read, Streamed, Cut, Refuses, PieceEnds, PiecesEnd}
 use Rattle.run_stream.proofs.Streams.{preceded, next_view, more}
 
 -- a file that had grown by a front of a text, and then by a front of what stands behind that
@@ -217,6 +217,9 @@ module _ (outcome : Contents → Arrival → Outcome) (store : Contents) (ports 
 
 -- the run before the first piece
 
+abbrev viewed : Held → Contents → ℕ → View
+viewed held store work = record { held = held; store = store; work = work }
+
 pub nothing : reading_of [] ≡ nothing_read
 nothing = unread [] (omega arith)
 
@@ -244,6 +247,23 @@ pub streamed_still : (outcome : Contents → Arrival → Outcome) (store : Conte
     → sent'' ≡ sent' → report'' ≡ report' → Streamed outcome store ports octets sent report sent' report' reader stream → Streamed outcome store ports octets sent report sent'' report'' reader stream
 streamed_still outcome store ports octets sent report sent' report' sent'' report'' reader stream same_sent same_report so =
     record { reader_is = so.reader_is; stream_is = so.stream_is; sent_is = same_sent ∙ so.sent_is; report_is = same_report ∙ so.report_is; known = so.known }
+
+-- the same of a setting that is equal
+pub streamed_by : (Setting : Type 0) (outcome : Setting → Contents → Arrival → Outcome) (a b : Setting) (store : Contents) (ports octets : List ℕ) (sent report sent' report' : Option (Option (List ℕ))) (reader : Reading) (stream : View) → a ≡ b
+    → Streamed (outcome a) store ports octets sent report sent' report' reader stream → Streamed (outcome b) store ports octets sent report sent' report' reader stream
+streamed_by Setting outcome a b store ports octets sent report sent' report' reader stream is so =
+    subst (λ (s : Setting). Streamed (outcome s) store ports octets sent report sent' report' reader stream) is so
+
+-- and of what ends the run at a piece
+pub stopped_by : (Setting : Type 0) (outcome : Setting → Contents → Arrival → Outcome) (a b : Setting) (store : Contents) (ports octets : List ℕ) (sent report sent' report' : Option (Option (List ℕ))) (stop : Stop) → a ≡ b
+    → Refuses (outcome a) store ports octets sent report sent' report' stop ⊎ Cut (run_view (outcome a) store ports (reading_of octets)) sent report sent' report' stop
+    → Refuses (outcome b) store ports octets sent report sent' report' stop ⊎ Cut (run_view (outcome b) store ports (reading_of octets)) sent report sent' report' stop
+stopped_by Setting outcome a b store ports octets sent report sent' report' stop is so =
+    subst (λ (s : Setting). Refuses (outcome s) store ports octets sent report sent' report' stop ⊎ Cut (run_view (outcome s) store ports (reading_of octets)) sent report sent' report' stop) is so
+
+-- a run whose parts are those of one before its first packet
+pub starts : (ports : List ℕ) (held : Held) (store : Contents) (work : ℕ) → held ≡ empty ports → work ≡ 0 → viewed held store work ≡ start ports store
+starts ports held store work is none = ap (λ (h : Held). viewed h store work) is ∙ ap (λ (n : ℕ). viewed (empty ports) store n) none
 
 front_split : (octets text : List ℕ) → take (length octets) text ≡ octets → text ≡ octets ++ drop (length octets) text
 front_split octets text front = sym (take-append-drop (length octets) text) ∙ ap (λ (l : List ℕ). l ++ drop (length octets) text) front

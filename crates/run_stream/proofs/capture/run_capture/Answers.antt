@@ -1,13 +1,10 @@
-use Rattle.std.proofs.Common.{◌≡◌, ◌↔◌, ◌<◌, ◌≤◌, ℕ, nat_lt, Bool, true, false, IsTrue, List, length, Option, Some, refl, ◌∙◌, ap, subst, arith}
+use Rattle.std.proofs.Common.{◌≡◌, ◌↔◌, ◌<◌, ◌≤◌, ℕ, nat_lt, Bool, true, false, IsTrue, List, length, Option, Some, refl, ◌∙◌, ap, arith}
 use Rattle.std.proofs.lemmas.Bool.Decides.{nat_tests}
 use Rattle.std.proofs.lemmas.Result.{err_from_is_err_and}
 use Rattle.pcap_io.specs.Reader.{taken_from}
-use Rattle.p4x_io.specs.Desk.{grown}
-use Rattle.file_work.specs.Phases.{GrownByFront}
 use Rattle.run_stream.specs.Captured.{capture_limit}
-use Rattle.run_stream.specs.Reports.{end_lines}
 use Rattle.run_stream.specs.internal.Streams.{Held}
-use Rattle.run_stream.proofs.Delivering.{pieces_stopped, pieces_refused, pieces_reported, pieces_partly}
+use Rattle.run_stream.proofs.Delivering.{pieces_stopped, pieces_refused, pieces_reported, pieces_partly, reported_by, partly_by}
 use Rattle.run_stream.proofs.Pieces.{nothing, ends_from}
 use Rattle.run_stream.proofs.capture.run_capture.Goals as goal
 
@@ -56,7 +53,7 @@ returns-in_err-end_report-clause-gives g c = λ file told.
     let from = ends_from _ _ _ c.args.ports.now file _ _ _ _ _ _ _ _ _ (ap (λ (h : Held). h.ports) c.new-stream.ensures) (kept n.sent.now tt) (kept n.report.now tt) ends in
     let still = c.end_report.ensures.moves.others n.sent.now (n.apart, tt) in
     let failed = c.in_err-end_report.ensures in
-    let part = subst (λ (k : ℕ). GrownByFront _ (end_lines _ _ _ k) _) c.work.ensures failed.part in
+    let part = partly_by _ _ _ _ _ _ _ c.work.ensures failed.part in
     rw (p.1, p.2, still) (pieces_partly _ _ _ _ _ _ _ few c.args.ports.now _ _ file _ fits from c.in_ok-end_capture.ensures.ends failed.only part)
 
 pub returns-clause-gives : goal.returns-clause-gives
@@ -68,7 +65,7 @@ returns-clause-gives g c = λ file told.
     let ends = c.in_ok-run_pieces.ensures.gives file (kept n.capture.now tt ∙ told) in
     let from = ends_from _ _ _ c.args.ports.now file _ _ _ _ _ _ _ _ _ (ap (λ (h : Held). h.ports) c.new-stream.ensures) (kept n.sent.now tt) (kept n.report.now tt) ends in
     let still = c.end_report.ensures.moves.others n.sent.now (n.apart, tt) in
-    let now = c.in_ok-end_report.ensures.line ∙ ap (λ (k : ℕ). grown _ (end_lines _ _ _ k)) c.work.ensures in
+    let now = reported_by _ _ _ _ _ _ _ c.work.ensures c.in_ok-end_report.ensures.line in
     rw still (pieces_reported _ _ _ _ _ _ _ few c.args.ports.now _ _ file fits from c.in_ok-end_capture.ensures.ends now)
 
 pub returns-clause-known : goal.returns-clause-known

@@ -1,18 +1,16 @@
-use Rattle.std.proofs.Common.{ℕ, [], ◌++◌, length, take, length-append, Some, refl, sym, ◌∙◌, ap, subst, arith}
+use Rattle.std.proofs.Common.{[], ◌++◌, length, take, length-append, Some, refl, sym, ◌∙◌, ap, arith}
 use Rattle.std.proofs.lemmas.List.{length-take}
 use Rattle.std.proofs.lemmas.Result.{err_from_is_err_and}
 use Rattle.p4x_io.proofs.Desks.{moves_none, moves_on, moves_within, grown_there}
 use Rattle.p4x_io.proofs.Reading.{front_none, front_more, front_end, reads_at}
-use Rattle.run_stream.specs.internal.Streams.{Held, View, view_of, Streamed, PieceEnds}
-use Rattle.run_stream.proofs.Pieces.{unbroken_start, streamed_start, streamed_still, pieces_cut, pieces_end, pieces_all, pieces_stop}
+use Rattle.run_stream.specs.internal.Streams.{held_of}
+use Rattle.run_stream.proofs.Pieces.{unbroken_start, streamed_start, streamed_still, streamed_by, stopped_by, starts, pieces_cut, pieces_end, pieces_all, pieces_stop}
 use Rattle.run_stream.proofs.capture.run_pieces.Goals as goal
 
 pub pieces-init : goal.pieces-init
 pieces-init g c =
     let r = g.R.Runner in
-    let begins =
-    ap (λ (h : Held). let v : View = record { held = h; store = r.store c.args.runner.now; work = r.done c.args.runner.now } in v) c.requires.stream
-    ∙ ap (λ (n : ℕ). let v : View = record { held = _; store = r.store c.args.runner.now; work = n } in v) c.requires.work in
+    let begins = starts c.args.stream.now.ports.now (held_of c.args.stream.now) (r.store c.args.runner.now) (r.done c.args.runner.now) c.requires.stream c.requires.work in
     record {
       moves = moves_none _ _;
       setting = refl;
@@ -52,7 +50,7 @@ pieces-preserved g c =
     let count = c.in_ok-count.count in
     let same = c.pieces.invariant.setting in
     let before = streamed_still _ _ _ r.0 _ _ _ _ _ _ _ _ (kept n.sent.now tt) (kept n.report.now tt) r.4 in
-    let here = subst (λ (s : run.Setting). Streamed (run.outcome s) _ _ r.0 _ _ _ _ _ _) (sym same) before in
+    let here = streamed_by _ run.outcome _ _ _ _ r.0 _ _ _ _ _ _ (sym same) before in
     let ended = c.in_ok-run_piece.ensures.ran _ _ r.0 _ _ r.3 here in
     record {
       moves = moves_on _ _ _ _ c.pieces.invariant.moves (moves_on _ _ _ _ (moves_within [] _ _ _ (λ name no. tt) c.read.ensures.moves) c.run_piece.ensures.moves);
@@ -64,7 +62,7 @@ pieces-preserved g c =
             (reads_at _ _ _ _ file (length r.0) count c.in_ok-count.ensures.octets
             (c.pieces.invariant.moves.others n.capture.now (n.sent_apart, (n.report_apart, tt)) ∙ told) (sym r.1) refl)),
         ended.0,
-        subst (λ (s : run.Setting). Streamed (run.outcome s) _ _ (r.0 ++ take count slice) _ _ _ _ _ _) same ended.1,
+        streamed_by _ run.outcome _ _ _ _ (r.0 ++ take count slice) _ _ _ _ _ _ same ended.1,
       );
       ports = c.run_piece.ensures.ports;
     }
@@ -82,8 +80,8 @@ returns-in_err-run_piece-clause-gives g c = λ file told.
     let here = c.pieces.invariant.moves.others n.capture.now (n.sent_apart, (n.report_apart, tt)) ∙ told in
     let reads = reads_at _ _ _ _ file (length r.0) count c.in_ok-count.ensures.octets here (sym r.1) refl in
     let before = streamed_still _ _ _ r.0 _ _ _ _ _ _ _ _ (kept n.sent.now tt) (kept n.report.now tt) r.4 in
-    let so = subst (λ (s : run.Setting). Streamed (run.outcome s) _ _ r.0 _ _ _ _ _ _) (sym same) before in
-    let ends = subst (λ (s : run.Setting). PieceEnds (run.outcome s) _ _ (r.0 ++ take count slice) _ _ _ _ _ _ _) same (c.in_err-run_piece.ensures.ran _ _ r.0 _ _ r.3 so) in
+    let so = streamed_by _ run.outcome _ _ _ _ r.0 _ _ _ _ _ _ (sym same) before in
+    let ends = stopped_by _ run.outcome _ _ _ _ (r.0 ++ take count slice) _ _ _ _ _ same (c.in_err-run_piece.ensures.ran _ _ r.0 _ _ r.3 so) in
     rw (p.1, p.2) (pieces_stop _ _ _ (r.0 ++ take count slice) _ _ _ _ _ _ file _ _ (λ none. reads.there (ap Some none)) (front_more file r.0 slice count (r.2 file told) reads) refl ends)
 
 pub run_piece-requires-clause-sent_there : goal.run_piece-requires-clause-sent_there
