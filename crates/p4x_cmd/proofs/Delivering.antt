@@ -27,12 +27,16 @@ same_reports run other same ports (Some octets) =
     let packets = arrivals_of ports reading.records in
     ap (λ (r : Ran). if nat_lt capture_limit (length octets) then stopped (Limit limited.Capture) else run_reports (refusal_in reading) reading.head packets r) (same packets)
 
-pub own_reports : (q : OneTable16) (ports : List ℕ) (file : Option (List ℕ)) → reports_over (run_of (own_outcome q) no_store) ports file ≡ capture_reports (program16 q) ports file
-own_reports q ports file = same_reports _ _ (run_of_is q) ports file
+-- the run of a runner whose program is this one
+own_reports : (q p : OneTable16) → q ≡ p → (ports : List ℕ) (file : Option (List ℕ)) → reports_over (run_of (own_outcome q) no_store) ports file ≡ capture_reports (program16 p) ports file
+own_reports q p is ports file =
+    same_reports _ _ (run_of_is q) ports file ∙ ap (λ (x : OneTable16). capture_reports (program16 x) ports file) is
 
 module _ (sent sent' report report' : Option (Option (List ℕ))) where
-  -- the run stopped
-  pub stops : (r : Reports) (stop : Stop) → captured.Delivers r (Err stop) sent sent' report report' → Delivers r (Err stop) sent sent' report report'
+  delivers_as : (r s : Reports) (end : Result (List ℕ) Stop) → r ≡ s → Delivers r end sent sent' report report' → Delivers s end sent sent' report report'
+  delivers_as r s end is so = subst (λ (x : Reports). Delivers x end sent sent' report report') is so
+
+  stops : (r : Reports) (stop : Stop) → captured.Delivers r (Err stop) sent sent' report report' → Delivers r (Err stop) sent sent' report report'
   stops r stop (inl d) = inl (ap lined d.0, d.1, d.2)
   stops r stop (inr d) = inr (loose d.0, d.1, d.2)
     where
@@ -40,14 +44,31 @@ module _ (sent sent' report report' : Option (Option (List ℕ))) where
       loose (inl is) = inl (ap lined is)
       loose (inr is) = inr (ap lined is)
 
-  -- it was done, and its line was made
-  pub ends : (r : Reports) (counts : Counts) → captured.Delivers r (Ok counts) sent sent' report report' → Delivers r (lined (Ok counts)) sent sent' report report'
+  ends : (r : Reports) (counts : Counts) → captured.Delivers r (Ok counts) sent sent' report report' → Delivers r (lined (Ok counts)) sent sent' report report'
   ends r counts (inl d) = inl (ap lined d.0, d.1, d.2)
-  ends r counts (inr (inl is, d)) = absurd (cc is)
-  ends r counts (inr (inr is, d)) = absurd (cc is)
+  ends r counts (inr (inl is, a, b)) = absurd (cc is)
+  ends r counts (inr (inr is, a, b)) = absurd (cc is)
 
-  -- it was done, and there was no memory for its line
-  pub unlined : (r : Reports) (counts : Counts) → captured.Delivers r (Ok counts) sent sent' report report' → Delivers r (Err Memory) sent sent' report report'
+  unlined : (r : Reports) (counts : Counts) → captured.Delivers r (Ok counts) sent sent' report report' → Delivers r (Err Memory) sent sent' report report'
   unlined r counts (inl d) = inr (inr refl, exact_part sent sent' r.sent d.1, exact_part report report' r.report d.2)
-  unlined r counts (inr (inl is, d)) = absurd (cc is)
-  unlined r counts (inr (inr is, d)) = absurd (cc is)
+  unlined r counts (inr (inl is, a, b)) = absurd (cc is)
+  unlined r counts (inr (inr is, a, b)) = absurd (cc is)
+
+  module _ (q p : OneTable16) (is : q ≡ p) (ports : List ℕ) (file : Option (List ℕ)) where
+    abbrev run_gives : Result Counts Stop → Type 0
+    run_gives end = captured.Delivers (reports_over (run_of (own_outcome q) no_store) ports file) end sent sent' report report'
+
+    abbrev command_gives : Result (List ℕ) Stop → Type 0
+    command_gives end = Delivers (capture_reports (program16 p) ports file) end sent sent' report report'
+
+    -- the run stopped
+    pub run_stops : (stop : Stop) → run_gives (Err stop) → command_gives (Err stop)
+    run_stops stop so = delivers_as _ _ (Err stop) (own_reports q p is ports file) (stops _ stop so)
+
+    -- it was done, and its line was made
+    pub run_ends : (counts : Counts) → run_gives (Ok counts) → command_gives (lined (Ok counts))
+    run_ends counts so = delivers_as _ _ (lined (Ok counts)) (own_reports q p is ports file) (ends _ counts so)
+
+    -- it was done, and there was no memory for its line
+    pub run_unlined : (counts : Counts) → run_gives (Ok counts) → command_gives (Err Memory)
+    run_unlined counts so = delivers_as _ _ (Err Memory) (own_reports q p is ports file) (unlined _ counts so)

@@ -1,11 +1,11 @@
 -- What the code of the runner gives is what a pass of the program gives.
-use Rattle.std.proofs.Common.{◌≡◌, ◌≤◌, ℕ, List, Option, sym, ◌∙◌, ap, subst}
+use Rattle.std.proofs.Common.{◌≡◌, ℕ, List, Option, sym, ◌∙◌, ap}
 use Rattle.std.specs.List.{sum_by}
 use Rattle.fabric.specs.Numbers.{IsArrival}
 use Rattle.fabric.specs.declared.packets.Arrival.{Arrival}
 use Rattle.fabric.specs.declared.packets.Out.{Out}
 use Rattle.p4x_cmd.specs.declared.one_table.OneTable16.{OneTable16}
-use Rattle.p4x_cmd.specs.Passes.{Pass, PassEnd}
+use Rattle.p4x_cmd.specs.Passes.{Pass}
 use Rattle.p4x_cmd.specs.internal.Plain.{plain_pass, own_pass, outs_of, end_of, IsSized}
 use Rattle.p4x_cmd.proofs.RunLaws.{own_pass_is}
 
@@ -18,6 +18,3 @@ module _ (q : OneTable16) (bits : ℕ) (a : Arrival) (sized : IsSized q) (bits_a
 
   pub outs_are : (port : Option ℕ) (outs : List Out) → (plain_pass bits q.port a).end ≡ end_of port a.octets → outs ≡ outs_of (end_of port a.octets) → outs ≡ outs_of (own_pass q a).end
   outs_are port outs is made = made ∙ ap outs_of (sym is) ∙ ap (λ (p : Pass). outs_of p.end) (sym same)
-
-pub bits_fit : (q : OneTable16) (bits : ℕ) → IsSized q → bits ≡ sum_by (λ f. f.width) q.fields → bits ≤ 8192
-bits_fit q bits sized is = subst (λ (n : ℕ). n ≤ 8192) (sym is) sized.bits
