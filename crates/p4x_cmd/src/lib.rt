@@ -11,6 +11,4 @@ mod tokens;
 mod top;
 mod writer;
 
-pub use one_table::{Field, OneTable14, OneTable16};
-pub use tokens::Token;
 pub use top::p4x;

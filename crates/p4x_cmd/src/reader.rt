@@ -8,7 +8,7 @@ mod judge;
 mod places;
 mod spelling;
 
-use crate::OneTable14;
+use crate::one_table::OneTable14;
 use crate::tokens::tokens;
 use judge::is_one_table;
 use p4x_bits::OutOfMemory;

@@ -5,8 +5,8 @@ ghost use Rattle.std.specs.Str.{bytes_eq};
 ghost use Rattle.p4x_cmd.specs.Division.{is_digit, is_letter};
 ghost use Rattle.p4x_cmd.specs.Forms14 as forms;
 
+use crate::one_table::{Field, OneTable14};
 use crate::tokens::{is_digit, is_letter};
-use crate::{Field, OneTable14};
 use state_store::DROP_PORT;
 
 const FORM_WORDS: [&[u8]; 17] = [

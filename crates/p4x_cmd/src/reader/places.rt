@@ -3,7 +3,8 @@ ghost use Rattle.std.specs.Prelude.{◌≡◌, ◌+◌, ◌<◌, List, [], ◌�
 ghost use Rattle.p4x_cmd.specs.internal.Views.{token_of};
 ghost use Rattle.p4x_cmd.specs.internal.Places14 as places;
 
-use crate::{Field, OneTable14, Token};
+use crate::one_table::{Field, OneTable14};
+use crate::tokens::Token;
 use p4x_bits::{OutOfMemory, Rows, Text};
 use std::alloc::Global;
 

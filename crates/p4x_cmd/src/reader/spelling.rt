@@ -4,8 +4,9 @@ ghost use Rattle.p4x_cmd.specs.internal.Views.{token_of};
 ghost use Rattle.p4x_cmd.specs.Forms14 as forms;
 ghost use Rattle.p4x_cmd.specs.internal.Places14.{NeverBegins, from_table, from_action, from_parser, from_header, from_end, from_fields};
 
-use crate::Token::{Mark, Number, Run};
-use crate::{Field, OneTable14, Token};
+use crate::one_table::{Field, OneTable14};
+use crate::tokens::Token;
+use crate::tokens::Token::{Mark, Number, Run};
 
 fn is_same(token: &Token, other: &Token) -> bool
     ensures { IsTrue result ↔ (token_of token.now ≡ token_of other.now) }
