@@ -1,5 +1,5 @@
 -- What the run over a capture delivers, beside what the capture comes to.
-use Rattle.std.proofs.Common.{◌≡◌, ◌⊎◌, inl, inr, ℕ, ◌%◌, ◌^◌, ◌<◌, ◌≤◌, nat_lt, Bool, true, false, if◌then◌else◌, List, [], ◌++◌, length, Option, Some, None, Result, Ok, Err, OnOk, OnErr, IfErr, IsErrAnd, refl, sym, ◌∙◌, ap, subst, arith}
+use Rattle.std.proofs.Common.{◌≡◌, ◌⊎◌, inl, inr, ℕ, ◌%◌, ◌^◌, ◌<◌, ◌≤◌, nat_lt, Bool, true, false, if◌then◌else◌, List, ◌++◌, length, Option, Some, None, Result, Ok, Err, IsErrAnd, refl, sym, ◌∙◌, ap, subst, arith}
 use Rattle.std.proofs.lemmas.Bool.Decides.{nat_tests}
 use Rattle.p4x_fault.specs.declared.Fault.{Fault as Refusal}
 use Rattle.p4x_io.specs.Desk.{grown}
@@ -15,7 +15,7 @@ use Rattle.run_stream.specs.declared.counts.Counts.{Counts}
 use Rattle.run_stream.specs.Captured.{Reports, capture_limit, reports_over, reading_reports, run_reports, stopped, IsLoose, Delivers}
 use Rattle.run_stream.specs.Reports.{end_lines}
 use Rattle.run_stream.specs.Runs.{Outcome, Ran, run_of, AreFew}
-use Rattle.run_stream.specs.internal.Streams.{View, run_view, Cut, Refuses, Streamed, PieceEnds, PiecesEnd}
+use Rattle.run_stream.specs.internal.Streams.{View, run_view, Cut, Refuses, PieceEnds, PiecesEnd}
 use Rattle.run_stream.proofs.Pieces.{exact_part, grown_still, grown_whole, grown_part, grown_front}
 use Rattle.run_stream.proofs.StreamRuns.{IsRunOf, is_run_of}
 

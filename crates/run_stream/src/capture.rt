@@ -155,7 +155,11 @@ fn end_report<D: Desk>(
 }
 
 /// Reads the capture and runs its packets, and appends what comes of them to the sent file and the report. It gives how many packets came and
-/// left, or why the run stops: a rule of captures that is broken, the capture's limit, a fault of a file, or want of memory.
+/// left.
+///
+/// # Errors
+/// A rule of captures that is broken, and then both files hold what the records in front of it give, the report without its end part; the
+/// capture's limit; a fault of a file; or want of memory.
 pub fn run_capture<D: Desk, R: Runner>(
     alloc: Global,
     desk: &mut D,

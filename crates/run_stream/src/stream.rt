@@ -21,8 +21,11 @@ pub struct Stream<'a> {
     pub ports: &'a [u128],
     /// Whether the file header of the sent file was written.
     pub headed: bool,
+    /// What came in, was sent and was cut so far.
     pub counts: Counts,
+    /// What isn't appended yet to the sent file.
     pub sent: Vec<u8>,
+    /// The lines that aren't appended yet to the report.
     pub report: String,
 }
 

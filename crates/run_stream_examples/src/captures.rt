@@ -15,8 +15,18 @@ fn each_packet_leaves_twice_and_one_item_is_cut(rt: HostRuntime) -> Result<(), F
         cut: 1,
     };
     assert!(rt; run(alloc, &mut desk) == Ok(counts));
-    expect_file(&rt, &desk, "s", &joined(alloc, &[SENT_HEADER, RECORD, RECORD])?);
-    expect_file(&rt, &desk, "r", b"sent 3 3\nsent 3 3\nin 1\nout 2\ncut 1\nwork 2\n");
+    expect_file(
+        &rt,
+        &desk,
+        "s",
+        &joined(alloc, &[SENT_HEADER, RECORD, RECORD])?,
+    );
+    expect_file(
+        &rt,
+        &desk,
+        "r",
+        b"sent 3 3\nsent 3 3\nin 1\nout 2\ncut 1\nwork 2\n",
+    );
     Ok(())
 }
 
@@ -29,7 +39,12 @@ fn what_stands_before_a_broken_record_is_run(rt: HostRuntime) -> Result<(), Fail
         place: None,
     };
     assert!(rt; run(alloc, &mut desk) == Err(Stop::Refused(fault)));
-    expect_file(&rt, &desk, "s", &joined(alloc, &[SENT_HEADER, RECORD, RECORD])?);
+    expect_file(
+        &rt,
+        &desk,
+        "s",
+        &joined(alloc, &[SENT_HEADER, RECORD, RECORD])?,
+    );
     expect_file(&rt, &desk, "r", b"sent 3 3\nsent 3 3\n");
     Ok(())
 }
@@ -55,7 +70,12 @@ fn a_fault_while_the_report_is_appended_leaves_a_front(rt: HostRuntime) -> Resul
     let mut desk = desk(alloc, &joined(alloc, &[HEADER, RECORD])?)?;
     desk.fail_append("r", 2)?;
     assert!(rt; run(alloc, &mut desk) == Err(Stop::Fault));
-    expect_file(&rt, &desk, "s", &joined(alloc, &[SENT_HEADER, RECORD, RECORD])?);
+    expect_file(
+        &rt,
+        &desk,
+        "s",
+        &joined(alloc, &[SENT_HEADER, RECORD, RECORD])?,
+    );
     expect_file(&rt, &desk, "r", b"sent 3 3\nsent 3 3\n");
     Ok(())
 }

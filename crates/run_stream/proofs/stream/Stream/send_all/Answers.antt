@@ -1,4 +1,4 @@
-use Rattle.std.proofs.Common.{refl, ◌∙◌, ap, arith}
+use Rattle.std.proofs.Common.{refl, ◌∙◌, arith}
 use Rattle.run_stream.specs.internal.Streams.{held_of}
 use Rattle.run_stream.proofs.Sending.{written_none, written_next, written_all}
 use Rattle.run_stream.proofs.stream.Stream.send_all.Goals as goal
