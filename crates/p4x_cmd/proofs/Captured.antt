@@ -11,7 +11,7 @@ use Rattle.pcap_io.specs.Captures.{Reading, IsCapture, refused, captured_length,
 use Rattle.pcap_io.specs.Sent.{sent_bytes_of}
 use Rattle.file_work.specs.declared.stop.Limited.TheVariants.{Capture}
 use Rattle.file_work.specs.declared.stop.Stop.{Stop}
-use Rattle.file_work.specs.declared.stop.Stop.TheVariants.{Fault, Usage, Program, Entries, Refused, Limit, Memory}
+use Rattle.file_work.specs.declared.stop.Stop.TheVariants.{Fault, Refused, Limit}
 use Rattle.file_work.proofs.Ends.{stop_in, not_done}
 use Rattle.p4x_cmd.specs.Calls.{CaptureIs, GivesNothing, IsOver}
 use Rattle.run_stream.specs.Captured.{Reports, capture_limit, stopped, run_reports, reading_reports}

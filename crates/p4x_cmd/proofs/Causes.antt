@@ -1,5 +1,5 @@
 -- What an outcome says of each status.
-use Rattle.std.proofs.Common.{◌≡◌, ◌⊎◌, inl, inr, ℕ, ◌%◌, ◌^◌, All, OnOk, List, [], ◌∷◌, length, Option, Some, None, Result, Ok, Err, refl, sym, ◌∙◌, ap, subst, arith}
+use Rattle.std.proofs.Common.{◌≡◌, ◌⊎◌, inl, inr, ℕ, All, OnOk, List, Option, Some, None, Result, Ok, Err, refl, sym, ◌∙◌, ap, subst, arith}
 use Rattle.p416_ast.specs.declared.syntax.Syntax16.{Syntax16}
 use Rattle.p4x_io.specs.Desk.{DeskView, SinkView, NoneIs, Rose, put, said}
 use Rattle.fabric.specs.Numbers.{IsArrival}
@@ -8,17 +8,16 @@ use Rattle.match_core.specs.declared.signatures.Signature.{Signature}
 use Rattle.match_core.specs.Signatures.{IsSignature}
 use Rattle.command_words.specs.Words.{CarryFiles, Command, carry, carry_inputs, carry_outputs, inputs_of, outputs_of}
 use Rattle.file_work.specs.declared.stop.Stop.{Stop}
-use Rattle.file_work.specs.declared.stop.Stop.TheVariants.{Fault, Usage}
-use Rattle.file_work.specs.Clauses.{Ended, EndsAsDue, OwnRose, AsDue}
+use Rattle.file_work.specs.declared.stop.Stop.TheVariants.{Fault}
+use Rattle.file_work.specs.Clauses.{Ended, OwnRose, AsDue}
 use Rattle.file_work.specs.Stops.{code_of, line_of}
 use Rattle.file_work.specs.Works.{Due, Leaves, Tells, AllExact, AllPart, AllKept}
 use Rattle.file_work.proofs.Ends.{is_fault, is_usage, not_done}
 use Rattle.file_work.proofs.Files.{put_told}
 use Rattle.file_work.proofs.Laws.{all_part, IsDone, left_fronts, left_ends, left_as_due, left_done}
 use Rattle.p4x_cmd.specs.declared.one_table.OneTable14.{OneTable14}
-use Rattle.p4x_cmd.specs.Calls.{OnTold, AreTold, Carried, Done, CarryStatuses, Statuses, AcceptsAll, Usages, CarryLeft, Left, FilesLeft, Translated, IsEnd, PacketsFit, WorksFor, inputs_in, outputs_in, Accepts, RefusesCapture, OverCapture}
+use Rattle.p4x_cmd.specs.Calls.{OnTold, AreTold, Carried, Done, CarryStatuses, Statuses, AcceptsAll, Usages, CarryLeft, Left, FilesLeft, Translated, IsEnd, PacketsFit, WorksFor, inputs_in, outputs_in, RefusesCapture, OverCapture}
 use Rattle.p4x_cmd.specs.Carries.{SameRuns}
-use Rattle.run_stream.specs.Captured.{Reports}
 use Rattle.p4x_cmd.specs.Carry.{CarryDue, ProgramIs, Begins, StopsBefore, Written, capture_reports, delivered}
 use Rattle.p4x_cmd.specs.Entries.{no_entries}
 use Rattle.p4x_cmd.specs.Forms14.{Reads14}

@@ -1,7 +1,7 @@
 -- What the command delivers, from what the run over the capture does.
-use Rattle.std.proofs.Common.{◌≡◌, inl, inr, ℕ, nat_lt, if◌then◌else◌, List, length, Option, Some, None, Result, Ok, Err, Vec, refl, sym, ◌∙◌, ap, subst}
+use Rattle.std.proofs.Common.{◌≡◌, inl, inr, ℕ, nat_lt, if◌then◌else◌, List, length, Option, Some, None, Result, Ok, Err, refl, ◌∙◌, ap, subst}
 use Rattle.fabric.specs.declared.packets.Arrival.{Arrival}
-use Rattle.pcap_io.specs.Captures.{Reading, reading_of, refusal_in, arrivals_of}
+use Rattle.pcap_io.specs.Captures.{reading_of, refusal_in, arrivals_of}
 use Rattle.file_work.specs.declared.stop.Limited.TheVariants as limited
 use Rattle.file_work.specs.declared.stop.Stop.{Stop}
 use Rattle.file_work.specs.declared.stop.Stop.TheVariants.{Limit, Memory}

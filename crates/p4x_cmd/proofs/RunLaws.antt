@@ -1,11 +1,10 @@
 -- Runs over lists of arrivals, one packet after another.
-use Rattle.std.proofs.Common.{◌≡◌, ℕ, suc, ◌+◌, ◌%◌, ◌<◌, ◌≤◌, List, [], ◌∷◌, length, map, sum, drop, get_or, refl, sym, ◌∙◌, ap, arith, add-one, length-append}
+use Rattle.std.proofs.Common.{◌≡◌, ℕ, suc, ◌+◌, ◌%◌, ◌<◌, ◌≤◌, List, [], ◌∷◌, length, map, sum, drop, get_or, refl, sym, ◌∙◌, ap, add-one}
 use Rattle.std.proofs.lemmas.List.{drop_all}
 use Rattle.std.proofs.lemmas.List.Sums.{sum_by-cons}
 use Rattle.std.specs.List.{sum_by}
 use Rattle.std.proofs.Math.Seq.{drop-cons}
 use Rattle.p4x_bits.specs.BitLists.{IsOctets}
-use Rattle.state_store.specs.State.{Contents}
 use Rattle.fabric.specs.declared.packets.Arrival.{Arrival}
 use Rattle.p4x_cmd.specs.declared.one_table.Field.{Field}
 use Rattle.p4x_cmd.specs.declared.one_table.OneTable16.{OneTable16}
@@ -15,7 +14,7 @@ use Rattle.run_stream.specs.Runs.{Ran, followed}
 use Rattle.run_stream.specs.Runs as running
 use Rattle.fabric.specs.declared.packets.Sent.{Sent}
 use Rattle.p4x_cmd.specs.Passes.{PassEnd, dropped, leaves, Pass, run_from, sent_from}
-use Rattle.p4x_cmd.specs.Meaning16.{pass16, Run16, signature16}
+use Rattle.p4x_cmd.specs.Meaning16.{Run16, signature16}
 use Rattle.p4x_cmd.specs.internal.Plain.{plain_pass, no_store, own_pass, own_outcome, outs_of, IsSized}
 use Rattle.p4x_cmd.specs.Runs.{default_bound, this_run}
 use Rattle.p4x_cmd.proofs.Pass16.{pass16_is, no_default, TakesAction}

@@ -7,7 +7,7 @@ use Rattle.command_words.specs.Words.{CarryFiles, Command, carry, carry_inputs, 
 use Rattle.file_work.specs.declared.stop.Limited.TheVariants as limited
 use Rattle.file_work.specs.declared.stop.Stop.{Stop}
 use Rattle.file_work.specs.declared.stop.Stop.TheVariants.{Usage, Program, Entries, Refused, Limit}
-use Rattle.file_work.specs.Clauses.{ComesWhere, EndsAsDue, OwnRose, OnlyThese, Fronts, AsDue}
+use Rattle.file_work.specs.Clauses.{ComesWhere, EndsAsDue, OnlyThese, Fronts, AsDue}
 use Rattle.file_work.specs.Works.{Held, Due, Works, AllKept, Tells}
 use Rattle.fabric.specs.Numbers.{IsArrival}
 use Rattle.fabric.specs.declared.packets.Arrival.{Arrival}

@@ -1,7 +1,7 @@
 -- The programs of P4_16 on which this meaning is whole: all that such a program says is what the meaning reads of it
 -- (this project's own). The parser has one state, there is one table, which has no keys, no expression asks whether a
 -- header is valid, and no action is called but by the table.
-use Rattle.std.specs.Prelude.{ℕ, Bool, true, false, ◌==◌, ◌&&◌, ◌||◌, List, [], ◌∷◌, length, codes}
+use Rattle.std.specs.Prelude.{Bool, true, false, ◌==◌, ◌&&◌, ◌||◌, List, [], ◌∷◌, length, codes}
 use Rattle.std.specs.List.{list_all}
 use Rattle.std.specs.Str.{bytes_eq}
 use Rattle.p416_ast.specs.Tree.{Exp16, literal, name, error, member, binary, call, no_arguments, Stmt16, no_statements, then, block, assign, expression, if_else}
