@@ -8,8 +8,8 @@ use Rattle.p414_ast.specs.Tree.{Stmt, no_statements, no_branches, branch}
 use Rattle.p414_ast.specs.Written.{label_text, written_stmt}
 use Rattle.p414_ast.specs.Conditions.{is_among, all_different, is_mixed, are_labels, own_labels, is_label, labels_of, statement, block, branches, is_stmt}
 use Rattle.predictive_parser.specs.Values.{newest, extended}
-use Rattle.p414_reader.specs.Classes.{may_follow}
-use Rattle.p414_reader.specs.Actions.{label_of}
+use Rattle.p414_reader.specs.internal.Classes.{may_follow}
+use Rattle.p414_reader.specs.internal.Actions.{label_of}
 use Rattle.p414_reader.proofs.Meaning.{BranchPart, written_branch, is_branch, branch_text, with_stmts, with_branches}
 use Rattle.p414_reader.proofs.Lists.{both, left_true, right_true, not_true, text_is, text_differs, neither_of, different_one_more}
 

@@ -10,12 +10,12 @@ use Rattle.text_reading.specs.declared.error.ReadError.{ReadError}
 use Rattle.text_reading.specs.Reading.{IfRefused, Answers}
 use Rattle.text_reading.proofs.Clauses.{ReadsExactly, found, accepts, refused, refuses, one}
 use Rattle.p414_reader.specs.declared.symbols.Word.TheVariants as word
-use Rattle.p414_reader.specs.Built.{nothing}
-use Rattle.p414_reader.specs.Rows.{grammar14}
-use Rattle.p414_tok.specs.Lexemes.{lexemes}
+use Rattle.p414_reader.specs.internal.Built.{nothing}
+use Rattle.p414_reader.specs.internal.Rows.{grammar14}
 use Rattle.p414_reader.specs.Reading.{Reads14, IsRefused14}
 use Rattle.p414_reader.specs.internal.Machine.{HoldsDecls, IsRead14}
 use Rattle.p414_reader.proofs.Language.{whole, language14, refused_place}
+use Rattle.p414_tok.specs.Lexemes.{lexemes}
 
 exactly14 : ReadsExactly front lexemes Spells grammar14 word.Decls nothing HoldsDecls
 exactly14 = record {

@@ -10,10 +10,10 @@ use Rattle.p414_lexemes.specs.declared.mark.Mark.TheVariants as mark
 use Rattle.p414_ast.specs.Conditions.{is_among}
 use Rattle.p414_reader.specs.declared.symbols.Class.{Class}
 use Rattle.p414_reader.specs.declared.symbols.Class.TheVariants as class
+use Rattle.p414_reader.specs.internal.Built.{Built}
+use Rattle.p414_reader.specs.internal.Classes.{mark_number, is_mark, is_named, is_number, is_new, accepts}
+use Rattle.p414_reader.specs.internal.Rows.{grammar14}
 use Rattle.p414_lexemes.specs.Keywords.{keyword_text}
-use Rattle.p414_reader.specs.Built.{Built}
-use Rattle.p414_reader.specs.Classes.{mark_number, is_mark, is_named, is_number, is_new, accepts}
-use Rattle.p414_reader.specs.Rows.{grammar14}
 use Rattle.p414_reader.proofs.Lists.{text_is, left_true, right_true, not_true}
 
 -- a mark is known by its number

@@ -1,6 +1,6 @@
 -- Places of nodes, while more nodes are put behind: what is seen of them stays as it was.
-use Rattle.std.proofs.Common.{◌≡◌, ℕ, zero, suc, ◌<◌, ◌≤◌, List, [], ◌∷◌, length, refl, ap, ap₂, ◌∙◌, arith}
-use Rattle.std.specs.Prelude.{map, All}
+use Rattle.std.proofs.Common.{◌≡◌, ℕ, zero, suc, ◌<◌, ◌≤◌, false, List, [], ◌∷◌, length, refl, sym, subst, ap, ap₂, ◌∙◌, arith}
+use Rattle.std.specs.Prelude.{map, All, Result, Ok, Err, IfOk, OnOk, OnErr}
 use Rattle.std.proofs.lemmas.List.{map-append}
 use Rattle.std.proofs.lemmas.List.Elements.{All-append}
 use Rattle.p414_ast.specs.declared.headers.TypeTail.{TypeTail}
@@ -12,18 +12,10 @@ use Rattle.p414_ast.specs.declared.node.StmtNode.TheVariants.{NoStatements, Then
 use Rattle.p414_ast.specs.Tree.{Expr, Stmt, no_statements, if_then, Trees, expr_at, stmt_at, expr_of, stmt_of, ExprInOrder, StmtInOrder, Keeps, AddsExpr, AddsStmt}
 use Rattle.p414_ast.specs.Views.{TailTree, length_is, max_length_is, tail_tree, TailWithin, TailsWithin}
 use Rattle.predictive_parser.specs.Values.{newest, older, extended}
-use Rattle.p414_reader.specs.Actions.{no_expr}
-use Rattle.p414_reader.specs.Forest.{Forest, forest_of, AllBelow, AllTailsWithin, StandIn, TakesExpr, TakesStmt}
+use Rattle.p414_reader.specs.internal.Actions.{no_expr, on_expr, on_exprs}
+use Rattle.p414_reader.specs.internal.Forest.{Forest, forest_of, Rooted, over_stmt, over_stmts, over_if, add_tail, AllBelow, AllTailsWithin, StandIn, TakesExpr, TakesStmt}
 
 -- stacks
-
-map_older : {A B : Type 0} (f : A → B) (xs : List A) → map f (older xs) ≡ older (map f xs)
-map_older f [] = refl
-map_older f (x ∷ xs) = refl
-
-map_extended : {A B : Type 0} (f : A → B) (x : A) (lists : List (List A)) → map (map f) (extended (x ∷ []) lists) ≡ extended (f x ∷ []) (map (map f) lists)
-map_extended f x [] = refl
-map_extended f x (xs ∷ lists) = ap (λ ys. ys ∷ map (map f) lists) (map-append f xs (x ∷ []))
 
 pub map_newest : {A B : Type 0} (f : A → B) (lists : List (List A)) → map f (newest [] lists) ≡ newest [] (map (map f) lists)
 map_newest f [] = refl
@@ -35,10 +27,6 @@ pub below_more : (m n : ℕ) (places : List ℕ) → m ≤ n → AllBelow m plac
 below_more m n [] le h = tt
 below_more m n (place ∷ places) le h = (omega arith, below_more m n places le h.1)
 
-older_below : (n : ℕ) (places : List ℕ) → AllBelow n places → AllBelow n (older places)
-older_below n [] h = tt
-older_below n (place ∷ places) h = h.1
-
 maps_same : {A : Type 0} (f g : ℕ → A) (n : ℕ) → ((i : ℕ) → i < n → f i ≡ g i) → (places : List ℕ) → AllBelow n places → map f places ≡ map g places
 maps_same f g n same [] h = refl
 maps_same f g n same (place ∷ places) h = ap₂ ◌∷◌ (same place h.0) (maps_same f g n same places h.1)
@@ -48,10 +36,6 @@ maps_same f g n same (place ∷ places) h = ap₂ ◌∷◌ (same place h.0) (ma
 tail_more : (m n : ℕ) (t : TypeTail) → m ≤ n → TailWithin m t → TailWithin n t
 tail_more m n (Length place) le h = omega arith
 tail_more m n (MaxLength place) le h = omega arith
-
-one_within : (n : ℕ) (t : TypeTail) → TailWithin n t → All (TailWithin n) (t ∷ [])
-one_within n t h zero d lt = h
-one_within n t h (suc k) d lt = absurd (omega arith)
 
 module _ (old new : Trees) (keeps : Keeps old new) where
   tail_tree_kept : (t : TypeTail) → TailWithin (length old.exprs) t → tail_tree new t ≡ tail_tree old t
@@ -69,10 +53,6 @@ module _ (old new : Trees) (keeps : Keeps old new) where
   tails_more : (lists : List (List TypeTail)) → AllTailsWithin old lists → AllTailsWithin new lists
   tails_more [] h = tt
   tails_more (ts ∷ lists) h = (λ k d lt. tail_more (length old.exprs) (length new.exprs) _ keeps.exprs_len (h.0 k d lt), tails_more lists h.1)
-
-extended_within : (nodes : Trees) (t : TypeTail) → TailWithin (length nodes.exprs) t → (lists : List (List TypeTail)) → AllTailsWithin nodes lists → AllTailsWithin nodes (extended (t ∷ []) lists)
-extended_within nodes t w [] h = (one_within (length nodes.exprs) t w, tt)
-extended_within nodes t w (ts ∷ lists) h = (All-append (TailWithin (length nodes.exprs)) ts (t ∷ []) h.0 (one_within (length nodes.exprs) t w), h.1)
 
 -- places that are seen as these trees
 pub record Shows (nodes : Trees) (es : List ℕ) (ts : List (List TypeTail)) (ss : List ℕ) (f : Forest) : Type 0 where
@@ -96,22 +76,16 @@ Shows_kept old new es ts ss f keeps s = record {
 
 -- a forest with others in some places
 
-abbrev with_exprs : List Expr → Forest → Forest
+abbrev pub with_exprs : List Expr → Forest → Forest
 with_exprs es f = record f { exprs = es }
 
-abbrev with_tails : List (List TailTree) → Forest → Forest
+abbrev pub with_tails : List (List TailTree) → Forest → Forest
 with_tails ts f = record f { tails = ts }
 
-abbrev with_stmts : List Stmt → Forest → Forest
+abbrev pub with_stmts : List Stmt → Forest → Forest
 with_stmts ss f = record f { stmts = ss }
 
--- an expression is taken off, or put in front
-
-Shows_older_expr : (nodes : Trees) (es : List ℕ) (ts : List (List TypeTail)) (ss : List ℕ) (f : Forest) → Shows nodes es ts ss f → Shows nodes (older es) ts ss (record f { exprs = older f.exprs })
-Shows_older_expr nodes es ts ss f s = record {
-  within = record { exprs_below = older_below (length nodes.exprs) es s.within.exprs_below; tails_within = s.within.tails_within; stmts_below = s.within.stmts_below };
-  trees = ap (λ l. with_exprs l (forest_of nodes es ts ss)) (map_older (expr_at nodes.exprs) es) ∙ ap (λ (g : Forest). with_exprs (older g.exprs) g) s.trees;
-}
+-- an expression is put in front
 
 Shows_expr : (nodes : Trees) (es : List ℕ) (ts : List (List TypeTail)) (ss : List ℕ) (f : Forest) (place : ℕ) (e : Expr) → place < length nodes.exprs → expr_at nodes.exprs place ≡ e → Shows nodes es ts ss f → Shows nodes (place ∷ es) ts ss (record f { exprs = e ∷ f.exprs })
 Shows_expr nodes es ts ss f place e lt is s = record {
@@ -119,13 +93,7 @@ Shows_expr nodes es ts ss f place e lt is s = record {
   trees = ap₂ (λ (x : Expr) (g : Forest). with_exprs (x ∷ g.exprs) g) is s.trees;
 }
 
--- a statement is taken off, or put in front
-
-Shows_older_stmt : (nodes : Trees) (es : List ℕ) (ts : List (List TypeTail)) (ss : List ℕ) (f : Forest) → Shows nodes es ts ss f → Shows nodes es ts (older ss) (record f { stmts = older f.stmts })
-Shows_older_stmt nodes es ts ss f s = record {
-  within = record { exprs_below = s.within.exprs_below; tails_within = s.within.tails_within; stmts_below = older_below (length nodes.stmts) ss s.within.stmts_below };
-  trees = ap (λ l. with_stmts l (forest_of nodes es ts ss)) (map_older (stmt_at nodes.stmts) ss) ∙ ap (λ (g : Forest). with_stmts (older g.stmts) g) s.trees;
-}
+-- a statement is put in front
 
 Shows_stmt : (nodes : Trees) (es : List ℕ) (ts : List (List TypeTail)) (ss : List ℕ) (f : Forest) (place : ℕ) (t : Stmt) → place < length nodes.stmts → stmt_at nodes.stmts place ≡ t → Shows nodes es ts ss f → Shows nodes es ts (place ∷ ss) (record f { stmts = t ∷ f.stmts })
 Shows_stmt nodes es ts ss f place t lt is s = record {
@@ -135,25 +103,60 @@ Shows_stmt nodes es ts ss f place t lt is s = record {
 
 -- what the calls of forest.rt do
 
-took_expr : (a b : Trees) (es es' : List ℕ) (ts : List (List TypeTail)) (ss : List ℕ) (f : Forest) (i : ℕ) → TakesExpr a b es es' i → Shows a es ts ss f → Shows b es' ts ss (record f { exprs = older f.exprs })
-took_expr a b es es' ts ss f i t s = rw t.rest (Shows_kept a b (older es) ts ss _ t.keeps (Shows_older_expr a es ts ss f s))
+abbrev pub view_of : Trees → List ℕ → List (List TypeTail) → List ℕ → Rooted
+view_of n es ts ss = record { nodes = n; trees = forest_of n es ts ss }
 
-taken_expr : (a b : Trees) (es es' : List ℕ) (ts : List (List TypeTail)) (ss : List ℕ) (f : Forest) (i : ℕ) → TakesExpr a b es es' i → Shows a es ts ss f → expr_at b.exprs i ≡ newest no_expr f.exprs
-taken_expr a b es es' ts ss f i t s = t.tree ∙ ap (λ (g : Forest). newest no_expr g.exprs) s.trees
+shows : (old : Rooted) (n : Trees) (es : List ℕ) (ts : List (List TypeTail)) (ss : List ℕ) → StandIn n es ts ss → view_of n es ts ss ≡ old → Shows n es ts ss old.trees
+shows old n es ts ss w v = record { within = w; trees = ap (λ (r : Rooted). r.trees) v }
 
-took_stmt : (a b : Trees) (es : List ℕ) (ts : List (List TypeTail)) (ss ss' : List ℕ) (f : Forest) (i : ℕ) → TakesStmt a b ss ss' i → Shows a es ts ss f → Shows b es ts ss' (record f { stmts = older f.stmts })
-took_stmt a b es ts ss ss' f i t s = rw t.rest (Shows_kept a b es ts (older ss) _ t.keeps (Shows_older_stmt a es ts ss f s))
+pub within_more : {n m : Trees} {es : List ℕ} {ts : List (List TypeTail)} {ss : List ℕ} → Keeps n m → StandIn n es ts ss → StandIn m es ts ss
+within_more {n} {m} {es} {ts} {ss} k w = (Shows_kept n m es ts ss (forest_of n es ts ss) k (record { within = w; trees = refl })).within
 
-taken_stmt : (a b : Trees) (es : List ℕ) (ts : List (List TypeTail)) (ss ss' : List ℕ) (f : Forest) (i : ℕ) → TakesStmt a b ss ss' i → Shows a es ts ss f → stmt_at b.stmts i ≡ newest no_statements f.stmts
-taken_stmt a b es ts ss ss' f i t s = t.tree ∙ ap (λ (g : Forest). newest no_statements g.stmts) s.trees
+-- where there was none to be taken off
 
-put_expr : (a b : Trees) (es es' : List ℕ) (ts : List (List TypeTail)) (ss : List ℕ) (f : Forest) (k : ℕ) (e e' : Expr) → AddsExpr a b k e → es' ≡ k ∷ es → e ≡ e' → Shows a es ts ss f → Shows b es' ts ss (record f { exprs = e' ∷ f.exprs })
-put_expr a b es es' ts ss f k e e' adds push is s = rw push (Shows_expr b es ts ss f k e' adds.place (adds.tree ∙ is) (Shows_kept a b es ts ss f adds.keeps s))
+pub within_no_expr : {n : Trees} {es es' : List ℕ} {ts : List (List TypeTail)} {ss : List ℕ} → es' ≡ [] → StandIn n es ts ss → StandIn n es' ts ss
+within_no_expr {n} e w = record { exprs_below = subst (AllBelow (length n.exprs)) (sym e) tt; tails_within = w.tails_within; stmts_below = w.stmts_below }
 
-put_stmt : (a b : Trees) (es : List ℕ) (ts : List (List TypeTail)) (ss ss' : List ℕ) (f : Forest) (k : ℕ) (t t' : Stmt) → AddsStmt a b k t → ss' ≡ k ∷ ss → t ≡ t' → Shows a es ts ss f → Shows b es ts ss' (record f { stmts = t' ∷ f.stmts })
-put_stmt a b es ts ss ss' f k t t' adds push is s = rw push (Shows_stmt b es ts ss f k t' adds.place (adds.tree ∙ is) (Shows_kept a b es ts ss f adds.keeps s))
+pub within_no_stmt : {n : Trees} {es : List ℕ} {ts : List (List TypeTail)} {ss ss' : List ℕ} → ss' ≡ [] → StandIn n es ts ss → StandIn n es ts ss'
+within_no_stmt {n} e w = record { exprs_below = w.exprs_below; tails_within = w.tails_within; stmts_below = subst (AllBelow (length n.stmts)) (sym e) tt }
 
-leaf_of : (es : List Expr) (x : ExprNode) → ExprInOrder 0 x → expr_of es x ≡ expr_of [] x
+pub within_expr_none : {E : Type 0} {n m : Trees} {es es' : List ℕ} {ts : List (List TypeTail)} {ss : List ℕ} (e : Expr) (r : Result ℕ E) → IfOk r (λ place. AddsExpr n m place e) → OnErr r (m ≡ n) → es' ≡ [] → StandIn n es ts ss → StandIn m es' ts ss
+within_expr_none e (Ok place) ok err is w = within_no_expr is (within_more ok.keeps w)
+within_expr_none {es' = es'} {ts = ts} {ss = ss} e (Err error) ok err is w = subst (λ k. StandIn k es' ts ss) (sym err) (within_no_expr is w)
+
+pub within_stmt_none : {E : Type 0} {n m : Trees} {es : List ℕ} {ts : List (List TypeTail)} {ss ss' : List ℕ} (t : Stmt) (r : Result ℕ E) → IfOk r (λ place. AddsStmt n m place t) → OnErr r (m ≡ n) → ss' ≡ [] → StandIn n es ts ss → StandIn m es ts ss'
+within_stmt_none t (Ok place) ok err is w = within_no_stmt is (within_more ok.keeps w)
+within_stmt_none {es = es} {ts = ts} {ss' = ss'} t (Err error) ok err is w = subst (λ k. StandIn k es ts ss') (sym err) (within_no_stmt is w)
+
+-- one is put in front
+
+pub within_expr_on : {E : Type 0} {n m : Trees} {es es' : List ℕ} {ts : List (List TypeTail)} {ss : List ℕ} {place : ℕ} {e : Expr} (r : Result (Unit {0}) E) → AddsExpr n m place e → OnOk r (es' ≡ place ∷ es) → OnErr r (es' ≡ es) → StandIn n es ts ss → StandIn m es' ts ss
+within_expr_on {m = m} {ts = ts} {ss = ss} (Ok done) adds ok err w =
+    let k = within_more adds.keeps w in
+    subst (λ l. StandIn m l ts ss) (sym ok) (record { exprs_below = (adds.place, k.exprs_below); tails_within = k.tails_within; stmts_below = k.stmts_below })
+within_expr_on {m = m} {ts = ts} {ss = ss} (Err error) adds ok err w = subst (λ l. StandIn m l ts ss) (sym err) (within_more adds.keeps w)
+
+pub within_stmt_on : {E : Type 0} {n m : Trees} {es : List ℕ} {ts : List (List TypeTail)} {ss ss' : List ℕ} {place : ℕ} {s : Stmt} (r : Result (Unit {0}) E) → AddsStmt n m place s → OnOk r (ss' ≡ place ∷ ss) → OnErr r (ss' ≡ ss) → StandIn n es ts ss → StandIn m es ts ss'
+within_stmt_on {m = m} {es = es} {ts = ts} (Ok done) adds ok err w =
+    let k = within_more adds.keeps w in
+    subst (λ l. StandIn m es ts l) (sym ok) (record { exprs_below = k.exprs_below; tails_within = k.tails_within; stmts_below = (adds.place, k.stmts_below) })
+within_stmt_on {m = m} {es = es} {ts = ts} (Err error) adds ok err w = subst (λ l. StandIn m es ts l) (sym err) (within_more adds.keeps w)
+
+pub put_expr : {old : Rooted} {n m : Trees} {es es' : List ℕ} {ts : List (List TypeTail)} {ss : List ℕ} {place : ℕ} (node : ExprNode) → StandIn n es ts ss → view_of n es ts ss ≡ old → AddsExpr n m place (expr_of n.exprs node) → es' ≡ place ∷ es
+    → forest_of m es' ts ss ≡ record old.trees { exprs = expr_of old.nodes.exprs node ∷ old.trees.exprs }
+put_expr {old} {n} {m} {es} {es'} {ts} {ss} {place} node w v adds push =
+    let is : expr_of n.exprs node ≡ expr_of old.nodes.exprs node = ap (λ (r : Rooted). expr_of r.nodes.exprs node) v in
+    ap (λ l. forest_of m l ts ss) push
+    ∙ (Shows_expr m es ts ss old.trees place (expr_of old.nodes.exprs node) adds.place (adds.tree ∙ is) (Shows_kept n m es ts ss old.trees adds.keeps (shows old n es ts ss w v))).trees
+
+pub put_stmt : {old : Rooted} {n m : Trees} {es : List ℕ} {ts : List (List TypeTail)} {ss ss' : List ℕ} {place : ℕ} (node : StmtNode) → StandIn n es ts ss → view_of n es ts ss ≡ old → AddsStmt n m place (stmt_of n.exprs n.stmts node) → ss' ≡ place ∷ ss
+    → forest_of m es ts ss' ≡ record old.trees { stmts = stmt_of old.nodes.exprs old.nodes.stmts node ∷ old.trees.stmts }
+put_stmt {old} {n} {m} {es} {ts} {ss} {ss'} {place} node w v adds push =
+    let is : stmt_of n.exprs n.stmts node ≡ stmt_of old.nodes.exprs old.nodes.stmts node = ap (λ (r : Rooted). stmt_of r.nodes.exprs r.nodes.stmts node) v in
+    ap (λ l. forest_of m es ts l) push
+    ∙ (Shows_stmt m es ts ss old.trees place (stmt_of old.nodes.exprs old.nodes.stmts node) adds.place (adds.tree ∙ is) (Shows_kept n m es ts ss old.trees adds.keeps (shows old n es ts ss w v))).trees
+
+pub leaf_of : (es : List Expr) (x : ExprNode) → ExprInOrder 0 x → expr_of es x ≡ expr_of [] x
 leaf_of es (Valid instance) o = refl
 leaf_of es (Truth value) o = refl
 leaf_of es (Field of) o = refl
@@ -162,7 +165,7 @@ leaf_of es (Parenthesized a) o = absurd (omega arith)
 leaf_of es (Unary operator a) o = absurd (omega arith)
 leaf_of es (Binary operator a b) o = let h : a < 0 = o.0 in absurd (omega arith)
 
-stmt_leaf_of : (es : List Expr) (ss : List Stmt) (x : StmtNode) → StmtInOrder 0 0 x → stmt_of es ss x ≡ stmt_of [] [] x
+pub stmt_leaf_of : (es : List Expr) (ss : List Stmt) (x : StmtNode) → StmtInOrder 0 0 x → stmt_of es ss x ≡ stmt_of [] [] x
 stmt_leaf_of es ss NoStatements o = refl
 stmt_leaf_of es ss (Then a b) o = let h : a < 0 = o.0 in absurd (omega arith)
 stmt_leaf_of es ss (Apply table) o = refl
@@ -175,66 +178,36 @@ stmt_leaf_of es ss (ElseIf a) o = absurd (omega arith)
 stmt_leaf_of es ss NoBranches o = refl
 stmt_leaf_of es ss (Branch a label b) o = let h : a < 0 = o.0 in absurd (omega arith)
 
-pub leaf : (a b : Trees) (es es' : List ℕ) (ts : List (List TypeTail)) (ss : List ℕ) (f : Forest) (k : ℕ) (x : ExprNode) → ExprInOrder 0 x → AddsExpr a b k (expr_of a.exprs x) → es' ≡ k ∷ es → Shows a es ts ss f → Shows b es' ts ss (record f { exprs = expr_of [] x ∷ f.exprs })
-leaf a b es es' ts ss f k x o adds push s = put_expr a b es es' ts ss f k _ _ adds push (leaf_of a.exprs x o) s
+-- one over those that were taken off
 
-pub over_one : (g : Expr → Expr) (a b d : Trees) (es es1 es2 : List ℕ) (ts : List (List TypeTail)) (ss : List ℕ) (f : Forest) (i k : ℕ) → TakesExpr a b es es1 i → AddsExpr b d k (g (expr_at b.exprs i)) → es2 ≡ k ∷ es1 → Shows a es ts ss f → Shows d es2 ts ss (record f { exprs = g (newest no_expr f.exprs) ∷ older f.exprs })
-over_one g a b d es es1 es2 ts ss f i k t adds push s =
-    put_expr b d es1 es2 ts ss _ k _ _ adds push (ap g (taken_expr a b es es1 ts ss f i t s)) (took_expr a b es es1 ts ss f i t s)
+pub over_one : (g : Expr → Expr) {a b : Rooted} {f : Forest} {i : ℕ} → TakesExpr a b i → f ≡ with_exprs (g (expr_at b.nodes.exprs i) ∷ b.trees.exprs) b.trees → f ≡ record a.trees { exprs = on_expr g a.trees.exprs }
+over_one g t push = push ∙ ap₂ (λ (x : Expr) (h : Forest). with_exprs (g x ∷ h.exprs) h) t.tree t.rest
 
-pub over_two : (g : Expr → Expr → Expr) (a b d h : Trees) (es es1 es2 es3 : List ℕ) (ts : List (List TypeTail)) (ss : List ℕ) (f : Forest) (i j k : ℕ) → TakesExpr a b es es1 i → TakesExpr b d es1 es2 j → AddsExpr d h k (g (expr_at d.exprs j) (expr_at d.exprs i)) → es3 ≡ k ∷ es2 → Shows a es ts ss f → Shows h es3 ts ss (record f { exprs = g (newest no_expr (older f.exprs)) (newest no_expr f.exprs) ∷ older (older f.exprs) })
-over_two g a b d h es es1 es2 es3 ts ss f i j k t u adds push s =
-    let s1 = took_expr a b es es1 ts ss f i t s in
-    put_expr d h es2 es3 ts ss _ k _ _ adds push
-    (ap₂ g (taken_expr b d es1 es2 ts ss _ j u s1) (u.keeps.exprs i t.place_below ∙ taken_expr a b es es1 ts ss f i t s))
-    (took_expr b d es1 es2 ts ss _ j u s1)
+pub over_two : (g : Expr → Expr → Expr) {a b d : Rooted} {f : Forest} {i j : ℕ} → TakesExpr a b i → TakesExpr b d j → f ≡ with_exprs (g (expr_at d.nodes.exprs j) (expr_at d.nodes.exprs i) ∷ d.trees.exprs) d.trees → f ≡ record a.trees { exprs = on_exprs g a.trees.exprs }
+over_two g {a} {b} {d} {f} {i} {j} t u push =
+    push
+    ∙ ap (λ (x : Expr). with_exprs (g (expr_at d.nodes.exprs j) x ∷ d.trees.exprs) d.trees) (u.keeps.exprs i t.below ∙ t.tree)
+    ∙ ap₂ (λ (x : Expr) (h : Forest). with_exprs (g x (newest no_expr a.trees.exprs) ∷ h.exprs) h) u.tree u.rest
+    ∙ ap (λ (h : Forest). with_exprs (g (newest no_expr h.exprs) (newest no_expr a.trees.exprs) ∷ older h.exprs) h) t.rest
 
-more_tail : (a : Trees) (es : List ℕ) (ts ts' : List (List TypeTail)) (ss : List ℕ) (f : Forest) (t : TypeTail) (x : TailTree) → TailWithin (length a.exprs) t → tail_tree a t ≡ x → ts' ≡ extended (t ∷ []) ts → Shows a es ts ss f → Shows a es ts' ss (record f { tails = extended (x ∷ []) f.tails })
-more_tail a es ts ts' ss f t x w is extend s =
-    rw extend (record {
-      within = record { exprs_below = s.within.exprs_below; tails_within = extended_within a t w ts s.within.tails_within; stmts_below = s.within.stmts_below };
-      trees =
-          ap (λ l. with_tails l (forest_of a es ts ss)) (map_extended (tail_tree a) t ts)
-          ∙ ap₂ (λ (y : TailTree) (g : Forest). with_tails (extended (y ∷ []) g.tails) g) is s.trees;
-    })
+pub tail_over : (g : Expr → TailTree) {a b : Rooted} {f : Forest} {i : ℕ} → TakesExpr a b i → f ≡ with_tails (extended (g (expr_at b.nodes.exprs i) ∷ []) b.trees.tails) b.trees → f ≡ add_tail g a.trees
+tail_over g t push = push ∙ ap₂ (λ (x : Expr) (h : Forest). with_tails (extended (g x ∷ []) h.tails) h) t.tree t.rest
 
-pub add_length : (a b : Trees) (es es1 : List ℕ) (ts ts' : List (List TypeTail)) (ss : List ℕ) (f : Forest) (i : ℕ) → TakesExpr a b es es1 i → ts' ≡ extended (Length i ∷ []) ts → Shows a es ts ss f → Shows b es1 ts' ss (record f { exprs = older f.exprs; tails = extended (length_is (newest no_expr f.exprs) ∷ []) f.tails })
-add_length a b es es1 ts ts' ss f i t extend s =
-    more_tail b es1 ts ts' ss _ (Length i) _ t.place_below (ap length_is (taken_expr a b es es1 ts ss f i t s)) extend (took_expr a b es es1 ts ss f i t s)
+pub stmt_over : (g : Stmt → Stmt) {a b : Rooted} {f : Forest} {i : ℕ} → TakesStmt a b i → f ≡ with_stmts (g (stmt_at b.nodes.stmts i) ∷ b.trees.stmts) b.trees → f ≡ record a.trees { stmts = over_stmt g a.trees.stmts }
+stmt_over g t push = push ∙ ap₂ (λ (x : Stmt) (h : Forest). with_stmts (g x ∷ h.stmts) h) t.tree t.rest
 
-pub add_max_length : (a b : Trees) (es es1 : List ℕ) (ts ts' : List (List TypeTail)) (ss : List ℕ) (f : Forest) (i : ℕ) → TakesExpr a b es es1 i → ts' ≡ extended (MaxLength i ∷ []) ts → Shows a es ts ss f → Shows b es1 ts' ss (record f { exprs = older f.exprs; tails = extended (max_length_is (newest no_expr f.exprs) ∷ []) f.tails })
-add_max_length a b es es1 ts ts' ss f i t extend s =
-    more_tail b es1 ts ts' ss _ (MaxLength i) _ t.place_below (ap max_length_is (taken_expr a b es es1 ts ss f i t s)) extend (took_expr a b es es1 ts ss f i t s)
+pub stmt_over_two : (g : Stmt → Stmt → Stmt) {a b d : Rooted} {f : Forest} {i j : ℕ} → TakesStmt a b i → TakesStmt b d j → f ≡ with_stmts (g (stmt_at d.nodes.stmts j) (stmt_at d.nodes.stmts i) ∷ d.trees.stmts) d.trees → f ≡ record a.trees { stmts = over_stmts g a.trees.stmts }
+stmt_over_two g {a} {b} {d} {f} {i} {j} t u push =
+    push
+    ∙ ap (λ (x : Stmt). with_stmts (g (stmt_at d.nodes.stmts j) x ∷ d.trees.stmts) d.trees) (u.keeps.stmts i t.below ∙ t.tree)
+    ∙ ap₂ (λ (x : Stmt) (h : Forest). with_stmts (g x (newest no_statements a.trees.stmts) ∷ h.stmts) h) u.tree u.rest
+    ∙ ap (λ (h : Forest). with_stmts (g (newest no_statements h.stmts) (newest no_statements a.trees.stmts) ∷ older h.stmts) h) t.rest
 
-pub stmt_leaf : (a b : Trees) (es : List ℕ) (ts : List (List TypeTail)) (ss ss' : List ℕ) (f : Forest) (k : ℕ) (x : StmtNode) → StmtInOrder 0 0 x → AddsStmt a b k (stmt_of a.exprs a.stmts x) → ss' ≡ k ∷ ss → Shows a es ts ss f → Shows b es ts ss' (record f { stmts = stmt_of [] [] x ∷ f.stmts })
-stmt_leaf a b es ts ss ss' f k x o adds push s = put_stmt a b es ts ss ss' f k _ _ adds push (stmt_leaf_of a.exprs a.stmts x o) s
-
-pub over_stmt : (g : Stmt → Stmt) (a b d : Trees) (es : List ℕ) (ts : List (List TypeTail)) (ss ss1 ss2 : List ℕ) (f : Forest) (i k : ℕ) → TakesStmt a b ss ss1 i → AddsStmt b d k (g (stmt_at b.stmts i)) → ss2 ≡ k ∷ ss1 → Shows a es ts ss f → Shows d es ts ss2 (record f { stmts = g (newest no_statements f.stmts) ∷ older f.stmts })
-over_stmt g a b d es ts ss ss1 ss2 f i k t adds push s =
-    put_stmt b d es ts ss1 ss2 _ k _ _ adds push (ap g (taken_stmt a b es ts ss ss1 f i t s)) (took_stmt a b es ts ss ss1 f i t s)
-
-pub over_stmts : (g : Stmt → Stmt → Stmt) (a b d h : Trees) (es : List ℕ) (ts : List (List TypeTail)) (ss ss1 ss2 ss3 : List ℕ) (f : Forest) (i j k : ℕ) → TakesStmt a b ss ss1 i → TakesStmt b d ss1 ss2 j → AddsStmt d h k (g (stmt_at d.stmts j) (stmt_at d.stmts i)) → ss3 ≡ k ∷ ss2 → Shows a es ts ss f → Shows h es ts ss3 (record f { stmts = g (newest no_statements (older f.stmts)) (newest no_statements f.stmts) ∷ older (older f.stmts) })
-over_stmts g a b d h es ts ss ss1 ss2 ss3 f i j k t u adds push s =
-    let s1 = took_stmt a b es ts ss ss1 f i t s in
-    put_stmt d h es ts ss2 ss3 _ k _ _ adds push
-    (ap₂ g (taken_stmt b d es ts ss1 ss2 _ j u s1) (u.keeps.stmts i t.place_below ∙ taken_stmt a b es ts ss ss1 f i t s))
-    (took_stmt b d es ts ss1 ss2 _ j u s1)
-
-pub over_if : (a b d h m : Trees) (es es1 : List ℕ) (ts : List (List TypeTail)) (ss ss1 ss2 ss3 : List ℕ) (f : Forest) (c i j k : ℕ) → TakesExpr a b es es1 c → TakesStmt b d ss ss1 i → TakesStmt d h ss1 ss2 j → AddsStmt h m k (if_then (expr_at h.exprs c) (stmt_at h.stmts j) (stmt_at h.stmts i)) → ss3 ≡ k ∷ ss2 → Shows a es ts ss f → Shows m es1 ts ss3 (record f { exprs = older f.exprs; stmts = if_then (newest no_expr f.exprs) (newest no_statements (older f.stmts)) (newest no_statements f.stmts) ∷ older (older f.stmts) })
-over_if a b d h m es es1 ts ss ss1 ss2 ss3 f c i j k x t u adds push s =
-    let s1 = took_expr a b es es1 ts ss f c x s in
-    let s2 = took_stmt b d es1 ts ss ss1 _ i t s1 in
-    let later : expr_at h.exprs c ≡ newest no_expr f.exprs =
-    u.keeps.exprs c (omega (arith, x.place_below, t.keeps.exprs_len)) ∙ t.keeps.exprs c x.place_below ∙ taken_expr a b es es1 ts ss f c x s in
-    put_stmt h m es1 ts ss2 ss3 _ k _ _ adds push
-    (ap (λ e. if_then e (stmt_at h.stmts j) (stmt_at h.stmts i)) later
-    ∙ ap₂ (if_then (newest no_expr f.exprs)) (taken_stmt d h es1 ts ss1 ss2 _ j u s2) (u.keeps.stmts i t.place_below ∙ taken_stmt b d es1 ts ss ss1 _ i t s1))
-    (took_stmt d h es1 ts ss1 ss2 _ j u s2)
-
--- what is left of a stack is places of nodes
-
-pub before_more : (a b : Trees) (es es' : List ℕ) (i : ℕ) → TakesExpr a b es es' i → AllBelow (length a.exprs) es → AllBelow (length b.exprs) es'
-before_more a b es es' i t h = rw t.rest (below_more (length a.exprs) (length b.exprs) (older es) t.keeps.exprs_len (older_below (length a.exprs) es h))
-
-pub stmts_before_more : (a b : Trees) (ss ss' : List ℕ) (i : ℕ) → TakesStmt a b ss ss' i → AllBelow (length a.stmts) ss → AllBelow (length b.stmts) ss'
-stmts_before_more a b ss ss' i t h = rw t.rest (below_more (length a.stmts) (length b.stmts) (older ss) t.keeps.stmts_len (older_below (length a.stmts) ss h))
+pub if_over : {a b d h : Rooted} {f : Forest} {c i j : ℕ} → TakesExpr a b c → TakesStmt b d i → TakesStmt d h j → f ≡ with_stmts (if_then (expr_at h.nodes.exprs c) (stmt_at h.nodes.stmts j) (stmt_at h.nodes.stmts i) ∷ h.trees.stmts) h.trees → f ≡ over_if a.trees
+if_over {a} {b} {d} {h} {f} {c} {i} {j} x t u push =
+    let later : expr_at h.nodes.exprs c ≡ newest no_expr a.trees.exprs = u.keeps.exprs c (omega (arith, x.below, t.keeps.exprs_len)) ∙ t.keeps.exprs c x.below ∙ x.tree in
+    push
+    ∙ ap₂ (λ (e : Expr) (s : Stmt). with_stmts (if_then e (stmt_at h.nodes.stmts j) s ∷ h.trees.stmts) h.trees) later (u.keeps.stmts i t.below ∙ t.tree)
+    ∙ ap₂ (λ (s : Stmt) (g : Forest). with_stmts (if_then (newest no_expr a.trees.exprs) s (newest no_statements b.trees.stmts) ∷ g.stmts) g) u.tree u.rest
+    ∙ ap (λ (g : Forest). with_stmts (if_then (newest no_expr a.trees.exprs) (newest no_statements g.stmts) (newest no_statements b.trees.stmts) ∷ older g.stmts) g) t.rest
+    ∙ ap (λ (g : Forest). with_stmts (if_then (newest no_expr a.trees.exprs) (newest no_statements (older g.stmts)) (newest no_statements g.stmts) ∷ older (older g.stmts)) g) x.rest

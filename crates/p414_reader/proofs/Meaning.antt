@@ -57,9 +57,10 @@ use Rattle.p414_reader.specs.declared.symbols.ObjectWord.TheVariants as object
 use Rattle.p414_reader.specs.declared.symbols.BodyWord.{BodyWord}
 use Rattle.p414_reader.specs.declared.symbols.BodyWord.TheVariants as body
 use Rattle.predictive_parser.specs.Values.{newest, older, extended}
-use Rattle.p414_reader.specs.Built.{Parts, Built, no_bodies}
-use Rattle.p414_reader.specs.Classes.{with_token}
-use Rattle.p414_reader.specs.Actions.{no_expr, with_argument, without_name, with_value, with_table_attr, with_state_attr, with_stmt, on_stmts}
+use Rattle.p414_reader.specs.internal.Built.{Built, no_bodies}
+use Rattle.p414_reader.specs.declared.parts.Parts.{Parts}
+use Rattle.p414_reader.specs.internal.Classes.{with_token}
+use Rattle.p414_reader.specs.internal.Actions.{no_expr, with_argument, without_name, with_value, with_table_attr, with_state_attr, with_stmt, on_stmts}
 
 -- the newest list, with these put behind it one by one
 abbrev pub extended_by : {A : Type 0} → List A → List (List A) → List (List A)

@@ -1,17 +1,16 @@
 // What is built while a text is read.
 ghost use Rattle.std.specs.Prelude.{◌≡◌, None, OnOk, IfOk};
-ghost use Rattle.p414_reader.specs.Built as built;
-ghost use Rattle.p414_reader.specs.Built.{nothing};
-ghost use Rattle.p414_reader.specs.Classes.{accepts, shift, with_name, with_label, with_token};
-ghost use Rattle.p414_reader.specs.Actions.{put};
-ghost use Rattle.p414_reader.specs.Lexemes.{lexeme_of};
+ghost use Rattle.p414_reader.specs.internal.Built as built;
+ghost use Rattle.p414_reader.specs.internal.Built.{nothing};
+ghost use Rattle.p414_reader.specs.internal.Classes.{accepts, shift, with_name, with_label, with_token};
+ghost use Rattle.p414_reader.specs.internal.Actions.{put};
+ghost use Rattle.p414_reader.specs.internal.Lexemes.{lexeme_of};
 
 use crate::attributes::{has_state_attr, has_table_attr};
 use crate::bodies::Bodies;
 use crate::calculations::Calculations;
 use crate::calls::Calls;
 use crate::headers::Headers;
-use crate::objects::put_object;
 use crate::operators::{is_infix, is_prefix};
 use crate::parts::Parts;
 use crate::states::States;
@@ -28,20 +27,21 @@ use std::mem;
 /// Stacks of the parts that aren't part of a declaration yet, and the declarations.
 #[derive(Drop)]
 pub struct Built {
-    pub(crate) parts: Parts,
-    pub(crate) headers: Headers,
-    pub(crate) calculations: Calculations,
-    pub(crate) states: States,
-    pub(crate) calls: Calls,
-    pub(crate) tables: Tables,
-    pub(crate) objects: ValueStack<Rows<StateAttr>>,
-    pub(crate) bodies: Bodies,
-    pub(crate) groups: ValueStack<Option<Rows<Lexeme>>>,
-    pub(crate) decls: Rows<Decl>,
+    pub parts: Parts,
+    pub headers: Headers,
+    pub calculations: Calculations,
+    pub states: States,
+    pub calls: Calls,
+    pub tables: Tables,
+    pub objects: ValueStack<Rows<StateAttr>>,
+    pub bodies: Bodies,
+    pub groups: ValueStack<Option<Rows<Lexeme>>>,
+    pub decls: Rows<Decl>,
 }
 
 impl Model for Built {
-    ghost use Rattle.p414_reader.specs.Built as built;
+    ghost use Rattle.p414_reader.specs.internal.Built as built;
+    ghost use Rattle.p414_reader.specs.internal.Built.{flat};
     ghost use Rattle.std.specs.Coded.{codes};
     ghost use Rattle.p414_ast.specs.Code.{coded_expr, coded_stmt, coded_tail};
 
@@ -57,7 +57,7 @@ impl Model for Built {
       calls = b.calls;
       tables = b.tables;
       objects = b.objects;
-      bodies = b.bodies;
+      bodies = flat b.bodies;
       groups = b.groups;
       decls = b.decls;
     } };
@@ -99,9 +99,10 @@ impl Built {
             Class::Name => token.is_name(),
             Class::Number => token.is_number(),
             Class::ExpressionName => token.is_expression_name(),
-            Class::NewTail(word) => token.is_word(word) && !self.bodies.has_tail(word),
+            Class::NewTail(word) => token.is_word(word) && !self.bodies.forest.has_tail(word),
             Class::NewTableAttr(word) => {
-                token.is_word(word) && !has_table_attr(self.tables.attributes(), word.text())
+                token.is_word(word)
+                    && !has_table_attr(self.tables.attributes.newest_list(), word.text())
             }
             Class::NewStateAttr(word) => {
                 token.is_word(word) && !has_state_attr(self.objects.newest_list(), word.text())
@@ -126,7 +127,7 @@ impl Built {
     {
         match class {
             Class::Name | Class::ExpressionName => self.parts.push_name(alloc, token.text()),
-            Class::Number => self.parts.push_literal(token.literal()),
+            Class::Number => self.parts.literals.push(token.literal()),
             Class::NewLabel => self.push_label(alloc, token.text()),
             Class::GroupToken | Class::GroupOpen | Class::GroupClose => {
                 self.push_token(alloc, token)
@@ -167,15 +168,13 @@ impl Built {
     {
         match action {
             Action::Part(action) => self.parts.put(alloc, action),
-            Action::Header(action) => self.headers.put(alloc, action, &mut self.parts),
-            Action::Calculation(action) => self.calculations.put(alloc, action, &mut self.parts),
-            Action::State(action) => self.states.put(alloc, action, &mut self.parts),
-            Action::Call(action) => self.calls.put(alloc, action, &mut self.parts),
-            Action::Table(action) => self.tables.put(alloc, action, &mut self.parts),
-            Action::Object(action) => {
-                put_object(&mut self.objects, alloc, action, &mut self.parts)
-            }
-            Action::Body(action) => self.bodies.put(alloc, action, &mut self.parts),
+            Action::Header(action) => self.put_header(alloc, action),
+            Action::Calculation(action) => self.put_calculation(alloc, action),
+            Action::State(action) => self.put_state(alloc, action),
+            Action::Call(action) => self.put_call(alloc, action),
+            Action::Table(action) => self.put_table(alloc, action),
+            Action::Object(action) => self.put_object(alloc, action),
+            Action::Body(action) => self.put_body(alloc, action),
             Action::NoGroup => self.groups.push(None),
             Action::EmptyGroup => self.groups.push(Some(Rows::new(alloc))),
             Action::AddDecl(kind) => self.add_decl(alloc, kind),

@@ -2,10 +2,10 @@
 ghost use Rattle.std.specs.Prelude.{◌≡◌, ◌<◌, length, Some, None, IfOk, slice_get};
 ghost use Rattle.p414_lexemes.specs.declared.lexeme.Lexeme.{Lexeme};
 ghost use Rattle.p414_reader.specs.declared.symbols.BodyWord.TheVariants as BodyWord;
-ghost use Rattle.p414_reader.specs.Classes.{prefix_of};
-ghost use Rattle.p414_reader.specs.Rows as specs;
+ghost use Rattle.p414_reader.specs.internal.Classes.{prefix_of};
+ghost use Rattle.p414_reader.specs.internal.Rows as specs;
+ghost use Rattle.p414_reader.specs.internal.Coded.{ChoosesLine, body_coded, coded};
 ghost use Rattle.p414_tok.specs.Lexemes.{lexemes};
-ghost use Rattle.p414_reader.specs.Coded.{ChoosesLine, body_coded, coded};
 
 use crate::operators::{binary_power, infix_of, prefix_of, unary_power};
 use crate::reading::Reading;

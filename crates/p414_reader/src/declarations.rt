@@ -1,15 +1,15 @@
 // Declarations, as they are put together.
 ghost use Rattle.std.specs.Prelude.{◌≡◌, OnOk, IfOk};
 ghost use Rattle.p414_reader.specs.declared.symbols.DeclKind.TheVariants as DeclKind;
-ghost use Rattle.p414_reader.specs.Actions.{put_decl, with_decl, stateful_of, without_object};
+ghost use Rattle.p414_reader.specs.internal.Actions.{put_decl, with_decl, stateful_of, without_object};
 
 use crate::bodies::Bodies;
 use crate::built::Built;
 use crate::symbols::DeclKind;
-use p4x_bits::OutOfMemory;
+use p4x_bits::{OutOfMemory, Text};
 use p414_ast::{
     Action, CalculatedField, Decl, FieldList, FieldListCalculation, Header, LeftOut, LeftOutKind,
-    Metadata, Parser, Stateful, Table,
+    Metadata, Parser, Return, Stateful, Table,
 };
 use std::alloc::Global;
 use std::mem;
@@ -50,9 +50,9 @@ impl Built {
         ensures { put_decl DeclKind.HeaderType self.old ≡ with_decl result self.new }
     {
         let name = self.parts.take_name(alloc);
-        let fields = self.headers.take_fields(alloc);
+        let fields = self.headers.fields.pop_list(alloc);
         let bodies = mem::replace(&mut self.bodies, Bodies::new(alloc));
-        Decl::HeaderType(bodies.into_header_type(alloc, name, fields))
+        Decl::HeaderType(bodies.forest.into_header_type(alloc, name, fields))
     }
 
     fn header(&mut self, alloc: Global) -> Decl
@@ -60,7 +60,7 @@ impl Built {
     {
         let name = self.parts.take_name(alloc);
         let header_type = self.parts.take_name(alloc);
-        let size = self.parts.take_literal_option();
+        let size = self.parts.literal_options.pop_or(None);
         Decl::Header(Header {
             header_type,
             name,
@@ -73,7 +73,7 @@ impl Built {
     {
         let name = self.parts.take_name(alloc);
         let header_type = self.parts.take_name(alloc);
-        let initials = self.headers.take_initials();
+        let initials = self.headers.initials_options.pop_or(None);
         Decl::Metadata(Metadata {
             header_type,
             name,
@@ -85,7 +85,7 @@ impl Built {
         ensures { put_decl DeclKind.FieldList self.old ≡ with_decl result self.new }
     {
         let name = self.parts.take_name(alloc);
-        let items = self.calculations.take_items(alloc);
+        let items = self.calculations.items.pop_list(alloc);
         Decl::FieldList(FieldList { name, items })
     }
 
@@ -94,7 +94,7 @@ impl Built {
     {
         let algorithm = self.parts.take_name(alloc);
         let name = self.parts.take_name(alloc);
-        let input = self.parts.take_names(alloc);
+        let input = self.parts.name_lists.pop_list(alloc);
         let output_width = self.parts.take_literal();
         Decl::FieldListCalculation(FieldListCalculation {
             name,
@@ -108,7 +108,7 @@ impl Built {
         ensures { put_decl DeclKind.CalculatedField self.old ≡ with_decl result self.new }
     {
         let field = self.parts.take_field(alloc);
-        let entries = self.calculations.take_entries(alloc);
+        let entries = self.calculations.entries.pop_list(alloc);
         Decl::CalculatedField(CalculatedField { field, entries })
     }
 
@@ -116,8 +116,8 @@ impl Built {
         ensures { put_decl DeclKind.Parser self.old ≡ with_decl result self.new }
     {
         let name = self.parts.take_name(alloc);
-        let statements = self.states.take_statements(alloc);
-        let end = self.states.take_end(alloc);
+        let statements = self.states.statements.pop_list(alloc);
+        let end = self.states.ends.pop_or(Return::State(Text::new(alloc)));
         Decl::Parser(Parser {
             name,
             statements,
@@ -129,8 +129,8 @@ impl Built {
         ensures { put_decl DeclKind.Action self.old ≡ with_decl result self.new }
     {
         let name = self.parts.take_name(alloc);
-        let parameters = self.parts.take_names(alloc);
-        let calls = self.calls.take_calls(alloc);
+        let parameters = self.parts.name_lists.pop_list(alloc);
+        let calls = self.calls.calls.pop_list(alloc);
         Decl::Action(Action {
             name,
             parameters,
@@ -142,7 +142,7 @@ impl Built {
         ensures { put_decl DeclKind.Table self.old ≡ with_decl result self.new }
     {
         let name = self.parts.take_name(alloc);
-        let attributes = self.tables.take_attributes(alloc);
+        let attributes = self.tables.attributes.pop_list(alloc);
         Decl::Table(Table { name, attributes })
     }
 
@@ -161,7 +161,7 @@ impl Built {
     {
         let name = self.parts.take_name(alloc);
         let bodies = mem::replace(&mut self.bodies, Bodies::new(alloc));
-        Ok(Decl::Control(bodies.into_control(name)?))
+        Ok(Decl::Control(bodies.forest.into_control(name)?))
     }
 
     fn left_out(&mut self, alloc: Global, kind: LeftOutKind) -> Decl

@@ -1,7 +1,7 @@
 // The labels of a list of branches that is open.
 ghost use Rattle.std.specs.Prelude.{◌≡◌, [], ◌∷◌, ◌++◌, IfOk};
 ghost use Rattle.p414_ast.specs.Conditions.{is_outcome};
-ghost use Rattle.p414_reader.specs.Classes.{may_follow};
+ghost use Rattle.p414_reader.specs.internal.Classes.{may_follow};
 
 use p4x_bits::{OutOfMemory, Rows, Text};
 use p414_lexemes::Keyword;
@@ -20,7 +20,7 @@ pub struct Labels {
 
 impl Model for Labels {
     ghost use Rattle.std.specs.Prelude.{ℕ, List};
-    ghost use Rattle.p414_reader.specs.Labels.{IsRecord};
+    ghost use Rattle.p414_reader.specs.internal.Labels.{IsRecord};
 
     ghost Value = { List (List ℕ) };
 

@@ -1,48 +1,59 @@
 // Counters, meters and registers, as they are put together.
 ghost use Rattle.std.specs.Prelude.{◌≡◌, OnOk};
-ghost use Rattle.p414_reader.specs.Built as built;
-ghost use Rattle.p414_reader.specs.Actions.{put_object};
-ghost use Rattle.p414_reader.specs.Updates.{with_objects};
+ghost use Rattle.p414_reader.specs.internal.Actions.{put_object, with_state_attr};
+ghost use Rattle.p414_reader.specs.internal.Built as built;
 
-use crate::parts::Parts;
+use crate::built::Built;
 use crate::symbols::ObjectAction;
 use p4x_bits::{OutOfMemory, Rows};
 use p414_ast::StateAttr;
-use predictive_parser::ValueStack;
 use std::alloc::Global;
 
-/// Does the action on the lists of attributes.
-pub fn put_object(
-    objects: &mut ValueStack<Rows<StateAttr>>,
-    alloc: Global,
-    action: ObjectAction,
-    parts: &mut Parts,
-) -> Result<(), OutOfMemory>
-    ensures { OnOk result ((b : built.Built) → put_object action (with_objects parts.old objects.old b) ≡ with_objects parts.new objects.new b) }
-{
-    match action {
-        ObjectAction::NoAttrs => objects.push(Rows::new(alloc)),
-        ObjectAction::AddCounts(what) => objects.extend(alloc, StateAttr::Counts(what)),
-        ObjectAction::AddDirect => {
-            objects.extend(alloc, StateAttr::Direct(parts.take_name(alloc)))
+impl Built {
+    /// Does the action.
+    pub fn put_object(&mut self, alloc: Global, action: ObjectAction) -> Result<(), OutOfMemory>
+        ensures { OnOk result (self.new ≡ put_object action self.old) }
+    {
+        match action {
+            ObjectAction::NoAttrs => self.objects.push(Rows::new(alloc)),
+            ObjectAction::AddCounts(what) => self.add_state_attr(alloc, StateAttr::Counts(what)),
+            ObjectAction::AddDirect => {
+                let name = self.parts.take_name(alloc);
+                self.add_state_attr(alloc, StateAttr::Direct(name))
+            }
+            ObjectAction::AddStatic => {
+                let name = self.parts.take_name(alloc);
+                self.add_state_attr(alloc, StateAttr::Static(name))
+            }
+            ObjectAction::AddLayout => {
+                let name = self.parts.take_name(alloc);
+                self.add_state_attr(alloc, StateAttr::Layout(name))
+            }
+            ObjectAction::AddResult => {
+                let field = self.parts.take_field(alloc);
+                self.add_state_attr(alloc, StateAttr::Result(field))
+            }
+            ObjectAction::AddInstanceCount => {
+                let count = self.parts.take_literal();
+                self.add_state_attr(alloc, StateAttr::InstanceCount(count))
+            }
+            ObjectAction::AddWidth => {
+                let width = self.parts.take_literal();
+                self.add_state_attr(alloc, StateAttr::Width(width))
+            }
+            ObjectAction::AddMinWidth => {
+                let width = self.parts.take_literal();
+                self.add_state_attr(alloc, StateAttr::MinWidth(width))
+            }
+            ObjectAction::AddSaturating => self.add_state_attr(alloc, StateAttr::Saturating),
+            ObjectAction::AddSigned => self.add_state_attr(alloc, StateAttr::Signed),
         }
-        ObjectAction::AddStatic => {
-            objects.extend(alloc, StateAttr::Static(parts.take_name(alloc)))
-        }
-        ObjectAction::AddLayout => {
-            objects.extend(alloc, StateAttr::Layout(parts.take_name(alloc)))
-        }
-        ObjectAction::AddResult => {
-            objects.extend(alloc, StateAttr::Result(parts.take_field(alloc)))
-        }
-        ObjectAction::AddInstanceCount => {
-            objects.extend(alloc, StateAttr::InstanceCount(parts.take_literal()))
-        }
-        ObjectAction::AddWidth => objects.extend(alloc, StateAttr::Width(parts.take_literal())),
-        ObjectAction::AddMinWidth => {
-            objects.extend(alloc, StateAttr::MinWidth(parts.take_literal()))
-        }
-        ObjectAction::AddSaturating => objects.extend(alloc, StateAttr::Saturating),
-        ObjectAction::AddSigned => objects.extend(alloc, StateAttr::Signed),
+    }
+
+    /// Puts an attribute into the newest list.
+    fn add_state_attr(&mut self, alloc: Global, attribute: StateAttr) -> Result<(), OutOfMemory>
+        ensures { OnOk result (self.new ≡ with_state_attr attribute self.old) }
+    {
+        self.objects.extend(alloc, attribute)
     }
 }

@@ -1,8 +1,8 @@
 // Names, numbers, instances and fields, as they are put together.
 ghost use Rattle.std.specs.Prelude.{◌≡◌, [], ◌∷◌, None, OnOk};
 ghost use Rattle.predictive_parser.specs.Values.{newest, older};
-ghost use Rattle.p414_reader.specs.Built.{no_parts};
-ghost use Rattle.p414_reader.specs.Actions.{last_name, last_literal, last_instance, last_field, no_number, no_instance, put_part};
+ghost use Rattle.p414_reader.specs.internal.Built.{no_parts};
+ghost use Rattle.p414_reader.specs.internal.Actions.{last_name, last_literal, last_instance, last_field, no_number, no_instance, put_part};
 ghost use Rattle.p414_reader.specs.declared.symbols.PartAction.TheVariants as PartAction;
 
 use crate::symbols::PartAction;
@@ -11,7 +11,6 @@ use p414_ast::{Index, Inst, Literal, Number, Ref};
 use p414_lexemes::Keyword;
 use predictive_parser::ValueStack;
 use std::alloc::Global;
-use std::marker::Model;
 
 /// What stands where no number does.
 const NO_LITERAL: Literal = Literal {
@@ -22,35 +21,16 @@ const NO_LITERAL: Literal = Literal {
 /// Stacks of names, numbers, instances and fields.
 #[derive(Drop)]
 pub struct Parts {
-    names: ValueStack<Text>,
-    name_lists: ValueStack<Rows<Text>>,
-    literals: ValueStack<Literal>,
-    literal_options: ValueStack<Option<Literal>>,
-    numbers: ValueStack<Number>,
-    arguments: ValueStack<Option<Rows<Number>>>,
-    indexes: ValueStack<Option<Index>>,
-    instances: ValueStack<Inst>,
-    fields: ValueStack<Ref>,
-    field_options: ValueStack<Option<Text>>,
-}
-
-impl Model for Parts {
-    ghost use Rattle.p414_reader.specs.Built as built;
-
-    ghost Value = { built.Parts };
-
-    ghost view = { λ p. record {
-      names = p.names;
-      name_lists = p.name_lists;
-      literals = p.literals;
-      literal_options = p.literal_options;
-      numbers = p.numbers;
-      arguments = p.arguments;
-      indexes = p.indexes;
-      instances = p.instances;
-      fields = p.fields;
-      field_options = p.field_options;
-    } };
+    pub names: ValueStack<Text>,
+    pub name_lists: ValueStack<Rows<Text>>,
+    pub literals: ValueStack<Literal>,
+    pub literal_options: ValueStack<Option<Literal>>,
+    pub numbers: ValueStack<Number>,
+    pub arguments: ValueStack<Option<Rows<Number>>>,
+    pub indexes: ValueStack<Option<Index>>,
+    pub instances: ValueStack<Inst>,
+    pub fields: ValueStack<Ref>,
+    pub field_options: ValueStack<Option<Text>>,
 }
 
 impl Parts {
@@ -80,13 +60,6 @@ impl Parts {
         self.names.push(name)
     }
 
-    /// Keeps a number.
-    pub fn push_literal(&mut self, literal: Literal) -> Result<(), OutOfMemory>
-        ensures { OnOk result (self.new ≡ record self.old { literals = literal ∷ self.old.literals }) }
-    {
-        self.literals.push(literal)
-    }
-
     /// Takes the newest name.
     pub fn take_name(&mut self, alloc: Global) -> Text
         ensures newest { result ≡ last_name self.old }
@@ -95,28 +68,12 @@ impl Parts {
         self.names.pop_or(Text::new(alloc))
     }
 
-    /// Takes the newest list of names.
-    pub fn take_names(&mut self, alloc: Global) -> Rows<Text>
-        ensures newest { result ≡ newest [] self.old.name_lists }
-        ensures older { self.new ≡ record self.old { name_lists = older self.old.name_lists } }
-    {
-        self.name_lists.pop_list(alloc)
-    }
-
     /// Takes the newest number without a sign.
     pub fn take_literal(&mut self) -> Literal
         ensures newest { result ≡ last_literal self.old }
         ensures older { self.new ≡ record self.old { literals = older self.old.literals } }
     {
         self.literals.pop_or(NO_LITERAL)
-    }
-
-    /// Takes the newest number that may stand in its place or not.
-    pub fn take_literal_option(&mut self) -> Option<Literal>
-        ensures newest { result ≡ newest None self.old.literal_options }
-        ensures older { self.new ≡ record self.old { literal_options = older self.old.literal_options } }
-    {
-        self.literal_options.pop_or(None)
     }
 
     /// Takes the newest number with its sign.
@@ -128,14 +85,6 @@ impl Parts {
             sign: None,
             literal: NO_LITERAL,
         })
-    }
-
-    /// Takes the newest arguments.
-    pub fn take_arguments(&mut self) -> Option<Rows<Number>>
-        ensures newest { result ≡ newest None self.old.arguments }
-        ensures older { self.new ≡ record self.old { arguments = older self.old.arguments } }
-    {
-        self.arguments.pop_or(None)
     }
 
     /// Takes the newest instance.
@@ -155,14 +104,6 @@ impl Parts {
             instance: no_instance(alloc),
             field: Text::new(alloc),
         })
-    }
-
-    /// Takes the newest name of a field that may stand behind its instance or not.
-    pub fn take_field_option(&mut self) -> Option<Text>
-        ensures newest { result ≡ newest None self.old.field_options }
-        ensures older { self.new ≡ record self.old { field_options = older self.old.field_options } }
-    {
-        self.field_options.pop_or(None)
     }
 
     /// Does the action.

@@ -4,13 +4,13 @@ ghost use Rattle.p4x_fault.specs.declared.Fault.{Fault};
 ghost use Rattle.p414_ast.specs.declared.syntax.Syntax14.{Syntax14};
 ghost use Rattle.p414_ast.specs.Spelt.{is_spelt14};
 ghost use Rattle.p414_tok.specs.Lexemes.{lexemes};
-ghost use Rattle.text_reading.specs.Reading.{IfRefused, Answers};
-ghost use Rattle.p414_reader.specs.Reading.{Reads14, IsRefused14};
 ghost use Rattle.predictive_parser.specs.Grammar.{parse};
+ghost use Rattle.text_reading.specs.Reading.{IfRefused, Answers};
 ghost use Rattle.text_reading.specs.internal.Machine.{IsParsed};
 ghost use Rattle.p414_reader.specs.declared.symbols.Word.TheVariants as word;
-ghost use Rattle.p414_reader.specs.Built.{nothing};
-ghost use Rattle.p414_reader.specs.Rows.{grammar14};
+ghost use Rattle.p414_reader.specs.internal.Built.{nothing};
+ghost use Rattle.p414_reader.specs.internal.Rows.{grammar14};
+ghost use Rattle.p414_reader.specs.Reading.{Reads14, IsRefused14};
 ghost use Rattle.p414_reader.specs.internal.Machine.{HoldsDecls, IsRead14};
 
 use crate::built::Built;
@@ -21,8 +21,8 @@ use p414_tok::{Token14, tokens};
 use std::alloc::Global;
 use text_reading::{ReadError, parse_text};
 
-/// The syntax of a P4_14 text (P4_14 1.0.5, "Value Specifications" for its numbers, "Summary of P4 BNF" for its names, marks
-/// and grammar; the rules and their places are this project's own).
+/// The syntax of a P4_14 text (P4_14 1.0.5, "Value Specifications" for its numbers, "Summary of P4 BNF" for its names,
+/// marks and grammar; the rules and their places are this project's own).
 ///
 /// What is given is a syntax that a text can have: it keeps to the grammar, each of its names is an identifier, and each
 /// of its numbers fits (`is_spelt14` of p414_ast).

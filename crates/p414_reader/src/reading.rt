@@ -1,9 +1,9 @@
 // Tokens that are read in the grammar of P4_14, and what is built of them.
+ghost use Rattle.p414_reader.specs.internal.Built as built;
+ghost use Rattle.p414_reader.specs.internal.Rows.{grammar14};
+ghost use Rattle.p414_reader.specs.internal.Coded.{coded};
 ghost use Rattle.std.specs.Prelude.{◌≡◌, ◌<◌, length, None, IfOk};
 ghost use Rattle.p414_lexemes.specs.declared.lexeme.Lexeme.{Lexeme};
-ghost use Rattle.p414_reader.specs.Built as built;
-ghost use Rattle.p414_reader.specs.Rows.{grammar14};
-ghost use Rattle.p414_reader.specs.Coded.{coded};
 ghost use Rattle.p414_tok.specs.Lexemes.{lexemes};
 
 use crate::built::Built;

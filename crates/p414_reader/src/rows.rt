@@ -2,8 +2,8 @@
 // stand above the modules that use them.
 ghost use Rattle.std.specs.Prelude.{◌≡◌};
 ghost use Rattle.predictive_parser.specs.Told.{told};
-ghost use Rattle.p414_reader.specs.Rows as specs;
-ghost use Rattle.p414_reader.specs.Coded.{coded};
+ghost use Rattle.p414_reader.specs.internal.Rows as specs;
+ghost use Rattle.p414_reader.specs.internal.Coded.{coded};
 
 use crate::symbols::{Action, Class, Word};
 use p414_ast::Mark;

@@ -1,33 +1,21 @@
 // Tables, as they are put together.
-ghost use Rattle.std.specs.Prelude.{◌≡◌, [], OnOk};
+ghost use Rattle.std.specs.Prelude.{◌≡◌, OnOk};
 ghost use Rattle.p414_reader.specs.declared.symbols.TableAction.TheVariants as TableAction;
-ghost use Rattle.p414_reader.specs.Built as built;
-ghost use Rattle.predictive_parser.specs.Values.{newest, older};
-ghost use Rattle.p414_reader.specs.Built.{no_tables};
-ghost use Rattle.p414_reader.specs.Actions.{put_table, key_of};
-ghost use Rattle.p414_reader.specs.Updates.{with_tables};
+ghost use Rattle.p414_reader.specs.internal.Built.{no_tables};
+ghost use Rattle.p414_reader.specs.internal.Actions.{put_table, key_of, with_table_attr};
 
-use crate::parts::Parts;
+use crate::built::Built;
 use crate::symbols::TableAction;
 use p4x_bits::{OutOfMemory, Rows, Text};
 use p414_ast::{Inst, Read, ReadKey, Ref, TableAttr};
 use predictive_parser::ValueStack;
 use std::alloc::Global;
-use std::marker::Model;
 
 /// Stacks of the parts of tables.
 #[derive(Drop)]
 pub struct Tables {
-    reads: ValueStack<Rows<Read>>,
-    attributes: ValueStack<Rows<TableAttr>>,
-}
-
-impl Model for Tables {
-    ghost use Rattle.p414_reader.specs.Built as built;
-
-    ghost Value = { built.Tables };
-
-    ghost view = { λ t. record { reads = t.reads; attributes = t.attributes } };
+    pub reads: ValueStack<Rows<Read>>,
+    pub attributes: ValueStack<Rows<TableAttr>>,
 }
 
 impl Tables {
@@ -40,86 +28,76 @@ impl Tables {
             attributes: ValueStack::new(alloc),
         }
     }
+}
 
-    /// The newest list of attributes.
-    pub fn attributes(&self) -> &[TableAttr]
-        ensures { result.now ≡ newest [] self.now.attributes }
-    {
-        self.attributes.newest_list()
-    }
-
-    /// Takes the newest list of attributes.
-    pub fn take_attributes(&mut self, alloc: Global) -> Rows<TableAttr>
-        ensures newest { result ≡ newest [] self.old.attributes }
-        ensures older { self.new ≡ record self.old { attributes = older self.old.attributes } }
-    {
-        self.attributes.pop_list(alloc)
-    }
-
+impl Built {
     /// Does the action.
-    pub fn put(
-        &mut self,
-        alloc: Global,
-        action: TableAction,
-        parts: &mut Parts,
-    ) -> Result<(), OutOfMemory>
-        ensures { OnOk result ((b : built.Built) → put_table action (with_tables parts.old self.old b) ≡ with_tables parts.new self.new b) }
+    pub fn put_table(&mut self, alloc: Global, action: TableAction) -> Result<(), OutOfMemory>
+        ensures { OnOk result (self.new ≡ put_table action self.old) }
     {
         match action {
-            TableAction::NoReads => self.reads.push(Rows::new(alloc)),
-            TableAction::AddRead => self.add_read(alloc, parts),
-            TableAction::NoAttrs => self.attributes.push(Rows::new(alloc)),
-            TableAction::AddReads => self.add_reads(alloc),
-            TableAction::AddActions => self
-                .attributes
-                .extend(alloc, TableAttr::Actions(parts.take_names(alloc))),
-            TableAction::AddMinSize => self
-                .attributes
-                .extend(alloc, TableAttr::MinSize(parts.take_literal())),
-            TableAction::AddMaxSize => self
-                .attributes
-                .extend(alloc, TableAttr::MaxSize(parts.take_literal())),
-            TableAction::AddSize => self
-                .attributes
-                .extend(alloc, TableAttr::Size(parts.take_literal())),
-            TableAction::AddTimeout(on) => {
-                self.attributes.extend(alloc, TableAttr::SupportTimeout(on))
+            TableAction::NoReads => self.tables.reads.push(Rows::new(alloc)),
+            TableAction::AddRead => self.add_read(alloc),
+            TableAction::NoAttrs => self.tables.attributes.push(Rows::new(alloc)),
+            TableAction::AddReads => {
+                let reads = self.tables.reads.pop_list(alloc);
+                self.add_table_attr(alloc, TableAttr::Reads(reads))
             }
-            TableAction::AddDefaultAction => self.add_default_action(alloc, parts),
-            TableAction::AddProfile => self
-                .attributes
-                .extend(alloc, TableAttr::ActionProfile(parts.take_name(alloc))),
+            TableAction::AddActions => {
+                let names = self.parts.name_lists.pop_list(alloc);
+                self.add_table_attr(alloc, TableAttr::Actions(names))
+            }
+            TableAction::AddMinSize => {
+                let size = self.parts.take_literal();
+                self.add_table_attr(alloc, TableAttr::MinSize(size))
+            }
+            TableAction::AddMaxSize => {
+                let size = self.parts.take_literal();
+                self.add_table_attr(alloc, TableAttr::MaxSize(size))
+            }
+            TableAction::AddSize => {
+                let size = self.parts.take_literal();
+                self.add_table_attr(alloc, TableAttr::Size(size))
+            }
+            TableAction::AddTimeout(on) => {
+                self.add_table_attr(alloc, TableAttr::SupportTimeout(on))
+            }
+            TableAction::AddDefaultAction => self.add_default_action(alloc),
+            TableAction::AddProfile => {
+                let name = self.parts.take_name(alloc);
+                self.add_table_attr(alloc, TableAttr::ActionProfile(name))
+            }
         }
     }
 
     /// Puts a line of `reads` into the newest list.
-    fn add_read(&mut self, alloc: Global, parts: &mut Parts) -> Result<(), OutOfMemory>
-        ensures { OnOk result ((b : built.Built) → put_table TableAction.AddRead (with_tables parts.old self.old b) ≡ with_tables parts.new self.new b) }
+    fn add_read(&mut self, alloc: Global) -> Result<(), OutOfMemory>
+        ensures { OnOk result (self.new ≡ put_table TableAction.AddRead self.old) }
     {
-        let instance = parts.take_instance(alloc);
-        let field = parts.take_field_option();
-        let mask = parts.take_literal_option();
-        let kind = parts.take_name(alloc);
-        let key = key_of(instance, field);
-        self.reads.extend(alloc, Read { key, mask, kind })
+        let instance = self.parts.take_instance(alloc);
+        let field = self.parts.field_options.pop_or(None);
+        let read = Read {
+            key: key_of(instance, field),
+            mask: self.parts.literal_options.pop_or(None),
+            kind: self.parts.take_name(alloc),
+        };
+        self.tables.reads.extend(alloc, read)
     }
 
-    /// Puts `reads` into the newest list of attributes.
-    fn add_reads(&mut self, alloc: Global) -> Result<(), OutOfMemory>
-        ensures { OnOk result ((p : built.Parts) (b : built.Built) → put_table TableAction.AddReads (with_tables p self.old b) ≡ with_tables p self.new b) }
+    /// Puts `default_action` of the newest name and arguments into the newest list.
+    fn add_default_action(&mut self, alloc: Global) -> Result<(), OutOfMemory>
+        ensures { OnOk result (self.new ≡ put_table TableAction.AddDefaultAction self.old) }
     {
-        let reads = self.reads.pop_list(alloc);
-        self.attributes.extend(alloc, TableAttr::Reads(reads))
+        let name = self.parts.take_name(alloc);
+        let arguments = self.parts.arguments.pop_or(None);
+        self.add_table_attr(alloc, TableAttr::DefaultAction(name, arguments))
     }
 
-    /// Puts `default_action` into the newest list of attributes.
-    fn add_default_action(&mut self, alloc: Global, parts: &mut Parts) -> Result<(), OutOfMemory>
-        ensures { OnOk result ((b : built.Built) → put_table TableAction.AddDefaultAction (with_tables parts.old self.old b) ≡ with_tables parts.new self.new b) }
+    /// Puts an attribute into the newest list.
+    fn add_table_attr(&mut self, alloc: Global, attribute: TableAttr) -> Result<(), OutOfMemory>
+        ensures { OnOk result (self.new ≡ with_table_attr attribute self.old) }
     {
-        let name = parts.take_name(alloc);
-        let arguments = parts.take_arguments();
-        self.attributes
-            .extend(alloc, TableAttr::DefaultAction(name, arguments))
+        self.tables.attributes.extend(alloc, attribute)
     }
 }
 

@@ -3,9 +3,9 @@ ghost use Rattle.std.specs.Prelude.{◌≡◌, ◌<◌, length, map, take, drop,
 ghost use Rattle.std.specs.Str.{bytes_eq};
 ghost use Rattle.p414_ast.specs.Conditions.{is_among, is_expression_name, brace_of};
 ghost use Rattle.p414_lexemes.specs.Keywords.{keyword_text};
-ghost use Rattle.p414_reader.specs.Classes.{mark_number, is_mark, is_named, is_number, is_neither, text_of, literal_of};
+ghost use Rattle.p414_reader.specs.internal.Classes.{mark_number, is_mark, is_named, is_number, is_neither, text_of, literal_of};
 ghost use Rattle.p414_tok.specs.Lexemes.{lexemes};
-ghost use Rattle.p414_reader.specs.Lexemes.{lexeme_of};
+ghost use Rattle.p414_reader.specs.internal.Lexemes.{lexeme_of};
 
 use p4x_bits::{OutOfMemory, Text};
 use p414_lexemes::{Keyword, Lexeme, Literal, Mark};

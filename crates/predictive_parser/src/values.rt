@@ -1,5 +1,5 @@
 // Stacks of what is built.
-ghost use Rattle.std.specs.Prelude.{◌≡◌, List, [], ◌∷◌, reverse, OnOk, MatchOption};
+ghost use Rattle.std.specs.Prelude.{◌≡◌, List, [], ◌∷◌, reverse, OnErr, OnOk, MatchOption};
 ghost use Rattle.predictive_parser.specs.Values.{newest, older, extended};
 
 use p4x_bits::{OutOfMemory, Rows};
@@ -28,9 +28,10 @@ impl<T: Drop> ValueStack<T> {
         }
     }
 
-    /// Puts a value in front of the others.
+    /// Puts a value in front of the others. For want of memory all stays as it was, and the value is let go.
     pub fn push(&mut self, item: T) -> Result<(), OutOfMemory>
-        ensures { OnOk result (self.new ≡ item ∷ self.old) }
+        ensures ok { OnOk result (self.new ≡ item ∷ self.old) }
+        ensures err { OnErr result (self.new ≡ self.old) }
     {
         self.items.push(item)?;
         Ok(())
@@ -71,9 +72,11 @@ impl<T: Drop> ValueStack<Rows<T>> {
         self.pop_or(Rows::new(alloc))
     }
 
-    /// Puts one more item behind the newest list; where there is none, begins one with it.
+    /// Puts one more item behind the newest list; where there is none, begins one with it. For want of memory the newest
+    /// list is let go, and the item.
     pub fn extend(&mut self, alloc: Global, item: T) -> Result<(), OutOfMemory>
-        ensures { OnOk result (self.new ≡ extended (item ∷ []) self.old) }
+        ensures ok { OnOk result (self.new ≡ extended (item ∷ []) self.old) }
+        ensures err { OnErr result (self.new ≡ older self.old) }
     {
         let mut list = self.pop_list(alloc);
         list.push(item)?;

@@ -24,11 +24,11 @@ use Rattle.p414_reader.specs.declared.symbols.Action.TheVariants as action
 use Rattle.p414_reader.specs.declared.symbols.BodyAction.TheVariants as body
 use Rattle.p414_reader.specs.declared.symbols.Word.TheVariants as word
 use Rattle.p414_reader.specs.declared.symbols.BodyWord.TheVariants as body_word
-use Rattle.p414_reader.specs.Built.{Built}
-use Rattle.p414_reader.specs.Classes.{is_mark, is_named, may_follow, with_name, with_label}
-use Rattle.p414_reader.specs.Actions.{with_expr, label_of}
-use Rattle.p414_reader.specs.Rows as rows
-use Rattle.p414_reader.specs.Rows.{Sym, grammar14, body_sym, block_sym}
+use Rattle.p414_reader.specs.internal.Built.{Built}
+use Rattle.p414_reader.specs.internal.Classes.{is_mark, is_named, may_follow, with_name, with_label}
+use Rattle.p414_reader.specs.internal.Actions.{with_expr, label_of}
+use Rattle.p414_reader.specs.internal.Rows as rows
+use Rattle.p414_reader.specs.internal.Rows.{Sym, grammar14, body_sym, block_sym}
 use Rattle.p414_reader.proofs.Meaning.{else_call}
 use Rattle.p414_reader.proofs.Lists.{left_true, right_true, both, not_true, neither_left, neither_right, text_is, text_differs}
 use Rattle.p414_reader.proofs.Closing.{closing14, closed14}

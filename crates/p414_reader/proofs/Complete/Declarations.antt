@@ -36,10 +36,10 @@ use Rattle.p414_reader.specs.declared.symbols.Word.TheVariants as word
 use Rattle.p414_reader.specs.declared.symbols.HeaderWord.TheVariants as header
 use Rattle.p414_reader.specs.declared.symbols.StateWord.TheVariants as state
 use Rattle.p414_reader.specs.declared.symbols.BodyWord.TheVariants as body
-use Rattle.p414_reader.specs.Built.{Built, no_bodies}
-use Rattle.p414_reader.specs.Classes.{infix_of}
-use Rattle.p414_reader.specs.Rows as rows
-use Rattle.p414_reader.specs.Rows.{Sym, grammar14}
+use Rattle.p414_reader.specs.internal.Built.{Built, no_bodies}
+use Rattle.p414_reader.specs.internal.Classes.{infix_of}
+use Rattle.p414_reader.specs.internal.Rows as rows
+use Rattle.p414_reader.specs.internal.Rows.{Sym, grammar14}
 use Rattle.p414_reader.proofs.Readings.{Goes, Calm, Reads, ◌▷◌, reads, does, from, giving, skips, builds, both, extended_is}
 use Rattle.p414_reader.proofs.Closing.{is_some}
 use Rattle.p414_reader.proofs.Complete.Expressions.{next_power, power_of, expr_read}

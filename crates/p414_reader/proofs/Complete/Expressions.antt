@@ -29,11 +29,11 @@ use Rattle.p414_reader.specs.declared.symbols.BodyAction.TheVariants as body
 use Rattle.p414_reader.specs.declared.symbols.Word.TheVariants as word
 use Rattle.p414_reader.specs.declared.symbols.PartWord.TheVariants as part_word
 use Rattle.p414_reader.specs.declared.symbols.BodyWord.TheVariants as body_word
-use Rattle.p414_reader.specs.Built.{Built}
-use Rattle.p414_reader.specs.Classes.{infix_of, with_name}
-use Rattle.p414_reader.specs.Actions.{with_expr}
-use Rattle.p414_reader.specs.Rows as rows
-use Rattle.p414_reader.specs.Rows.{Sym, grammar14, part_sym, body_sym, operand_rest, prefix_rest, infix_rest}
+use Rattle.p414_reader.specs.internal.Built.{Built}
+use Rattle.p414_reader.specs.internal.Classes.{infix_of, with_name}
+use Rattle.p414_reader.specs.internal.Actions.{with_expr}
+use Rattle.p414_reader.specs.internal.Rows as rows
+use Rattle.p414_reader.specs.internal.Rows.{Sym, grammar14, part_sym, body_sym, operand_rest, prefix_rest, infix_rest}
 use Rattle.p414_reader.proofs.Lists.{left_true, right_true, not_true, neither_left, neither_right, text_differs}
 use Rattle.p414_reader.proofs.Closing.{closing14, closed14}
 

@@ -31,9 +31,9 @@ use Rattle.p414_reader.specs.declared.symbols.StateAction.TheVariants as state_a
 use Rattle.p414_reader.specs.declared.symbols.Word.TheVariants as word
 use Rattle.p414_reader.specs.declared.symbols.PartWord.TheVariants as part
 use Rattle.p414_reader.specs.declared.symbols.StateWord.TheVariants as state
-use Rattle.p414_reader.specs.Built.{Built}
-use Rattle.p414_reader.specs.Rows.{Sym, state_sym}
-use Rattle.p414_reader.specs.Actions.{with_value}
+use Rattle.p414_reader.specs.internal.Built.{Built}
+use Rattle.p414_reader.specs.internal.Rows.{Sym, state_sym}
+use Rattle.p414_reader.specs.internal.Actions.{with_value}
 use Rattle.p414_reader.proofs.Readings.{Goes, Reads, ReadsCalm, ◌▷◌, reads, does, from, giving, skips, builds, calmer, first_of, extended_is, both, is_word, takes_past, takes_past_two, like, like_end, calm_commas, not_true}
 use Rattle.p414_reader.proofs.Complete.Parts.{reads_index_in, reads_index_option, reads_inst, reads_ref, reads_mask_option, ref_tokens}
 

@@ -19,9 +19,9 @@ use Rattle.p414_reader.specs.declared.symbols.Word.{Word}
 use Rattle.p414_reader.specs.declared.symbols.Word.TheVariants as word
 use Rattle.p414_reader.specs.declared.symbols.PartWord.TheVariants as part
 use Rattle.p414_reader.specs.declared.symbols.TableWord.TheVariants as table
-use Rattle.p414_reader.specs.Built.{Built}
-use Rattle.p414_reader.specs.Actions.{with_table_attr}
-use Rattle.p414_reader.specs.Rows.{Sym, Rows, table_sym, actions_rest, profile_rest}
+use Rattle.p414_reader.specs.internal.Built.{Built}
+use Rattle.p414_reader.specs.internal.Actions.{with_table_attr}
+use Rattle.p414_reader.specs.internal.Rows.{Sym, Rows, table_sym, actions_rest, profile_rest}
 use Rattle.p414_reader.proofs.Meaning.{after_word, table_words}
 use Rattle.p414_reader.proofs.Readings.{Goes, Calm, Reads, ReadsCalm, ◌▷◌, reads, does, from, giving, skips, first_of, extended_is, both, takes_row, like_row, like_end, is_new_text, next_words}
 use Rattle.p414_reader.proofs.Complete.Parts.{reads_name_lines, reads_index_option, reads_field_option, reads_arguments, reads_mask_option, ref_tokens}

@@ -15,9 +15,9 @@ use Rattle.p414_ast.specs.Conditions.{is_bare, is_item}
 use Rattle.p414_reader.specs.declared.symbols.Word.TheVariants as word
 use Rattle.p414_reader.specs.declared.symbols.CalculationWord.{CalculationWord}
 use Rattle.p414_reader.specs.declared.symbols.CalculationWord.TheVariants as calculation
-use Rattle.p414_reader.specs.Built.{Built}
-use Rattle.p414_reader.specs.Actions.{item_of}
-use Rattle.p414_reader.specs.Rows.{grammar14}
+use Rattle.p414_reader.specs.internal.Built.{Built}
+use Rattle.p414_reader.specs.internal.Actions.{item_of}
+use Rattle.p414_reader.specs.internal.Rows.{grammar14}
 use Rattle.p414_reader.proofs.Meaning.{written_dot, meaning14}
 use Rattle.p414_reader.proofs.Lists.{by_value, by_kept, both, not_false, bare_spelled, end_joined_two}
 use Rattle.p414_reader.proofs.Fixed.{fixed14, by_name, by_number}

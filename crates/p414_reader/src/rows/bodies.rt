@@ -1,8 +1,8 @@
 // The rows of the words for expressions and controls.
 ghost use Rattle.std.specs.Prelude.{◌≡◌};
 ghost use Rattle.predictive_parser.specs.Told.{told};
-ghost use Rattle.p414_reader.specs.Rows.{body_rows, body_otherwise};
-ghost use Rattle.p414_reader.specs.Coded.{body_coded};
+ghost use Rattle.p414_reader.specs.internal.Rows.{body_rows, body_otherwise};
+ghost use Rattle.p414_reader.specs.internal.Coded.{body_coded};
 
 use crate::rows::{BRACE_CLOSE, BRACE_OPEN, PAREN_CLOSE, PAREN_OPEN, Rows, SEMICOLON, Told};
 use crate::symbols::{Action, BodyAction, BodyWord, Class, PartAction, PartWord, Word};

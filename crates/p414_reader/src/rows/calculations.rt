@@ -1,7 +1,7 @@
 // The rows of the words for field lists, calculations and calculated fields.
 ghost use Rattle.std.specs.Prelude.{◌≡◌, []};
 ghost use Rattle.predictive_parser.specs.Told.{told};
-ghost use Rattle.p414_reader.specs.Rows.{calculation_rows, calculation_otherwise};
+ghost use Rattle.p414_reader.specs.internal.Rows.{calculation_rows, calculation_otherwise};
 
 use crate::rows::{
     A_NAME, A_NUMBER, BRACKET_CLOSE, DOT, EQUAL, PAREN_CLOSE, PAREN_OPEN, Rows, SEMICOLON, Told,

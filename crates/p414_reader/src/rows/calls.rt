@@ -1,7 +1,7 @@
 // The rows of the words for actions.
 ghost use Rattle.std.specs.Prelude.{◌≡◌, []};
 ghost use Rattle.predictive_parser.specs.Told.{told};
-ghost use Rattle.p414_reader.specs.Rows.{call_rows, call_otherwise};
+ghost use Rattle.p414_reader.specs.internal.Rows.{call_rows, call_otherwise};
 
 use crate::rows::{A_NUMBER, PAREN_CLOSE, PAREN_OPEN, Rows, SEMICOLON, Told};
 use crate::symbols::{Action, CallAction, CallWord, Class, PartAction, PartWord, Word};

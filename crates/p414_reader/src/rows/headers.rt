@@ -1,7 +1,7 @@
 // The rows of the words for header types, header instances and metadata.
 ghost use Rattle.std.specs.Prelude.{◌≡◌, []};
 ghost use Rattle.predictive_parser.specs.Told.{told};
-ghost use Rattle.p414_reader.specs.Rows.{header_rows, header_otherwise};
+ghost use Rattle.p414_reader.specs.internal.Rows.{header_rows, header_otherwise};
 
 use crate::rows::{
     A_NAME, A_NUMBER, BRACE_CLOSE, BRACKET_CLOSE, COLON, PAREN_CLOSE, Rows, SEMICOLON, Told,

@@ -1,7 +1,7 @@
 // The rows of the words for counters, meters and registers.
 ghost use Rattle.std.specs.Prelude.{◌≡◌, []};
 ghost use Rattle.predictive_parser.specs.Told.{told};
-ghost use Rattle.p414_reader.specs.Rows.{object_rows, object_otherwise};
+ghost use Rattle.p414_reader.specs.internal.Rows.{object_rows, object_otherwise};
 
 use crate::rows::{A_NAME, A_NUMBER, COLON, Rows, SEMICOLON, Told};
 use crate::symbols::{Action, Class, ObjectAction, ObjectWord, PartWord, Word};

@@ -1,7 +1,7 @@
 // The rows of the words for names, numbers, instances and fields.
 ghost use Rattle.std.specs.Prelude.{◌≡◌, []};
 ghost use Rattle.predictive_parser.specs.Told.{told};
-ghost use Rattle.p414_reader.specs.Rows.{part_rows, part_otherwise};
+ghost use Rattle.p414_reader.specs.internal.Rows.{part_rows, part_otherwise};
 
 use crate::rows::{A_NAME, A_NUMBER, BRACKET_CLOSE, DOT, PAREN_CLOSE, Rows, SEMICOLON, Told};
 use crate::symbols::{Action, Class, PartAction, PartWord, Word};

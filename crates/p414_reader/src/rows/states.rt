@@ -1,7 +1,7 @@
 // The rows of the words for parser states.
 ghost use Rattle.std.specs.Prelude.{◌≡◌, []};
 ghost use Rattle.predictive_parser.specs.Told.{told};
-ghost use Rattle.p414_reader.specs.Rows.{state_rows, state_otherwise};
+ghost use Rattle.p414_reader.specs.internal.Rows.{state_rows, state_otherwise};
 
 use crate::rows::{
     A_NAME, A_NUMBER, BRACE_CLOSE, BRACE_OPEN, BRACKET_CLOSE, COLON, COMMA, DOT, PAREN_CLOSE,

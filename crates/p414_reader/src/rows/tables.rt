@@ -1,7 +1,7 @@
 // The rows of the words for tables.
 ghost use Rattle.std.specs.Prelude.{◌≡◌, []};
 ghost use Rattle.predictive_parser.specs.Told.{told};
-ghost use Rattle.p414_reader.specs.Rows.{table_rows, table_otherwise};
+ghost use Rattle.p414_reader.specs.internal.Rows.{table_rows, table_otherwise};
 
 use crate::rows::{A_NAME, A_NUMBER, BRACE_CLOSE, BRACE_OPEN, COLON, Rows, SEMICOLON, Told};
 use crate::symbols::{Action, Class, PartAction, PartWord, TableAction, TableWord, Word};

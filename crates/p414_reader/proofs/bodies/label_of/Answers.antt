@@ -2,7 +2,7 @@ use Rattle.std.proofs.Common.{◌≡◌, ℕ, Bool, false, if◌then◌else◌, 
 use Rattle.std.proofs.lemmas.Bool.Decides.{same_from_decides}
 use Rattle.std.proofs.lemmas.Slice.Eq.{bytes_eq-Decides}
 use Rattle.p414_ast.specs.declared.node.Label.TheVariants as label
-use Rattle.p414_reader.specs.Actions.{label_of}
+use Rattle.p414_reader.specs.internal.Actions.{label_of}
 use Rattle.p414_reader.proofs.bodies.label_of.Goals as goal
 
 turned : (xs ys : List ℕ) → bytes_eq xs ys ≡ bytes_eq ys xs

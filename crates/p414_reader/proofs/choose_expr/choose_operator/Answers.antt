@@ -1,8 +1,8 @@
+use Rattle.p414_reader.specs.internal.Classes.{infix_of}
 use Rattle.std.proofs.Common.{sym, ap, ◌∙◌}
 use Rattle.std.specs.Prelude.{slice_get}
 use Rattle.p414_tok.specs.Lexemes.{lexemes}
-use Rattle.p414_reader.specs.Classes.{infix_of}
-use Rattle.p414_reader.specs.Lexemes.{lexeme_of}
+use Rattle.p414_reader.specs.internal.Lexemes.{lexeme_of}
 use Rattle.p414_reader.proofs.Choosing.{same_token, chosen_operator}
 use Rattle.p414_reader.proofs.choose_expr.choose_operator.Goals as goal
 

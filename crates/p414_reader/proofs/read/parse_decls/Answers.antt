@@ -4,8 +4,8 @@ use Rattle.text_reading.specs.internal.Machine.{IsParsed}
 use Rattle.text_reading.proofs.Clauses.{parsed_err}
 use Rattle.p414_reader.specs.declared.symbols.Word.TheVariants as word
 use Rattle.p414_tok.specs.Lexemes.{lexemes}
-use Rattle.p414_reader.specs.Built.{nothing}
-use Rattle.p414_reader.specs.Rows.{grammar14}
+use Rattle.p414_reader.specs.internal.Built.{nothing}
+use Rattle.p414_reader.specs.internal.Rows.{grammar14}
 use Rattle.p414_reader.proofs.read.parse_decls.Goals as goal
 
 pub returns-in_err-parse_text : goal.returns-in_err-parse_text

@@ -1,9 +1,7 @@
 use Rattle.p414_ast.specs.Tree.{apply_branches}
-use Rattle.p414_reader.proofs.Kept.{over_stmt}
+use Rattle.std.proofs.lemmas.Result.{on_ok_weaker}
+use Rattle.p414_reader.proofs.Kept.{stmt_over}
 use Rattle.p414_reader.proofs.forest.Forest.apply_branches.Goals as goal
 
-pub invariant_of-result : goal.invariant_of-result
-invariant_of-result c = (over_stmt (apply_branches c.args.table) _ _ _ _ _ _ _ _ _ _ _ c.in_ok-branches.ensures c.in_ok-place.ensures.ok c.in_ok-push.ensures (record { within = c.self.invariant; trees = c.self.view_is })).within
-
 pub returns : goal.returns
-returns c = (over_stmt (apply_branches c.args.table) _ _ _ _ _ _ _ _ _ _ _ c.in_ok-branches.ensures c.in_ok-place.ensures.ok c.in_ok-push.ensures (record { within = c.self.invariant; trees = c.self.view_is })).trees
+returns c = on_ok_weaker c.push_stmt.result (λ h. stmt_over (apply_branches c.args.table) c.in_ok-branches.ensures h) c.push_stmt.ensures

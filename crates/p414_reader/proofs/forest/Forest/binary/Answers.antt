@@ -1,12 +1,11 @@
+use Rattle.std.proofs.Common.{arith}
 use Rattle.p414_ast.specs.Tree.{binary}
-use Rattle.p414_reader.proofs.Kept.{over_two, before_more}
+use Rattle.std.proofs.lemmas.Result.{on_ok_weaker}
+use Rattle.p414_reader.proofs.Kept.{over_two}
 use Rattle.p414_reader.proofs.forest.Forest.binary.Goals as goal
 
-pub invariant_of-result : goal.invariant_of-result
-invariant_of-result c = (over_two (binary c.args.operator) _ _ _ _ _ _ _ _ _ _ _ _ _ _ c.in_ok-right.ensures c.in_ok-left.ensures c.in_ok-place.ensures.ok c.in_ok-push.ensures (record { within = c.self.invariant; trees = c.self.view_is })).within
-
 pub returns : goal.returns
-returns c = (over_two (binary c.args.operator) _ _ _ _ _ _ _ _ _ _ _ _ _ _ c.in_ok-right.ensures c.in_ok-left.ensures c.in_ok-place.ensures.ok c.in_ok-push.ensures (record { within = c.self.invariant; trees = c.self.view_is })).trees
+returns c = on_ok_weaker c.push_expr.result (λ h. over_two (binary c.args.operator) c.in_ok-right.ensures c.in_ok-left.ensures h) c.push_expr.ensures
 
-pub take_expr-requires-2 : goal.take_expr-requires-2
-take_expr-requires-2 c = before_more _ _ _ _ _ c.in_ok-right.ensures c.self.invariant.exprs_below
+pub push_expr-requires : goal.push_expr-requires
+push_expr-requires c = (c.in_ok-left.ensures.below, omega (arith, c.in_ok-right.ensures.below, c.in_ok-left.ensures.keeps.exprs_len))

@@ -1,9 +1,7 @@
 use Rattle.p414_ast.specs.Tree.{else_if}
-use Rattle.p414_reader.proofs.Kept.{over_stmt}
+use Rattle.std.proofs.lemmas.Result.{on_ok_weaker}
+use Rattle.p414_reader.proofs.Kept.{stmt_over}
 use Rattle.p414_reader.proofs.forest.Forest.else_if.Goals as goal
 
-pub invariant_of-result : goal.invariant_of-result
-invariant_of-result c = (over_stmt else_if _ _ _ _ _ _ _ _ _ _ _ c.in_ok-statement.ensures c.in_ok-place.ensures.ok c.in_ok-push.ensures (record { within = c.self.invariant; trees = c.self.view_is })).within
-
 pub returns : goal.returns
-returns c = (over_stmt else_if _ _ _ _ _ _ _ _ _ _ _ c.in_ok-statement.ensures c.in_ok-place.ensures.ok c.in_ok-push.ensures (record { within = c.self.invariant; trees = c.self.view_is })).trees
+returns c = on_ok_weaker c.push_stmt.result (λ h. stmt_over else_if c.in_ok-statement.ensures h) c.push_stmt.ensures

@@ -1,8 +1,8 @@
-use Rattle.p414_reader.proofs.Kept.{leaf}
+use Rattle.std.proofs.Common.{ap, ◌∷◌, ◌∙◌}
+use Rattle.p414_ast.specs.Tree.{Expr}
+use Rattle.std.proofs.lemmas.Result.{on_ok_weaker}
+use Rattle.p414_reader.proofs.Kept.{with_exprs, leaf_of}
 use Rattle.p414_reader.proofs.forest.Forest.expression.Goals as goal
 
-pub invariant_of-result : goal.invariant_of-result
-invariant_of-result c = (leaf _ _ _ _ _ _ _ _ c.args.node c.requires c.in_ok-place.ensures.ok c.in_ok-push.ensures (record { within = c.self.invariant; trees = c.self.view_is })).within
-
 pub returns : goal.returns
-returns c = (leaf _ _ _ _ _ _ _ _ c.args.node c.requires c.in_ok-place.ensures.ok c.in_ok-push.ensures (record { within = c.self.invariant; trees = c.self.view_is })).trees
+returns c = on_ok_weaker c.push_expr.result (λ h. h ∙ ap (λ (e : Expr). with_exprs (e ∷ c.args.self.now.trees.exprs) c.args.self.now.trees) (leaf_of _ c.args.node c.requires)) c.push_expr.ensures

@@ -1,9 +1,7 @@
 use Rattle.p414_ast.specs.Tree.{parenthesized}
+use Rattle.std.proofs.lemmas.Result.{on_ok_weaker}
 use Rattle.p414_reader.proofs.Kept.{over_one}
 use Rattle.p414_reader.proofs.forest.Forest.parenthesized.Goals as goal
 
-pub invariant_of-result : goal.invariant_of-result
-invariant_of-result c = (over_one parenthesized _ _ _ _ _ _ _ _ _ _ _ c.in_ok-inner.ensures c.in_ok-place.ensures.ok c.in_ok-push.ensures (record { within = c.self.invariant; trees = c.self.view_is })).within
-
 pub returns : goal.returns
-returns c = (over_one parenthesized _ _ _ _ _ _ _ _ _ _ _ c.in_ok-inner.ensures c.in_ok-place.ensures.ok c.in_ok-push.ensures (record { within = c.self.invariant; trees = c.self.view_is })).trees
+returns c = on_ok_weaker c.push_expr.result (λ h. over_one parenthesized c.in_ok-inner.ensures h) c.push_expr.ensures

@@ -1,8 +1,8 @@
-use Rattle.p414_reader.proofs.Kept.{stmt_leaf}
+use Rattle.std.proofs.Common.{ap, ◌∷◌, ◌∙◌}
+use Rattle.p414_ast.specs.Tree.{Stmt}
+use Rattle.std.proofs.lemmas.Result.{on_ok_weaker}
+use Rattle.p414_reader.proofs.Kept.{with_stmts, stmt_leaf_of}
 use Rattle.p414_reader.proofs.forest.Forest.statement.Goals as goal
 
-pub invariant_of-result : goal.invariant_of-result
-invariant_of-result c = (stmt_leaf _ _ _ _ _ _ _ _ c.args.node c.requires c.in_ok-place.ensures.ok c.in_ok-push.ensures (record { within = c.self.invariant; trees = c.self.view_is })).within
-
 pub returns : goal.returns
-returns c = (stmt_leaf _ _ _ _ _ _ _ _ c.args.node c.requires c.in_ok-place.ensures.ok c.in_ok-push.ensures (record { within = c.self.invariant; trees = c.self.view_is })).trees
+returns c = on_ok_weaker c.push_stmt.result (λ h. h ∙ ap (λ (s : Stmt). with_stmts (s ∷ c.args.self.now.trees.stmts) c.args.self.now.trees) (stmt_leaf_of _ _ c.args.node c.requires)) c.push_stmt.ensures

@@ -1,12 +1,11 @@
+use Rattle.std.proofs.Common.{arith}
 use Rattle.p414_ast.specs.Tree as tree
-use Rattle.p414_reader.proofs.Kept.{over_stmts, stmts_before_more}
+use Rattle.std.proofs.lemmas.Result.{on_ok_weaker}
+use Rattle.p414_reader.proofs.Kept.{stmt_over_two}
 use Rattle.p414_reader.proofs.forest.Forest.then.Goals as goal
 
-pub invariant_of-result : goal.invariant_of-result
-invariant_of-result c = (over_stmts tree.then _ _ _ _ _ _ _ _ _ _ _ _ _ _ c.in_ok-last.ensures c.in_ok-before.ensures c.in_ok-place.ensures.ok c.in_ok-push.ensures (record { within = c.self.invariant; trees = c.self.view_is })).within
-
 pub returns : goal.returns
-returns c = (over_stmts tree.then _ _ _ _ _ _ _ _ _ _ _ _ _ _ c.in_ok-last.ensures c.in_ok-before.ensures c.in_ok-place.ensures.ok c.in_ok-push.ensures (record { within = c.self.invariant; trees = c.self.view_is })).trees
+returns c = on_ok_weaker c.push_stmt.result (λ h. stmt_over_two tree.then c.in_ok-last.ensures c.in_ok-before.ensures h) c.push_stmt.ensures
 
-pub take_statement-requires-2 : goal.take_statement-requires-2
-take_statement-requires-2 c = stmts_before_more _ _ _ _ _ c.in_ok-last.ensures c.self.invariant.stmts_below
+pub push_stmt-requires : goal.push_stmt-requires
+push_stmt-requires c = (c.in_ok-before.ensures.below, omega (arith, c.in_ok-last.ensures.below, c.in_ok-before.ensures.keeps.stmts_len))

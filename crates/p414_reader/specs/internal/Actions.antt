@@ -55,10 +55,11 @@ use Rattle.p414_reader.specs.declared.symbols.DeclKind.{DeclKind}
 use Rattle.p414_reader.specs.declared.symbols.DeclKind.TheVariants as kind
 use Rattle.p414_reader.specs.declared.symbols.Action.{Action}
 use Rattle.p414_reader.specs.declared.symbols.Action.TheVariants as action
+use Rattle.predictive_parser.specs.Values.{newest, older, extended}
+use Rattle.p414_reader.specs.internal.Built.{Bodies, Built, no_bodies}
+use Rattle.p414_reader.specs.declared.parts.Parts.{Parts}
 use Rattle.p414_lexemes.specs.declared.keyword.Keyword.TheVariants as key
 use Rattle.p414_lexemes.specs.Keywords.{keyword_text}
-use Rattle.predictive_parser.specs.Values.{newest, older, extended}
-use Rattle.p414_reader.specs.Built.{Parts, Bodies, Built, no_bodies}
 
 -- what stands in an empty place
 
@@ -408,6 +409,10 @@ abbrev pub with_else_call : Bool → List Stmt → List Stmt
 with_else_call true ss = with_stmt (call (keyword_text key.Else)) ss
 with_else_call false ss = ss
 
+-- nothing stands behind the block, and then a control `else` is called or not
+abbrev pub with_no_else : Bool → Built → Built
+with_no_else is_called b = record b { bodies = record b.bodies { stmts = no_else ∷ b.bodies.stmts; else_calls = is_called ∷ b.bodies.else_calls } }
+
 abbrev pub put_body : BodyAction → Built → Built
 put_body body.Number b = with_expr (number (last_literal b.parts)) (without_literal b)
 put_body (body.Truth value) b = with_expr (truth value) b
@@ -433,8 +438,8 @@ put_body body.AddApplyBranches b =
         labels = older b.bodies.labels;
       };
     }
-put_body body.NoElse b = record b { bodies = record b.bodies { stmts = no_else ∷ b.bodies.stmts; else_calls = false ∷ b.bodies.else_calls } }
-put_body body.NoElseThenCall b = record b { bodies = record b.bodies { stmts = no_else ∷ b.bodies.stmts; else_calls = true ∷ b.bodies.else_calls } }
+put_body body.NoElse b = with_no_else false b
+put_body body.NoElseThenCall b = with_no_else true b
 put_body body.ElseBlock b =
     record b { bodies = record b.bodies { stmts = else_block (last_stmt b.bodies) ∷ older b.bodies.stmts; else_calls = false ∷ b.bodies.else_calls } }
 put_body body.ElseIf b =

@@ -15,10 +15,10 @@ use Rattle.p414_ast.specs.Written.{tail_word, table_word, state_word}
 use Rattle.p414_ast.specs.Conditions.{is_among, is_expression_name, is_mixed, Brace, opens, closes, neither, brace_of}
 use Rattle.p414_reader.specs.declared.symbols.Class.{Class}
 use Rattle.p414_reader.specs.declared.symbols.Class.TheVariants as class
+use Rattle.predictive_parser.specs.Values.{newest, extended}
 use Rattle.p414_lexemes.specs.declared.keyword.Keyword.TheVariants as key
 use Rattle.p414_lexemes.specs.Keywords.{keyword_text}
-use Rattle.predictive_parser.specs.Values.{newest, extended}
-use Rattle.p414_reader.specs.Built.{Built}
+use Rattle.p414_reader.specs.internal.Built.{Built}
 
 abbrev pub mark_number : Mark → ℕ
 mark_number mark.BraceOpen = 0

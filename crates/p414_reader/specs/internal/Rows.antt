@@ -1,6 +1,6 @@
 -- The grammar of P4_14 as rows: what each word may begin with, and what follows. A word of the grammar that several lines
--- begin with alike is read to the point where they part, so each row is known by one token (P4_14 1.0.5, "P4 BNF
--- Grammar").
+-- begin with alike is read to the point where they part, so each row is known by one token (P4_14 1.0.5, "Summary of P4
+-- BNF").
 use Rattle.std.specs.Prelude.{ℕ, suc, true, false, List, [], ◌∷◌, ◌++◌, Option, Some, None}
 use Rattle.predictive_parser.specs.declared.symbol.Symbol.{Symbol}
 use Rattle.predictive_parser.specs.declared.symbol.Symbol.TheVariants.{Token, Put}
@@ -55,9 +55,9 @@ use Rattle.p414_reader.specs.declared.symbols.ObjectWord.TheVariants as object_w
 use Rattle.p414_reader.specs.declared.symbols.BodyWord.{BodyWord}
 use Rattle.p414_reader.specs.declared.symbols.BodyWord.TheVariants.{Expr, Operators, ExprInst, AfterApply, ApplyEnd, AfterIf, ElseOption, AfterElse, Branches}
 use Rattle.p414_reader.specs.declared.symbols.BodyWord.TheVariants as body_word
-use Rattle.p414_reader.specs.Built.{Built}
-use Rattle.p414_reader.specs.Classes.{accepts, shift, prefix_of, infix_of}
-use Rattle.p414_reader.specs.Actions.{put}
+use Rattle.p414_reader.specs.internal.Built.{Built}
+use Rattle.p414_reader.specs.internal.Classes.{accepts, shift, prefix_of, infix_of}
+use Rattle.p414_reader.specs.internal.Actions.{put}
 
 abbrev pub Sym : Type 0
 Sym = Symbol Class Action Word
