@@ -10,7 +10,7 @@ use Rattle.p414_lexemes.specs.declared.mark.Mark.{Mark}
 use Rattle.p414_lexemes.specs.declared.mark.Mark.TheVariants as mark
 use Rattle.p414_ast.specs.declared.node.UnaryOperator.{UnaryOperator}
 use Rattle.p414_ast.specs.declared.node.BinaryOperator.{BinaryOperator}
-use Rattle.p414_ast.specs.Words.{name, brace_open, brace_close, paren_open, paren_close, semicolon, colon, dot, equal}
+use Rattle.p414_ast.specs.Words.{name, keyword, brace_open, brace_close, paren_open, paren_close, semicolon, colon, dot, equal}
 use Rattle.p414_ast.specs.Conditions.{is_expression_name, brace_of}
 use Rattle.p414_lexemes.specs.declared.keyword.Keyword.{Keyword}
 use Rattle.p414_lexemes.specs.declared.keyword.Keyword.TheVariants as key
@@ -132,7 +132,7 @@ header_closing header.MetadataEnd = semicolon ∷ []
 header_closing _ = []
 
 abbrev pub calculation_closing : CalculationWord → List Lexeme
-calculation_closing calculation.Calc = name (codes "update") ∷ some_name ∷ semicolon ∷ []
+calculation_closing calculation.Calc = keyword key.Update ∷ some_name ∷ semicolon ∷ []
 calculation_closing calculation.CalcCond = some_name ∷ dot ∷ some_name ∷ equal ∷ some_number ∷ []
 calculation_closing calculation.AfterValid = dot ∷ some_name ∷ equal ∷ some_number ∷ []
 calculation_closing _ = []
@@ -142,10 +142,10 @@ state_closing state.Value = some_number ∷ []
 state_closing state.SelectValue = some_name ∷ dot ∷ some_name ∷ []
 state_closing state.AfterCurrent = dot ∷ some_name ∷ []
 state_closing state.AfterLatest = dot ∷ some_name ∷ []
-state_closing state.Return = name (codes "parse_error") ∷ some_name ∷ semicolon ∷ []
+state_closing state.Return = keyword key.ParseError ∷ some_name ∷ semicolon ∷ []
 state_closing state.AfterReturn = some_name ∷ semicolon ∷ []
 state_closing state.AfterSelect = semicolon ∷ []
-state_closing state.Case = name (codes "default") ∷ colon ∷ some_name ∷ semicolon ∷ []
+state_closing state.Case = keyword key.Default ∷ colon ∷ some_name ∷ semicolon ∷ []
 state_closing state.Target = some_name ∷ []
 state_closing _ = []
 
@@ -154,14 +154,14 @@ call_closing called.Arg = some_number ∷ []
 call_closing _ = []
 
 abbrev pub table_closing : TableWord → List Lexeme
-table_closing table.Attrs = name (codes "actions") ∷ brace_open ∷ some_name ∷ semicolon ∷ brace_close ∷ []
-table_closing table.Timeout = name (codes "true") ∷ semicolon ∷ []
+table_closing table.Attrs = keyword key.Actions ∷ brace_open ∷ some_name ∷ semicolon ∷ brace_close ∷ []
+table_closing table.Timeout = keyword key.True ∷ semicolon ∷ []
 table_closing _ = []
 
 abbrev pub object_closing : ObjectWord → List Lexeme
-object_closing object.CounterAttrs = name (codes "type") ∷ colon ∷ name (codes "packets") ∷ semicolon ∷ []
-object_closing object.RegisterAttrs = name (codes "width") ∷ colon ∷ some_number ∷ semicolon ∷ []
-object_closing object.CounterType = name (codes "packets") ∷ semicolon ∷ []
+object_closing object.CounterAttrs = keyword key.Counts ∷ colon ∷ keyword key.Packets ∷ semicolon ∷ []
+object_closing object.RegisterAttrs = keyword key.Width ∷ colon ∷ some_number ∷ semicolon ∷ []
+object_closing object.CounterType = keyword key.Packets ∷ semicolon ∷ []
 object_closing _ = []
 
 abbrev pub body_closing : BodyWord → List Lexeme

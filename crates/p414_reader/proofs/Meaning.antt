@@ -4,6 +4,7 @@ use Rattle.std.specs.Prelude.{◌≡◌, ℕ, Bool, true, false, ◌&&◌, nat_l
 use Rattle.std.specs.List.{flat_map, list_all}
 use Rattle.std.specs.Option.{unwrap_or}
 use Rattle.predictive_parser.proofs.Meanings.{Meaning}
+use Rattle.p414_lexemes.specs.declared.keyword.Keyword.TheVariants as key
 use Rattle.p414_lexemes.specs.declared.lexeme.Literal.{Literal}
 use Rattle.p414_lexemes.specs.declared.lexeme.Lexeme.{Lexeme}
 use Rattle.p414_ast.specs.declared.parts.Number.{Number}
@@ -35,7 +36,7 @@ use Rattle.p414_ast.specs.declared.node.Label.{Label}
 use Rattle.p414_ast.specs.declared.syntax.Decl.{Decl}
 use Rattle.p414_ast.specs.Tree.{Expr, Stmt, no_statements, branch}
 use Rattle.p414_ast.specs.Views.{TailTree}
-use Rattle.p414_ast.specs.Words.{name, paren_open, paren_close, semicolon, dot}
+use Rattle.p414_ast.specs.Words.{name, keyword, paren_open, paren_close, semicolon, dot}
 use Rattle.p414_ast.specs.Written.{written_option, after_commas, by_commas, in_braces, written_name, name_line, written_number, index_token, written_index, written_inst, written_ref, written_truth, written_expr, written_width, written_field_attributes, written_field, tail_word, written_tail, written_size, written_initial, written_initials, written_item, written_if, written_cond, written_calc, written_pvalue, written_pstmt, written_mask, written_masked, written_target, written_case, written_return, written_arg, written_call, written_read, written_arguments, table_word, written_table_attr, written_counter_type, state_word, written_state_attr, label_text, written_stmt, written_group, written_decl}
 use Rattle.p414_ast.specs.Conditions.{is_among, all_different, is_expression_name, is_expr, is_tail, is_item, is_pvalue, is_select_value, is_pstmt, is_case, is_return, is_table_attr, has_word, table_needs, counter_needs, register_needs, is_label, are_labels, statement, behind_if, block, is_stmt, is_balanced, is_group, is_decl}
 use Rattle.p414_reader.specs.declared.symbols.Word.{Word}
@@ -177,7 +178,7 @@ CalculationSpells calculation.Calc entry us = us ≡ written_calc entry
 CalculationSpells calculation.Calcs entries us = us ≡ flat_map written_calc entries
 CalculationSpells calculation.CalcIf condition us = us ≡ written_option written_if condition
 CalculationSpells calculation.CalcCond condition us = us ≡ written_cond condition
-CalculationSpells calculation.AfterValid condition us = name (codes "valid") ∷ us ≡ written_cond condition
+CalculationSpells calculation.AfterValid condition us = keyword key.Valid ∷ us ≡ written_cond condition
 
 abbrev pub after_calculation : (w : CalculationWord) → CalculationValue w → Built → Built
 after_calculation calculation.Items items b = record b { calculations = record b.calculations { items = extended_by items b.calculations.items } }
@@ -209,17 +210,17 @@ abbrev pub StateSpells : (w : StateWord) → StateValue w → List Lexeme → Ty
 StateSpells state.Statements statements us = (us ≡ flat_map written_pstmt statements) × (list_all is_pstmt statements ≡ true)
 StateSpells state.Value value us = (us ≡ written_pvalue value) × (is_pvalue value ≡ true)
 StateSpells state.SelectValue value us = (us ≡ written_pvalue value) × (is_select_value value ≡ true)
-StateSpells state.AfterCurrent value us = (name (codes "current") ∷ us ≡ written_pvalue value) × (is_select_value value ≡ true)
-StateSpells state.AfterLatest value us = (name (codes "latest") ∷ us ≡ written_pvalue value) × (is_select_value value ≡ true)
+StateSpells state.AfterCurrent value us = (keyword key.Current ∷ us ≡ written_pvalue value) × (is_select_value value ≡ true)
+StateSpells state.AfterLatest value us = (keyword key.Latest ∷ us ≡ written_pvalue value) × (is_select_value value ≡ true)
 StateSpells state.MoreValues values us = (us ≡ after_commas written_pvalue values) × (list_all is_select_value values ≡ true)
 StateSpells state.Return end us = (us ≡ written_return end) × (is_return end ≡ true)
-StateSpells state.AfterReturn end us = (name (codes "return") ∷ us ≡ written_return end) × (is_return end ≡ true)
-StateSpells state.AfterSelect end us = (name (codes "return") ∷ name (codes "select") ∷ us ≡ written_return end) × (is_return end ≡ true)
+StateSpells state.AfterReturn end us = (keyword key.Return ∷ us ≡ written_return end) × (is_return end ≡ true)
+StateSpells state.AfterSelect end us = (keyword key.Return ∷ keyword key.Select ∷ us ≡ written_return end) × (is_return end ≡ true)
 StateSpells state.Case case us = (us ≡ written_case case) × (is_case case ≡ true)
 StateSpells state.Cases cases us = (us ≡ flat_map written_case cases) × (list_all is_case cases ≡ true)
 StateSpells state.MoreMasked values us = us ≡ after_commas written_masked values
 StateSpells state.Target target us = us ≡ written_target target
-StateSpells state.AfterError target us = name (codes "parse_error") ∷ us ≡ written_target target
+StateSpells state.AfterError target us = keyword key.ParseError ∷ us ≡ written_target target
 
 abbrev pub after_state : (w : StateWord) → StateValue w → Built → Built
 after_state state.Statements statements b = record b { states = record b.states { statements = extended_by statements b.states.statements } }
@@ -354,7 +355,7 @@ BodyValue body.AfterElse = ElsePart
 BodyValue body.Branches = List BranchPart
 
 abbrev pub else_call : List Lexeme
-else_call = name (codes "else") ∷ paren_open ∷ paren_close ∷ semicolon ∷ []
+else_call = keyword key.Else ∷ paren_open ∷ paren_close ∷ semicolon ∷ []
 
 abbrev pub written_else : ElsePart → List Lexeme
 written_else e = written_stmt e.other ++ cond e.calls else_call []
@@ -381,12 +382,12 @@ BodySpells (body.Operators least most) e b us =
     × (nat_le least most ≡ true → is_expr most (last_expr b) ≡ true → is_expr least (unwrap_or e (last_expr b)) ≡ true)
 BodySpells body.ExprInst instance b us = (us ≡ written_inst instance) × (is_expression_name instance.name ≡ true)
 BodySpells body.Statements ss b us = (us ≡ flat_map written_stmt ss) × (list_all (is_stmt statement) ss ≡ true)
-BodySpells body.AfterApply s b us = (name (codes "apply") ∷ paren_open ∷ us ≡ written_stmt s) × (is_stmt statement s ≡ true)
+BodySpells body.AfterApply s b us = (keyword key.Apply ∷ paren_open ∷ us ≡ written_stmt s) × (is_stmt statement s ≡ true)
 BodySpells body.ApplyEnd s b us =
-    (name (codes "apply") ∷ paren_open ∷ name (newest [] b.parts.names) ∷ paren_close ∷ us ≡ written_stmt s) × (is_stmt statement s ≡ true)
-BodySpells body.AfterIf ss b us = (name (codes "if") ∷ paren_open ∷ us ≡ flat_map written_stmt ss) × (list_all (is_stmt statement) ss ≡ true)
+    (keyword key.Apply ∷ paren_open ∷ name (newest [] b.parts.names) ∷ paren_close ∷ us ≡ written_stmt s) × (is_stmt statement s ≡ true)
+BodySpells body.AfterIf ss b us = (keyword key.If ∷ paren_open ∷ us ≡ flat_map written_stmt ss) × (list_all (is_stmt statement) ss ≡ true)
 BodySpells body.ElseOption e b us = (us ≡ written_else e) × (is_stmt behind_if e.other ≡ true)
-BodySpells body.AfterElse e b us = (name (codes "else") ∷ us ≡ written_else e) × (is_stmt behind_if e.other ≡ true)
+BodySpells body.AfterElse e b us = (keyword key.Else ∷ us ≡ written_else e) × (is_stmt behind_if e.other ≡ true)
 BodySpells body.Branches bs b us =
     (us ≡ flat_map written_branch bs) × (list_all is_branch bs ≡ true) × (are_labels (last_labels b) ≡ true → are_labels (last_labels b ++ map branch_text bs) ≡ true)
 

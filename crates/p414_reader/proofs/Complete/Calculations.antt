@@ -2,6 +2,7 @@
 use Rattle.std.proofs.Common.{◌≡◌, ℕ, Bool, true, false, not, cond, List, [], ◌∷◌, ◌++◌, codes, Option, Some, None, refl, sym, ap, subst, append_assoc}
 use Rattle.std.specs.List.{flat_map, list_all}
 use Rattle.std.specs.Str.{bytes_eq}
+use Rattle.p414_lexemes.specs.declared.keyword.Keyword.TheVariants as key
 use Rattle.p414_lexemes.specs.declared.lexeme.Literal.{Literal}
 use Rattle.p414_lexemes.specs.declared.lexeme.Lexeme.{Lexeme}
 use Rattle.p414_lexemes.specs.declared.lexeme.Lexeme.TheVariants as lexeme
@@ -13,7 +14,7 @@ use Rattle.p414_ast.specs.declared.calculations.CalcUse.TheVariants as calc_use
 use Rattle.p414_ast.specs.declared.calculations.CalcCond.{CalcCond}
 use Rattle.p414_ast.specs.declared.calculations.CalcCond.TheVariants as calc_cond
 use Rattle.p414_ast.specs.declared.calculations.Calc.{Calc}
-use Rattle.p414_ast.specs.Words.{name, bracket_open, bracket_close, paren_open, paren_close, semicolon, dot, equal}
+use Rattle.p414_ast.specs.Words.{name, keyword, bracket_open, bracket_close, paren_open, paren_close, semicolon, dot, equal}
 use Rattle.p414_ast.specs.Written.{written_option, written_index, written_item, written_if, written_cond, written_calc}
 use Rattle.p414_ast.specs.Conditions.{is_bare, is_item}
 use Rattle.p414_reader.specs.declared.symbols.Class.TheVariants as class
@@ -28,7 +29,7 @@ use Rattle.p414_reader.proofs.Complete.Parts.{reads_index_in, reads_index_option
 pub reads_items : (items : List Item) → list_all is_item items ≡ true → ReadsCalm (word.Calculation calculation.Items) items (flat_map written_item items)
 reads_items [] k symbols b rest c = skips (word.Calculation calculation.Items) symbols b rest refl refl c
 reads_items (item.Payload ∷ items) k symbols b rest c =
-    reads (name (codes "payload") ∷ semicolon ∷ []) refl ▷ does ▷ reads_items items k symbols _ rest c
+    reads (keyword key.Payload ∷ semicolon ∷ []) refl ▷ does ▷ reads_items items k symbols _ rest c
 reads_items (item.Number n ∷ items) k symbols b rest c =
     reads (lexeme.Number n ∷ semicolon ∷ []) refl ▷ does ▷ reads_items items k symbols _ rest c
 reads_items (item.Field r ∷ items) k symbols b rest c =
@@ -53,9 +54,9 @@ ReadsEqual i f n text =
     (written_cond (calc_cond.Equal (record { instance = record { name = text; index = i }; field = f }) n))
 
 reads_valid_field : (i : Option Index) (f : List ℕ) (n : Literal) → ReadsEqual i f n (codes "valid")
-reads_valid_field None f n symbols b rest = reads (name (codes "valid") ∷ dot ∷ name f ∷ equal ∷ lexeme.Number n ∷ []) refl ▷ does
+reads_valid_field None f n symbols b rest = reads (keyword key.Valid ∷ dot ∷ name f ∷ equal ∷ lexeme.Number n ∷ []) refl ▷ does
 reads_valid_field (Some i) f n symbols b rest =
-    reads (name (codes "valid") ∷ bracket_open ∷ []) refl ▷ reads_index_in i _ _ (bracket_close ∷ dot ∷ name f ∷ equal ∷ lexeme.Number n ∷ rest)
+    reads (keyword key.Valid ∷ bracket_open ∷ []) refl ▷ reads_index_in i _ _ (bracket_close ∷ dot ∷ name f ∷ equal ∷ lexeme.Number n ∷ rest)
     ▷ reads (bracket_close ∷ dot ∷ name f ∷ equal ∷ lexeme.Number n ∷ []) refl ▷ does
 
 reads_equal : (text : List ℕ) (i : Option Index) (f : List ℕ) (n : Literal) → ReadsEqual i f n text
@@ -72,22 +73,22 @@ reads_equal text i f n = go (bytes_eq (codes "valid") text) refl
 pub reads_calc_cond : (c : CalcCond) → Reads (word.Calculation calculation.CalcCond) c (written_cond c)
 reads_calc_cond (calc_cond.Valid i) symbols b rest =
     from (written_cond (calc_cond.Valid i) ++ rest) (simp append_assoc)
-    (reads (name (codes "valid") ∷ paren_open ∷ []) refl ▷ reads_inst i _ _ (paren_close ∷ rest) refl ▷ reads (paren_close ∷ []) refl ▷ does)
+    (reads (keyword key.Valid ∷ paren_open ∷ []) refl ▷ reads_inst i _ _ (paren_close ∷ rest) refl ▷ reads (paren_close ∷ []) refl ▷ does)
 reads_calc_cond (calc_cond.Equal r n) symbols b rest = reads_equal r.instance.name r.instance.index r.field n symbols b rest
 
 pub reads_calc_if : (c : Option CalcCond) → ReadsCalm (word.Calculation calculation.CalcIf) c (written_option written_if c)
 reads_calc_if None symbols b rest k = builds (word.Calculation calculation.CalcIf) _ symbols b rest refl refl k
 reads_calc_if (Some c) symbols b rest k =
     from (written_if c ++ rest) (simp append_assoc)
-    (reads (name (codes "if") ∷ paren_open ∷ []) refl ▷ reads_calc_cond c _ _ (paren_close ∷ rest) ▷ reads (paren_close ∷ []) refl)
+    (reads (keyword key.If ∷ paren_open ∷ []) refl ▷ reads_calc_cond c _ _ (paren_close ∷ rest) ▷ reads (paren_close ∷ []) refl)
 
 reads_calc_used : (u : CalcUse) (n : List ℕ) (c : Option CalcCond) → Reads (word.Calculation calculation.Calc) (record { used_to = u; calculation = n; condition = c }) (written_calc (record { used_to = u; calculation = n; condition = c }))
 reads_calc_used calc_use.Update n c symbols b rest =
     from (written_calc (record { used_to = calc_use.Update; calculation = n; condition = c }) ++ rest) (simp append_assoc)
-    (reads (name (codes "update") ∷ name n ∷ []) refl ▷ reads_calc_if c _ _ (semicolon ∷ rest) refl ▷ reads (semicolon ∷ []) refl ▷ does)
+    (reads (keyword key.Update ∷ name n ∷ []) refl ▷ reads_calc_if c _ _ (semicolon ∷ rest) refl ▷ reads (semicolon ∷ []) refl ▷ does)
 reads_calc_used calc_use.Verify n c symbols b rest =
     from (written_calc (record { used_to = calc_use.Verify; calculation = n; condition = c }) ++ rest) (simp append_assoc)
-    (reads (name (codes "verify") ∷ name n ∷ []) refl ▷ reads_calc_if c _ _ (semicolon ∷ rest) refl ▷ reads (semicolon ∷ []) refl ▷ does)
+    (reads (keyword key.Verify ∷ name n ∷ []) refl ▷ reads_calc_if c _ _ (semicolon ∷ rest) refl ▷ reads (semicolon ∷ []) refl ▷ does)
 
 pub reads_calc : (c : Calc) → Reads (word.Calculation calculation.Calc) c (written_calc c)
 reads_calc c = reads_calc_used c.used_to c.calculation c.condition
@@ -95,8 +96,8 @@ reads_calc c = reads_calc_used c.used_to c.calculation c.condition
 like_calc : (u : CalcUse) (n : List ℕ) (c : Option CalcCond) (symbols : List Sym) (b : Built) (rest : List Lexeme)
     → Goes (calculation_sym calculation.Calcs ∷ symbols) b (written_calc (record { used_to = u; calculation = n; condition = c }) ++ rest)
     (calculation_sym calculation.Calc ∷ calculation_sym calculation.Calcs ∷ symbols) b (written_calc (record { used_to = u; calculation = n; condition = c }) ++ rest)
-like_calc calc_use.Update n c symbols b rest = like (word.Calculation calculation.Calcs) (word.Calculation calculation.Calc) [] _ symbols b (name (codes "update")) _ _ refl refl refl refl
-like_calc calc_use.Verify n c symbols b rest = like (word.Calculation calculation.Calcs) (word.Calculation calculation.Calc) [] _ symbols b (name (codes "verify")) _ _ refl refl refl refl
+like_calc calc_use.Update n c symbols b rest = like (word.Calculation calculation.Calcs) (word.Calculation calculation.Calc) [] _ symbols b (keyword key.Update) _ _ refl refl refl refl
+like_calc calc_use.Verify n c symbols b rest = like (word.Calculation calculation.Calcs) (word.Calculation calculation.Calc) [] _ symbols b (keyword key.Verify) _ _ refl refl refl refl
 
 pub reads_calcs : (cs : List Calc) → ReadsCalm (word.Calculation calculation.Calcs) cs (flat_map written_calc cs)
 reads_calcs [] symbols b rest k = skips (word.Calculation calculation.Calcs) symbols b rest refl refl k

@@ -14,7 +14,7 @@ use Rattle.p414_ast.specs.declared.node.UnaryOperator.{UnaryOperator}
 use Rattle.p414_ast.specs.declared.node.UnaryOperator.TheVariants as unary_operator
 use Rattle.p414_ast.specs.Tree as tree
 use Rattle.p414_ast.specs.Tree.{Expr, valid, truth, field, number, parenthesized, unary, binary, Stmt, no_statements, apply, apply_branches, if_then, call, no_else, else_block, else_if, no_branches, branch}
-use Rattle.p414_ast.specs.Words.{name, brace_open, brace_close, paren_open, paren_close, semicolon}
+use Rattle.p414_ast.specs.Words.{name, keyword, brace_open, brace_close, paren_open, paren_close, semicolon}
 use Rattle.p414_ast.specs.Operators.{unary_token, binary_token}
 use Rattle.p414_ast.specs.Written.{written_expr, written_stmt, label_text}
 use Rattle.p414_ast.specs.Conditions.{is_among, all_different, is_expr, own_labels, is_label, labels_of, is_outcome, is_mixed, are_labels, block, statement, behind_if, branches, is_stmt}
@@ -98,12 +98,12 @@ Calls text =
 
 calls_apply : Calls (codes "apply")
 calls_apply symbols b s rest =
-    then (reads grammar14 (name (codes "apply") ∷ paren_open ∷ paren_close ∷ semicolon ∷ []) refl)
+    then (reads grammar14 (keyword key.Apply ∷ paren_open ∷ paren_close ∷ semicolon ∷ []) refl)
     (put grammar14 (action.Body (body.AddCallOf key.Apply)) (stmts_sym ∷ symbols) (push s b) rest)
 
 calls_if : Calls (codes "if")
 calls_if symbols b s rest =
-    then (reads grammar14 (name (codes "if") ∷ paren_open ∷ paren_close ∷ semicolon ∷ []) refl)
+    then (reads grammar14 (keyword key.If ∷ paren_open ∷ paren_close ∷ semicolon ∷ []) refl)
     (put grammar14 (action.Body (body.AddCallOf key.If)) (stmts_sym ∷ symbols) (push s b) rest)
 
 -- a name that begins no other statement
@@ -232,10 +232,10 @@ else_if_rest : List Sym
 else_if_rest = rows.paren_close ∷ block_sym (body_sym body_word.ElseOption ∷ Put (action.Body body.ElseIf) ∷ [])
 
 else_if_read : (c : Expr) (t : Stmt) → is_expr 0 c ≡ true → is_stmt block t ≡ true → BlockReads t → (symbols : List Sym) (b : Built) (rest : List Lexeme)
-    → Goes (body_sym body_word.ElseOption ∷ symbols) b (name (codes "else") ∷ name (codes "if") ∷ paren_open ∷ (written_expr c ++ (paren_close ∷ brace_open ∷ (written_stmt t ++ brace_close ∷ rest))))
+    → Goes (body_sym body_word.ElseOption ∷ symbols) b (keyword key.Else ∷ keyword key.If ∷ paren_open ∷ (written_expr c ++ (paren_close ∷ brace_open ∷ (written_stmt t ++ brace_close ∷ rest))))
     (body_sym body_word.ElseOption ∷ Put (action.Body body.ElseIf) ∷ symbols) (push t (with_expr c b)) rest
 else_if_read c t hc ht f symbols b rest =
-    then (reads grammar14 (name (codes "else") ∷ name (codes "if") ∷ paren_open ∷ []) refl)
+    then (reads grammar14 (keyword key.Else ∷ keyword key.If ∷ paren_open ∷ []) refl)
     (then (expr_read c _ b _ hc refl)
     (then (reads grammar14 (paren_close ∷ brace_open ∷ []) refl)
     (then (put grammar14 (action.Body body.NoStatements) _ (with_expr c b) _)
@@ -243,9 +243,9 @@ else_if_read c t hc ht f symbols b rest =
 
 -- the tokens of an `if` statement, with more behind them
 if_tokens : (c : Expr) (t o : Stmt) (rest : List Lexeme)
-    → written_stmt (if_then c t o) ++ rest ≡ name (codes "if") ∷ paren_open ∷ (written_expr c ++ (paren_close ∷ brace_open ∷ (written_stmt t ++ brace_close ∷ (written_stmt o ++ rest))))
+    → written_stmt (if_then c t o) ++ rest ≡ keyword key.If ∷ paren_open ∷ (written_expr c ++ (paren_close ∷ brace_open ∷ (written_stmt t ++ brace_close ∷ (written_stmt o ++ rest))))
 if_tokens c t o rest =
-    ap (λ ts. name (codes "if") ∷ paren_open ∷ ts)
+    ap (λ ts. keyword key.If ∷ paren_open ∷ ts)
     (append_assoc (written_expr c ++ paren_close ∷ []) _ rest
     ∙ append_assoc (written_expr c) (paren_close ∷ []) _
     ∙ ap (λ ts. written_expr c ++ paren_close ∷ brace_open ∷ ts)
@@ -254,7 +254,7 @@ if_tokens c t o rest =
 if_reads : (c : Expr) (t o : Stmt) → is_expr 0 c ≡ true → is_stmt block t ≡ true → BlockReads t → ElseReads o → StmtReads (if_then c t o)
 if_reads c t o hc ht f g symbols b s rest k =
     from (written_stmt (if_then c t o) ++ rest) (if_tokens c t o rest)
-    (then (reads grammar14 (name (codes "if") ∷ paren_open ∷ []) refl)
+    (then (reads grammar14 (keyword key.If ∷ paren_open ∷ []) refl)
     (then (condition_like c (stmts_sym ∷ symbols) (push s b) _)
     (then (if_read c t hc ht f (stmts_sym ∷ symbols) (push s b) (written_stmt o ++ rest))
     (then (g (Put (action.Body body.AddIf) ∷ stmts_sym ∷ symbols) (push t (with_expr c (push s b))) rest k)
@@ -264,7 +264,7 @@ if_reads c t o hc ht f g symbols b s rest k =
 if_calls : (c : Expr) (t o : Stmt) → is_expr 0 c ≡ true → is_stmt block t ≡ true → BlockReads t → ElseCalls o → is_open o ≡ true → StmtCalls (if_then c t o)
 if_calls c t o hc ht f g k symbols b s rest =
     from (written_stmt (if_then c t o) ++ (else_call ++ rest)) (if_tokens c t o (else_call ++ rest))
-    (then (reads grammar14 (name (codes "if") ∷ paren_open ∷ []) refl)
+    (then (reads grammar14 (keyword key.If ∷ paren_open ∷ []) refl)
     (then (condition_like c (stmts_sym ∷ symbols) (push s b) _)
     (then (if_read c t hc ht f (stmts_sym ∷ symbols) (push s b) (written_stmt o ++ (else_call ++ rest)))
     (then (g (Put (action.Body body.AddIf) ∷ stmts_sym ∷ symbols) (push t (with_expr c (push s b))) rest k)
@@ -363,13 +363,13 @@ branch_read before l t hl hm ht f g symbols b rest =
 
 apply_read : (table : List ℕ) → StmtReads (apply table)
 apply_read table symbols b s rest k =
-    then (reads grammar14 (name (codes "apply") ∷ paren_open ∷ name table ∷ paren_close ∷ semicolon ∷ []) refl)
+    then (reads grammar14 (keyword key.Apply ∷ paren_open ∷ name table ∷ paren_close ∷ semicolon ∷ []) refl)
     (put grammar14 (action.Body body.AddApply) (stmts_sym ∷ symbols) (with_name table (push s b)) rest)
 
 apply_branches_read : (table : List ℕ) (bs : Stmt) → BranchesRead bs → StmtReads (apply_branches table bs)
 apply_branches_read table bs f symbols b s rest k =
-    from (written_stmt (apply_branches table bs) ++ rest) (ap (λ ts. name (codes "apply") ∷ paren_open ∷ name table ∷ paren_close ∷ brace_open ∷ ts) (append_assoc (written_stmt bs) (brace_close ∷ []) rest))
-    (then (reads grammar14 (name (codes "apply") ∷ paren_open ∷ name table ∷ paren_close ∷ brace_open ∷ []) refl)
+    from (written_stmt (apply_branches table bs) ++ rest) (ap (λ ts. keyword key.Apply ∷ paren_open ∷ name table ∷ paren_close ∷ brace_open ∷ ts) (append_assoc (written_stmt bs) (brace_close ∷ []) rest))
+    (then (reads grammar14 (keyword key.Apply ∷ paren_open ∷ name table ∷ paren_close ∷ brace_open ∷ []) refl)
     (then (put grammar14 (action.Body body.NoBranches) _ (with_name table (push s b)) _)
     (then (f (rows.brace_close ∷ Put (action.Body body.AddApplyBranches) ∷ stmts_sym ∷ symbols) (with_name table (push s b)) (brace_close ∷ rest))
     (then (pass grammar14 closing14 closed14 (word.Body body_word.Branches) _ (branching bs (labels_of bs) (with_name table (push s b))) (brace_close ∷ rest) refl refl refl)
@@ -380,8 +380,8 @@ apply_branches_read table bs f symbols b s rest k =
 
 else_block_read : (t : Stmt) → is_stmt block t ≡ true → BlockReads t → ElseReads (else_block t)
 else_block_read t ht f symbols b rest k =
-    from (written_stmt (else_block t) ++ rest) (ap (λ ts. name (codes "else") ∷ brace_open ∷ ts) (append_assoc (written_stmt t) (brace_close ∷ []) rest))
-    (then (reads grammar14 (name (codes "else") ∷ brace_open ∷ []) refl)
+    from (written_stmt (else_block t) ++ rest) (ap (λ ts. keyword key.Else ∷ brace_open ∷ ts) (append_assoc (written_stmt t) (brace_close ∷ []) rest))
+    (then (reads grammar14 (keyword key.Else ∷ brace_open ∷ []) refl)
     (then (put grammar14 (action.Body body.NoStatements) _ b _)
     (then (closed_block t ht f (Put (action.Body body.ElseBlock) ∷ symbols) b rest)
     (put grammar14 (action.Body body.ElseBlock) symbols (push t b) rest))))
@@ -392,14 +392,14 @@ no_else_calls symbols b rest k =
 
 else_if_reads : (c : Expr) (t o : Stmt) → is_expr 0 c ≡ true → is_stmt block t ≡ true → BlockReads t → ElseReads o → ElseReads (else_if (if_then c t o))
 else_if_reads c t o hc ht f g symbols b rest k =
-    from (written_stmt (else_if (if_then c t o)) ++ rest) (ap (λ ts. name (codes "else") ∷ ts) (if_tokens c t o rest))
+    from (written_stmt (else_if (if_then c t o)) ++ rest) (ap (λ ts. keyword key.Else ∷ ts) (if_tokens c t o rest))
     (then (else_if_read c t hc ht f symbols b (written_stmt o ++ rest))
     (then (g (Put (action.Body body.ElseIf) ∷ symbols) (push t (with_expr c b)) rest k)
     (put grammar14 (action.Body body.ElseIf) symbols (push_else o false (push t (with_expr c b))) rest)))
 
 else_if_calls : (c : Expr) (t o : Stmt) → is_expr 0 c ≡ true → is_stmt block t ≡ true → BlockReads t → ElseCalls o → ElseCalls (else_if (if_then c t o))
 else_if_calls c t o hc ht f g symbols b rest k =
-    from (written_stmt (else_if (if_then c t o)) ++ (else_call ++ rest)) (ap (λ ts. name (codes "else") ∷ ts) (if_tokens c t o (else_call ++ rest)))
+    from (written_stmt (else_if (if_then c t o)) ++ (else_call ++ rest)) (ap (λ ts. keyword key.Else ∷ ts) (if_tokens c t o (else_call ++ rest)))
     (then (else_if_read c t hc ht f symbols b (written_stmt o ++ (else_call ++ rest)))
     (then (g (Put (action.Body body.ElseIf) ∷ symbols) (push t (with_expr c b)) rest k)
     (put grammar14 (action.Body body.ElseIf) symbols (push_else o true (push t (with_expr c b))) rest)))

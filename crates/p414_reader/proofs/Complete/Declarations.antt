@@ -3,6 +3,7 @@ use Rattle.std.proofs.Common.{◌≡◌, ℕ, zero, suc, true, false, not, ◌&&
 use Rattle.std.specs.List.{flat_map, list_all}
 use Rattle.predictive_parser.specs.declared.symbol.Symbol.TheVariants.{Token, Put}
 use Rattle.predictive_parser.specs.declared.symbol.Symbol.TheVariants as symbol
+use Rattle.p414_lexemes.specs.declared.keyword.Keyword.TheVariants as key
 use Rattle.p414_lexemes.specs.declared.lexeme.Lexeme.{Lexeme}
 use Rattle.p414_lexemes.specs.declared.lexeme.Lexeme.TheVariants as lexeme
 use Rattle.p414_lexemes.specs.declared.mark.Mark.{Mark}
@@ -27,7 +28,7 @@ use Rattle.p414_ast.specs.declared.syntax.LeftOut.{LeftOut}
 use Rattle.p414_ast.specs.declared.syntax.Decl.{Decl}
 use Rattle.p414_ast.specs.declared.syntax.Decl.TheVariants as decl
 use Rattle.p414_ast.specs.Views.{HeaderTypeTree, ControlTree}
-use Rattle.p414_ast.specs.Words.{name, brace_open, brace_close, paren_open, paren_close, semicolon, colon}
+use Rattle.p414_ast.specs.Words.{name, keyword, brace_open, brace_close, paren_open, paren_close, semicolon, colon}
 use Rattle.p414_ast.specs.Written.{attribute, written_literal, written_name, name_line, written_tail, tail_word, written_ref, written_calc, written_call, written_group, written_kind, written_header_type, written_header, written_field_list, written_calculation, written_calculated, written_action, written_control, written_pstmt, written_return, written_parser, in_braces, table_word, written_table_attr, written_table, state_word, written_state_attr, written_stateful, written_decl}
 use Rattle.p414_ast.specs.Conditions.{all_different, is_tail, is_header_type, is_item, is_pstmt, is_return, is_table_attr, are_table_attrs, table_needs, has_word, are_state_attrs, counter_needs, register_needs, is_some_listed, block, is_stmt, is_balanced, is_group, is_decl}
 use Rattle.p414_reader.specs.declared.symbols.Class.TheVariants as class
@@ -78,7 +79,7 @@ header_type_read : (h : HeaderTypeTree) → is_header_type h ≡ true → ReadsD
 header_type_read h k symbols b rest c =
     let p = both (list_all is_tail h.tails) (all_different (map tail_word h.tails)) k in
     from (written_header_type h ++ rest) (simp append_assoc)
-    (reads (name (codes "header_type") ∷ name h.name ∷ brace_open ∷ name (codes "fields") ∷ brace_open ∷ []) refl ▷ does
+    (reads (keyword key.HeaderType ∷ name h.name ∷ brace_open ∷ keyword key.Fields ∷ brace_open ∷ []) refl ▷ does
     ▷ giving (ap (λ ls. record (named h.name b) { headers = record b.headers { fields = ls } }) (extended_is h.fields [] b.headers.fields))
     (reads_fields h.fields _ _ (brace_close ∷ (flat_map written_tail h.tails ++ brace_close ∷ rest)) refl)
     ▷ reads (brace_close ∷ []) refl ▷ does
@@ -92,16 +93,16 @@ header_type_read h k symbols b rest c =
 header_read : (h : Header) → ReadsDecl (decl.Header h)
 header_read h symbols b rest c =
     from (written_header h ++ rest) (simp append_assoc)
-    (reads (name (codes "header") ∷ name h.header_type ∷ name h.name ∷ []) refl ▷ reads_size h.size _ _ (semicolon ∷ rest) refl ▷ reads (semicolon ∷ []) refl ▷ does)
+    (reads (keyword key.Header ∷ name h.header_type ∷ name h.name ∷ []) refl ▷ reads_size h.size _ _ (semicolon ∷ rest) refl ▷ reads (semicolon ∷ []) refl ▷ does)
 
 metadata_read : (m : Metadata) → ReadsDecl (decl.Metadata m)
 metadata_read m symbols b rest c =
-    reads (name (codes "metadata") ∷ name m.header_type ∷ name m.name ∷ []) refl ▷ reads_metadata_end m.initials _ _ rest c ▷ does
+    reads (keyword key.Metadata ∷ name m.header_type ∷ name m.name ∷ []) refl ▷ reads_metadata_end m.initials _ _ rest c ▷ does
 
 field_list_read : (l : FieldList) → list_all is_item l.items ≡ true → ReadsDecl (decl.FieldList l)
 field_list_read l k symbols b rest c =
     from (written_field_list l ++ rest) (simp append_assoc)
-    (reads (name (codes "field_list") ∷ name l.name ∷ brace_open ∷ []) refl ▷ does
+    (reads (keyword key.FieldList ∷ name l.name ∷ brace_open ∷ []) refl ▷ does
     ▷ giving (ap (λ ls. record b { parts = record b.parts { names = l.name ∷ b.parts.names }; calculations = record b.calculations { items = ls } }) (extended_is l.items [] b.calculations.items))
     (reads_items l.items k _ _ (brace_close ∷ rest) refl)
     ▷ reads (brace_close ∷ []) refl ▷ does)
@@ -111,10 +112,10 @@ calculation_input : (c : FieldListCalculation) (first : List ℕ) (more : List (
 calculation_input c first more e symbols b rest k =
     subst (λ input. Goes (decls_sym ∷ symbols) b (written_calculation (with_input input) ++ rest) (decls_sym ∷ symbols) (with_decl (decl.FieldListCalculation (with_input input)) b) rest) (sym e)
     (from (written_calculation (with_input (first ∷ more)) ++ rest) calculation_tokens
-    (reads (name (codes "field_list_calculation") ∷ name c.name ∷ brace_open ∷ name (codes "input") ∷ brace_open ∷ name first ∷ semicolon ∷ []) refl ▷ does
+    (reads (keyword key.FieldListCalculation ∷ name c.name ∷ brace_open ∷ keyword key.Input ∷ brace_open ∷ name first ∷ semicolon ∷ []) refl ▷ does
     ▷ giving (ap (λ ls. record b { parts = record b.parts { names = c.name ∷ b.parts.names; name_lists = ls } }) (extended_is more (first ∷ []) b.parts.name_lists))
-    (reads_name_lines more _ _ (brace_close ∷ name (codes "algorithm") ∷ colon ∷ name c.algorithm ∷ semicolon ∷ name (codes "output_width") ∷ colon ∷ lexeme.Number c.output_width ∷ semicolon ∷ brace_close ∷ rest) refl)
-    ▷ reads (brace_close ∷ name (codes "algorithm") ∷ colon ∷ name c.algorithm ∷ semicolon ∷ name (codes "output_width") ∷ colon ∷ lexeme.Number c.output_width ∷ semicolon ∷ brace_close ∷ []) refl ▷ does))
+    (reads_name_lines more _ _ (brace_close ∷ keyword key.Algorithm ∷ colon ∷ name c.algorithm ∷ semicolon ∷ keyword key.OutputWidth ∷ colon ∷ lexeme.Number c.output_width ∷ semicolon ∷ brace_close ∷ rest) refl)
+    ▷ reads (brace_close ∷ keyword key.Algorithm ∷ colon ∷ name c.algorithm ∷ semicolon ∷ keyword key.OutputWidth ∷ colon ∷ lexeme.Number c.output_width ∷ semicolon ∷ brace_close ∷ []) refl ▷ does))
   where
     with_input : List (List ℕ) → FieldListCalculation
     with_input input = record c { input = input }
@@ -123,9 +124,9 @@ calculation_input c first more e symbols b rest k =
     attributes = attribute (codes "algorithm") (written_name c.algorithm) ++ attribute (codes "output_width") (written_literal c.output_width)
 
     calculation_tokens : written_calculation (with_input (first ∷ more)) ++ rest
-        ≡ name (codes "field_list_calculation") ∷ name c.name ∷ brace_open ∷ name (codes "input") ∷ brace_open ∷ name first ∷ semicolon ∷ (flat_map name_line more ++ brace_close ∷ (attributes ++ brace_close ∷ rest))
+        ≡ keyword key.FieldListCalculation ∷ name c.name ∷ brace_open ∷ keyword key.Input ∷ brace_open ∷ name first ∷ semicolon ∷ (flat_map name_line more ++ brace_close ∷ (attributes ++ brace_close ∷ rest))
     calculation_tokens =
-        ap (λ ts. name (codes "field_list_calculation") ∷ name c.name ∷ brace_open ∷ name (codes "input") ∷ brace_open ∷ name first ∷ semicolon ∷ ts)
+        ap (λ ts. keyword key.FieldListCalculation ∷ name c.name ∷ brace_open ∷ keyword key.Input ∷ brace_open ∷ name first ∷ semicolon ∷ ts)
         (append_assoc ((flat_map name_line more ++ brace_close ∷ []) ++ attributes) (brace_close ∷ []) rest
         ∙ append_assoc (flat_map name_line more ++ brace_close ∷ []) attributes (brace_close ∷ rest)
         ∙ append_assoc (flat_map name_line more) (brace_close ∷ []) (attributes ++ brace_close ∷ rest))
@@ -133,7 +134,7 @@ calculation_input c first more e symbols b rest k =
 action_read : (a : Action) → ReadsDecl (decl.Action a)
 action_read a symbols b rest k =
     from (written_action a ++ rest) (simp append_assoc)
-    (reads (name (codes "action") ∷ name a.name ∷ paren_open ∷ []) refl ▷ does
+    (reads (keyword key.Action ∷ name a.name ∷ paren_open ∷ []) refl ▷ does
     ▷ giving (ap (λ ls. record b { parts = record b.parts { names = a.name ∷ b.parts.names; name_lists = ls } }) (extended_is a.parameters [] b.parts.name_lists))
     (reads_params a.parameters _ _ (paren_close ∷ brace_open ∷ (flat_map written_call a.calls ++ brace_close ∷ rest)) refl)
     ▷ reads (paren_close ∷ brace_open ∷ []) refl ▷ does
@@ -144,7 +145,7 @@ action_read a symbols b rest k =
 control_read : (c : ControlTree) → is_stmt block c.body ≡ true → ReadsDecl (decl.Control c)
 control_read c h symbols b rest k =
     from (written_control c ++ rest) (simp append_assoc)
-    (reads (name (codes "control") ∷ name c.name ∷ brace_open ∷ []) refl ▷ does
+    (reads (keyword key.Control ∷ name c.name ∷ brace_open ∷ []) refl ▷ does
     ▷ body_read c.body _ (record b { parts = record b.parts { names = c.name ∷ b.parts.names } }) rest h
     ▷ does)
 
@@ -155,10 +156,10 @@ groups_with gs b = record b { groups = gs }
 
 left_out_word : (k : LeftOutKind) (n : List ℕ) (symbols : List Sym) (b : Built) (rest : List Lexeme)
     → Goes (decls_sym ∷ symbols) b (written_kind k ∷ name n ∷ rest) (symbol.Word word.LeftOutEnd ∷ (rows.decl_rest (kind.LeftOut k) ++ symbols)) (record b { parts = record b.parts { names = n ∷ b.parts.names } }) rest
-left_out_word left_out.ParserValueSet n symbols b rest = reads (name (codes "parser_value_set") ∷ name n ∷ []) refl
-left_out_word left_out.ParserException n symbols b rest = reads (name (codes "parser_exception") ∷ name n ∷ []) refl
-left_out_word left_out.ActionProfile n symbols b rest = reads (name (codes "action_profile") ∷ name n ∷ []) refl
-left_out_word left_out.ActionSelector n symbols b rest = reads (name (codes "action_selector") ∷ name n ∷ []) refl
+left_out_word left_out.ParserValueSet n symbols b rest = reads (keyword key.ParserValueSet ∷ name n ∷ []) refl
+left_out_word left_out.ParserException n symbols b rest = reads (keyword key.ParserException ∷ name n ∷ []) refl
+left_out_word left_out.ActionProfile n symbols b rest = reads (keyword key.ActionProfile ∷ name n ∷ []) refl
+left_out_word left_out.ActionSelector n symbols b rest = reads (keyword key.ActionSelector ∷ name n ∷ []) refl
 
 abbrev group_sym : Sym
 group_sym = symbol.Word word.Group
@@ -243,7 +244,7 @@ calculated_entries : (c : CalculatedField) (first : Calc) (more : List Calc) →
 calculated_entries c first more e symbols b rest k =
     subst (λ entries. Goes (decls_sym ∷ symbols) b (written_calculated (with_entries entries) ++ rest) (decls_sym ∷ symbols) (with_decl (decl.CalculatedField (with_entries entries)) b) rest) (sym e)
     (from (written_calculated (with_entries (first ∷ more)) ++ rest) calculated_tokens
-    (reads (name (codes "calculated_field") ∷ []) refl ▷ reads_ref c.field _ _ (brace_open ∷ (written_calc first ++ (flat_map written_calc more ++ brace_close ∷ rest)))
+    (reads (keyword key.CalculatedField ∷ []) refl ▷ reads_ref c.field _ _ (brace_open ∷ (written_calc first ++ (flat_map written_calc more ++ brace_close ∷ rest)))
     ▷ reads (brace_open ∷ []) refl ▷ does
     ▷ reads_calc first _ _ (flat_map written_calc more ++ brace_close ∷ rest)
     ▷ giving (ap (λ ls. record b { parts = record b.parts { fields = c.field ∷ b.parts.fields }; calculations = record b.calculations { entries = ls } }) (extended_is more (first ∷ []) b.calculations.entries))
@@ -254,9 +255,9 @@ calculated_entries c first more e symbols b rest k =
     with_entries entries = record c { entries = entries }
 
     calculated_tokens : written_calculated (with_entries (first ∷ more)) ++ rest
-        ≡ name (codes "calculated_field") ∷ (written_ref c.field ++ brace_open ∷ (written_calc first ++ (flat_map written_calc more ++ brace_close ∷ rest)))
+        ≡ keyword key.CalculatedField ∷ (written_ref c.field ++ brace_open ∷ (written_calc first ++ (flat_map written_calc more ++ brace_close ∷ rest)))
     calculated_tokens =
-        ap (λ ts. name (codes "calculated_field") ∷ ts)
+        ap (λ ts. keyword key.CalculatedField ∷ ts)
         (append_assoc (written_ref c.field) (brace_open ∷ ((written_calc first ++ flat_map written_calc more) ++ brace_close ∷ [])) rest
         ∙ ap (λ ts. written_ref c.field ++ brace_open ∷ ts)
         (append_assoc (written_calc first ++ flat_map written_calc more) (brace_close ∷ []) rest ∙ append_assoc (written_calc first) (flat_map written_calc more) (brace_close ∷ rest)))
@@ -271,8 +272,8 @@ parser_read : (p : Parser) → (list_all is_pstmt p.statements && is_return p.en
 parser_read p h symbols b rest k =
     let q = both (list_all is_pstmt p.statements) (is_return p.end) h in
     from (written_parser p ++ rest)
-    (ap (λ ts. name (codes "parser") ∷ name p.name ∷ brace_open ∷ ts) (append_assoc (flat_map written_pstmt p.statements ++ written_return p.end) (brace_close ∷ []) rest ∙ append_assoc (flat_map written_pstmt p.statements) (written_return p.end) (brace_close ∷ rest)))
-    (reads (name (codes "parser") ∷ name p.name ∷ brace_open ∷ []) refl ▷ does
+    (ap (λ ts. keyword key.Parser ∷ name p.name ∷ brace_open ∷ ts) (append_assoc (flat_map written_pstmt p.statements ++ written_return p.end) (brace_close ∷ []) rest ∙ append_assoc (flat_map written_pstmt p.statements) (written_return p.end) (brace_close ∷ rest)))
+    (reads (keyword key.Parser ∷ name p.name ∷ brace_open ∷ []) refl ▷ does
     ▷ giving (ap (λ ls. record b { parts = record b.parts { names = p.name ∷ b.parts.names }; states = record b.states { statements = ls } }) (extended_is p.statements [] b.states.statements))
     (reads_statements p.statements q.0 _ _ (written_return p.end ++ brace_close ∷ rest) (calm_return p.end (brace_close ∷ rest)))
     ▷ reads_return p.end q.1 _ _ (brace_close ∷ rest)
@@ -288,7 +289,7 @@ table_read t h symbols b rest k =
     let p = both (list_all is_table_attr t.attributes) (all_different (map table_word t.attributes) && has_word table_needs (map table_word t.attributes)) h in
     let q = both (all_different (map table_word t.attributes)) (has_word table_needs (map table_word t.attributes)) p.1 in
     from (written_table t ++ rest) (attributes_tokens written_table_attr (codes "table") t.name t.attributes rest)
-    (reads (name (codes "table") ∷ name t.name ∷ brace_open ∷ []) refl ▷ does
+    (reads (keyword key.Table ∷ name t.name ∷ brace_open ∷ []) refl ▷ does
     ▷ giving (ap (λ ls. record b { parts = record b.parts { names = t.name ∷ b.parts.names }; tables = record b.tables { attributes = ls } }) (extended_is t.attributes [] b.tables.attributes))
     (reads_attrs t.attributes p.0 q.1 _ _ (brace_close ∷ rest) q.0 refl)
     ▷ reads (brace_close ∷ []) refl ▷ does)
@@ -300,7 +301,7 @@ counter_read : (s : Stateful) → are_state_attrs counter_needs s.attributes ≡
 counter_read s h symbols b rest k =
     let q = both (all_different (map state_word s.attributes)) (has_word counter_needs (map state_word s.attributes)) h in
     from (written_stateful (codes "counter") s ++ rest) (attributes_tokens written_state_attr (codes "counter") s.name s.attributes rest)
-    (reads (name (codes "counter") ∷ name s.name ∷ brace_open ∷ []) refl ▷ does
+    (reads (keyword key.Counter ∷ name s.name ∷ brace_open ∷ []) refl ▷ does
     ▷ giving (ap (λ ls. object_built s ls b) (extended_is s.attributes [] b.objects)) (reads_counter_attrs s.attributes q.1 _ _ (brace_close ∷ rest) q.0 refl)
     ▷ reads (brace_close ∷ []) refl ▷ does)
 
@@ -308,7 +309,7 @@ meter_read : (s : Stateful) → are_state_attrs counter_needs s.attributes ≡ t
 meter_read s h symbols b rest k =
     let q = both (all_different (map state_word s.attributes)) (has_word counter_needs (map state_word s.attributes)) h in
     from (written_stateful (codes "meter") s ++ rest) (attributes_tokens written_state_attr (codes "meter") s.name s.attributes rest)
-    (reads (name (codes "meter") ∷ name s.name ∷ brace_open ∷ []) refl ▷ does
+    (reads (keyword key.Meter ∷ name s.name ∷ brace_open ∷ []) refl ▷ does
     ▷ giving (ap (λ ls. object_built s ls b) (extended_is s.attributes [] b.objects)) (reads_counter_attrs s.attributes q.1 _ _ (brace_close ∷ rest) q.0 refl)
     ▷ reads (brace_close ∷ []) refl ▷ does)
 
@@ -316,7 +317,7 @@ register_read : (s : Stateful) → are_state_attrs register_needs s.attributes �
 register_read s h symbols b rest k =
     let q = both (all_different (map state_word s.attributes)) (has_word register_needs (map state_word s.attributes)) h in
     from (written_stateful (codes "register") s ++ rest) (attributes_tokens written_state_attr (codes "register") s.name s.attributes rest)
-    (reads (name (codes "register") ∷ name s.name ∷ brace_open ∷ []) refl ▷ does
+    (reads (keyword key.Register ∷ name s.name ∷ brace_open ∷ []) refl ▷ does
     ▷ giving (ap (λ ls. object_built s ls b) (extended_is s.attributes [] b.objects)) (reads_register_attrs s.attributes q.1 _ _ (brace_close ∷ rest) q.0 refl)
     ▷ reads (brace_close ∷ []) refl ▷ does)
 

@@ -6,6 +6,7 @@ use Rattle.predictive_parser.specs.Machine.{Takes, Passes, next_of}
 use Rattle.predictive_parser.specs.Grammar.{move}
 use Rattle.predictive_parser.proofs.Chains.{Leads, then, reads, put, token, takes, passes}
 use Rattle.predictive_parser.proofs.Closings.{calm, build}
+use Rattle.p414_lexemes.specs.declared.keyword.Keyword.TheVariants as key
 use Rattle.p414_lexemes.specs.declared.lexeme.Literal.{Literal}
 use Rattle.p414_lexemes.specs.declared.lexeme.Lexeme.{Lexeme}
 use Rattle.p414_lexemes.specs.declared.lexeme.Lexeme.TheVariants as lexeme
@@ -18,7 +19,7 @@ use Rattle.p414_ast.specs.declared.node.UnaryOperator.TheVariants as unary_opera
 use Rattle.p414_ast.specs.declared.node.BinaryOperator.{BinaryOperator}
 use Rattle.p414_ast.specs.declared.node.BinaryOperator.TheVariants as binary_operator
 use Rattle.p414_ast.specs.Tree.{Expr, valid, truth, field, number, parenthesized, unary, binary}
-use Rattle.p414_ast.specs.Words.{name, paren_open, paren_close, bracket_open, bracket_close, dot}
+use Rattle.p414_ast.specs.Words.{name, keyword, paren_open, paren_close, bracket_open, bracket_close, dot}
 use Rattle.p414_ast.specs.Operators.{unary_token, unary_power, binary_token, binary_power}
 use Rattle.p414_ast.specs.Written.{written_option, written_index, written_expr}
 use Rattle.p414_ast.specs.Conditions.{is_among, expression_words, is_expression_name, is_expr}
@@ -176,8 +177,8 @@ with_index i b = record b { parts = record b.parts { indexes = i ∷ b.parts.ind
 index_read : (i : Option Index) (symbols : List Sym) (b : Built) (rest : List Lexeme) → calm grammar14 closing14 (word.Part part_word.IndexOption) rest ≡ true → Goes (part_sym part_word.IndexOption ∷ symbols) b (written_option written_index i ++ rest) symbols (with_index i b) rest
 index_read None symbols b rest h = build grammar14 closing14 closed14 (word.Part part_word.IndexOption) (action.Part part.NoIndex) symbols b rest refl refl h
 index_read (Some (index.At n)) symbols b rest h = reads grammar14 (bracket_open ∷ lexeme.Number n ∷ bracket_close ∷ []) refl
-index_read (Some index.Next) symbols b rest h = reads grammar14 (bracket_open ∷ name (codes "next") ∷ bracket_close ∷ []) refl
-index_read (Some index.Last) symbols b rest h = reads grammar14 (bracket_open ∷ name (codes "last") ∷ bracket_close ∷ []) refl
+index_read (Some index.Next) symbols b rest h = reads grammar14 (bracket_open ∷ keyword key.Next ∷ bracket_close ∷ []) refl
+index_read (Some index.Last) symbols b rest h = reads grammar14 (bracket_open ∷ keyword key.Last ∷ bracket_close ∷ []) refl
 
 -- expressions
 
@@ -188,9 +189,9 @@ Reads q e =
 
 truth_read : (q : ℕ) (value : Bool) → Reads q (truth value)
 truth_read q true m symbols b rest h k l =
-    (12, k, then (reads grammar14 (name (codes "true") ∷ []) refl) (put grammar14 (action.Body (body.Truth true)) (operand_rest m ++ symbols) b rest))
+    (12, k, then (reads grammar14 (keyword key.True ∷ []) refl) (put grammar14 (action.Body (body.Truth true)) (operand_rest m ++ symbols) b rest))
 truth_read q false m symbols b rest h k l =
-    (12, k, then (reads grammar14 (name (codes "false") ∷ []) refl) (put grammar14 (action.Body (body.Truth false)) (operand_rest m ++ symbols) b rest))
+    (12, k, then (reads grammar14 (keyword key.False ∷ []) refl) (put grammar14 (action.Body (body.Truth false)) (operand_rest m ++ symbols) b rest))
 
 number_read : (q : ℕ) (n : Literal) → Reads q (number n)
 number_read q n m symbols b rest h k l =
@@ -200,8 +201,8 @@ valid_read : (q : ℕ) (i : Inst) → is_expression_name i.name ≡ true → Rea
 valid_read q i n m symbols b rest h k l = (
   12,
   k,
-  from (written_expr (valid i) ++ rest) (ap (λ ts. name (codes "valid") ∷ paren_open ∷ name i.name ∷ ts) (append_assoc (written_option written_index i.index) (paren_close ∷ []) rest))
-      (then (reads grammar14 (name (codes "valid") ∷ paren_open ∷ []) refl)
+  from (written_expr (valid i) ++ rest) (ap (λ ts. keyword key.Valid ∷ paren_open ∷ name i.name ∷ ts) (append_assoc (written_option written_index i.index) (paren_close ∷ []) rest))
+      (then (reads grammar14 (keyword key.Valid ∷ paren_open ∷ []) refl)
       (then (takes grammar14 (body_sym body_word.ExprInst) (rows.paren_close ∷ Put (action.Body body.Valid) ∷ (operand_rest m ++ symbols)) _ b (with_name i.name b) (name i.name) _ (instance_moves i.name b n))
       (then (index_read i.index _ (with_name i.name b) (paren_close ∷ rest) refl)
       (then (put grammar14 (action.Part part.Inst) _ _ _)

@@ -9,7 +9,7 @@ use Rattle.p414_ast.specs.declared.headers.FieldWidth.TheVariants as width
 use Rattle.p414_ast.specs.declared.headers.Field.{Field}
 use Rattle.p414_ast.specs.declared.headers.Initial.{Initial}
 use Rattle.p414_ast.specs.declared.headers.Initials.{Initials}
-use Rattle.p414_ast.specs.Words.{name, brace_open, brace_close, bracket_open, bracket_close, paren_open, paren_close, semicolon, colon, star}
+use Rattle.p414_ast.specs.Words.{name, keyword, brace_open, brace_close, bracket_open, bracket_close, paren_open, paren_close, semicolon, colon, star}
 use Rattle.p414_ast.specs.Written.{written_option, after_commas, written_name, written_width, written_field_attributes, written_field, tail_word, written_tail, written_expr, written_size, written_initial, written_initials}
 use Rattle.p414_ast.specs.Tree.{Expr}
 use Rattle.p414_ast.specs.Views.{TailTree, length_is, max_length_is}
@@ -83,14 +83,14 @@ reads_tails f [] k symbols b rest d c = skips (word.Header header.Tails) symbols
 reads_tails f (length_is e ∷ tails) k symbols b rest d c =
     let p = both (is_expr 0 e) (list_all is_tail tails) k in
     from (flat_map written_tail (length_is e ∷ tails) ++ rest) (simp append_assoc)
-    (takes_row (word.Header header.Tails) (class.NewTail key.Length) _ _ symbols b (name (codes "length")) (colon ∷ (written_expr e ++ semicolon ∷ (flat_map written_tail tails ++ rest)))
+    (takes_row (word.Header header.Tails) (class.NewTail key.Length) _ _ symbols b (keyword key.Length) (colon ∷ (written_expr e ++ semicolon ∷ (flat_map written_tail tails ++ rest)))
     (ap not (is_new_text (map tail_word (newest [] b.bodies.tails)) (codes "length") (map tail_word tails) d)) refl
     ▷ reads (colon ∷ []) refl ▷ f e p.0 _ _ (semicolon ∷ (flat_map written_tail tails ++ rest)) refl ▷ reads (semicolon ∷ []) refl ▷ does
     ▷ reads_tails f tails p.1 symbols _ rest (next_words tail_word (length_is e) tails b.bodies.tails d) c)
 reads_tails f (max_length_is e ∷ tails) k symbols b rest d c =
     let p = both (is_expr 0 e) (list_all is_tail tails) k in
     from (flat_map written_tail (max_length_is e ∷ tails) ++ rest) (simp append_assoc)
-    (takes_row (word.Header header.Tails) (class.NewTail key.MaxLength) _ _ symbols b (name (codes "max_length")) (colon ∷ (written_expr e ++ semicolon ∷ (flat_map written_tail tails ++ rest)))
+    (takes_row (word.Header header.Tails) (class.NewTail key.MaxLength) _ _ symbols b (keyword key.MaxLength) (colon ∷ (written_expr e ++ semicolon ∷ (flat_map written_tail tails ++ rest)))
     (ap not (is_new_text (map tail_word (newest [] b.bodies.tails)) (codes "max_length") (map tail_word tails) d)) refl
     ▷ reads (colon ∷ []) refl ▷ f e p.0 _ _ (semicolon ∷ (flat_map written_tail tails ++ rest)) refl ▷ reads (semicolon ∷ []) refl ▷ does
     ▷ reads_tails f tails p.1 symbols _ rest (next_words tail_word (max_length_is e) tails b.bodies.tails d) c)

@@ -1,5 +1,5 @@
 -- Counters, meters and registers: what is written so is read.
-use Rattle.std.proofs.Common.{◌≡◌, true, false, not, List, [], ◌∷◌, ◌++◌, codes, map, refl, sym, ap, append_assoc}
+use Rattle.std.proofs.Common.{◌≡◌, true, false, not, List, [], ◌∷◌, ◌++◌, map, refl, sym, ap, append_assoc}
 use Rattle.std.specs.List.{flat_map}
 use Rattle.predictive_parser.specs.Grammar.{◌⇒◌}
 use Rattle.p414_lexemes.specs.declared.lexeme.Lexeme.{Lexeme}
@@ -8,7 +8,7 @@ use Rattle.p414_ast.specs.declared.objects.CounterType.{CounterType}
 use Rattle.p414_ast.specs.declared.objects.CounterType.TheVariants as counter_type
 use Rattle.p414_ast.specs.declared.objects.StateAttr.{StateAttr}
 use Rattle.p414_ast.specs.declared.objects.StateAttr.TheVariants as attr
-use Rattle.p414_ast.specs.Words.{name, semicolon, colon}
+use Rattle.p414_ast.specs.Words.{name, keyword, semicolon, colon}
 use Rattle.p414_ast.specs.Written.{written_ref, written_counter_type, state_word, written_state_attr}
 use Rattle.p414_ast.specs.Conditions.{is_among, all_different, has_word, counter_needs, register_needs}
 use Rattle.p414_lexemes.specs.declared.keyword.Keyword.TheVariants as key
@@ -23,9 +23,9 @@ use Rattle.p414_reader.proofs.Readings.{Goes, Calm, Reads, ◌▷◌, reads, doe
 use Rattle.p414_reader.proofs.Complete.Parts.{reads_ref}
 
 pub reads_counter_type : (t : CounterType) → Reads (word.Object object.CounterType) t (written_counter_type t ++ semicolon ∷ [])
-reads_counter_type counter_type.Packets symbols b rest = reads (name (codes "packets") ∷ semicolon ∷ []) refl ▷ does
-reads_counter_type counter_type.Bytes symbols b rest = reads (name (codes "bytes") ∷ semicolon ∷ []) refl ▷ does
-reads_counter_type counter_type.PacketsAndBytes symbols b rest = reads (name (codes "packets_and_bytes") ∷ semicolon ∷ []) refl ▷ does
+reads_counter_type counter_type.Packets symbols b rest = reads (keyword key.Packets ∷ semicolon ∷ []) refl ▷ does
+reads_counter_type counter_type.Bytes symbols b rest = reads (keyword key.Bytes ∷ semicolon ∷ []) refl ▷ does
+reads_counter_type counter_type.PacketsAndBytes symbols b rest = reads (keyword key.PacketsAndBytes ∷ semicolon ∷ []) refl ▷ does
 
 -- attributes
 
@@ -34,28 +34,28 @@ pub reads_state_attr : (a : StateAttr) → is_among (state_word a) object_needs 
     → Goes (object_sym object.Attr ∷ symbols) b (written_state_attr a ++ rest) symbols (after_word (word.Object object.Attr) a b) rest
 reads_state_attr (attr.Counts t) n symbols b rest h = cc
 reads_state_attr (attr.Direct t) n symbols b rest h =
-    takes_row (word.Object object.Attr) (class.NewStateAttr key.Direct) _ _ symbols b (name (codes "direct")) (colon ∷ name t ∷ semicolon ∷ rest) (ap not h) refl
+    takes_row (word.Object object.Attr) (class.NewStateAttr key.Direct) _ _ symbols b (keyword key.Direct) (colon ∷ name t ∷ semicolon ∷ rest) (ap not h) refl
     ▷ reads (colon ∷ name t ∷ semicolon ∷ []) refl ▷ does
 reads_state_attr (attr.Static t) n symbols b rest h =
-    takes_row (word.Object object.Attr) (class.NewStateAttr key.Static) _ _ symbols b (name (codes "static")) (colon ∷ name t ∷ semicolon ∷ rest) (ap not h) refl
+    takes_row (word.Object object.Attr) (class.NewStateAttr key.Static) _ _ symbols b (keyword key.Static) (colon ∷ name t ∷ semicolon ∷ rest) (ap not h) refl
     ▷ reads (colon ∷ name t ∷ semicolon ∷ []) refl ▷ does
 reads_state_attr (attr.Layout t) n symbols b rest h = cc
 reads_state_attr (attr.Result r) n symbols b rest h =
-    from (written_state_attr (attr.Result r) ++ rest) (ap (λ ts. name (codes "result") ∷ colon ∷ ts) (append_assoc (written_ref r) (semicolon ∷ []) rest))
-    (takes_row (word.Object object.Attr) (class.NewStateAttr key.Result) _ _ symbols b (name (codes "result")) (colon ∷ (written_ref r ++ semicolon ∷ rest)) (ap not h) refl
+    from (written_state_attr (attr.Result r) ++ rest) (ap (λ ts. keyword key.Result ∷ colon ∷ ts) (append_assoc (written_ref r) (semicolon ∷ []) rest))
+    (takes_row (word.Object object.Attr) (class.NewStateAttr key.Result) _ _ symbols b (keyword key.Result) (colon ∷ (written_ref r ++ semicolon ∷ rest)) (ap not h) refl
     ▷ reads (colon ∷ []) refl ▷ reads_ref r _ _ (semicolon ∷ rest) ▷ reads (semicolon ∷ []) refl ▷ does)
 reads_state_attr (attr.InstanceCount m) n symbols b rest h =
-    takes_row (word.Object object.Attr) (class.NewStateAttr key.InstanceCount) _ _ symbols b (name (codes "instance_count")) (colon ∷ lexeme.Number m ∷ semicolon ∷ rest) (ap not h) refl
+    takes_row (word.Object object.Attr) (class.NewStateAttr key.InstanceCount) _ _ symbols b (keyword key.InstanceCount) (colon ∷ lexeme.Number m ∷ semicolon ∷ rest) (ap not h) refl
     ▷ reads (colon ∷ lexeme.Number m ∷ semicolon ∷ []) refl ▷ does
 reads_state_attr (attr.Width m) n symbols b rest h = cc
 reads_state_attr (attr.MinWidth m) n symbols b rest h =
-    takes_row (word.Object object.Attr) (class.NewStateAttr key.MinWidth) _ _ symbols b (name (codes "min_width")) (colon ∷ lexeme.Number m ∷ semicolon ∷ rest) (ap not h) refl
+    takes_row (word.Object object.Attr) (class.NewStateAttr key.MinWidth) _ _ symbols b (keyword key.MinWidth) (colon ∷ lexeme.Number m ∷ semicolon ∷ rest) (ap not h) refl
     ▷ reads (colon ∷ lexeme.Number m ∷ semicolon ∷ []) refl ▷ does
 reads_state_attr attr.Saturating n symbols b rest h =
-    takes_row (word.Object object.Attr) (class.NewStateAttr key.Saturating) _ _ symbols b (name (codes "saturating")) (semicolon ∷ rest) (ap not h) refl
+    takes_row (word.Object object.Attr) (class.NewStateAttr key.Saturating) _ _ symbols b (keyword key.Saturating) (semicolon ∷ rest) (ap not h) refl
     ▷ reads (semicolon ∷ []) refl ▷ does
 reads_state_attr attr.Signed n symbols b rest h =
-    takes_row (word.Object object.Attr) (class.NewStateAttr key.Signed) _ _ symbols b (name (codes "signed")) (semicolon ∷ rest) (ap not h) refl
+    takes_row (word.Object object.Attr) (class.NewStateAttr key.Signed) _ _ symbols b (keyword key.Signed) (semicolon ∷ rest) (ap not h) refl
     ▷ reads (semicolon ∷ []) refl ▷ does
 
 -- the rows for the attributes that are needed somewhere
@@ -69,13 +69,13 @@ more_rows =
 -- the next attribute is read as any attribute
 like_more : (a : StateAttr) → is_among (state_word a) object_needs ≡ false → (symbols : List Sym) (b : Built) (tokens : List Lexeme) → is_among (state_word a) (object_words b) ≡ false
     → Goes (object_sym object.MoreAttrs ∷ symbols) b (name (state_word a) ∷ tokens) (object_sym object.Attr ∷ object_sym object.MoreAttrs ∷ symbols) b (name (state_word a) ∷ tokens)
-like_more (attr.Direct t) n symbols b tokens h = like_row (word.Object object.MoreAttrs) (word.Object object.Attr) more_rows _ symbols b (name (codes "direct")) tokens (class.NewStateAttr key.Direct) _ _ refl refl refl (ap not h) refl
-like_more (attr.Static t) n symbols b tokens h = like_row (word.Object object.MoreAttrs) (word.Object object.Attr) more_rows _ symbols b (name (codes "static")) tokens (class.NewStateAttr key.Static) _ _ refl refl refl (ap not h) refl
-like_more (attr.Result r) n symbols b tokens h = like_row (word.Object object.MoreAttrs) (word.Object object.Attr) more_rows _ symbols b (name (codes "result")) tokens (class.NewStateAttr key.Result) _ _ refl refl refl (ap not h) refl
-like_more (attr.InstanceCount m) n symbols b tokens h = like_row (word.Object object.MoreAttrs) (word.Object object.Attr) more_rows _ symbols b (name (codes "instance_count")) tokens (class.NewStateAttr key.InstanceCount) _ _ refl refl refl (ap not h) refl
-like_more (attr.MinWidth m) n symbols b tokens h = like_row (word.Object object.MoreAttrs) (word.Object object.Attr) more_rows _ symbols b (name (codes "min_width")) tokens (class.NewStateAttr key.MinWidth) _ _ refl refl refl (ap not h) refl
-like_more attr.Saturating n symbols b tokens h = like_row (word.Object object.MoreAttrs) (word.Object object.Attr) more_rows _ symbols b (name (codes "saturating")) tokens (class.NewStateAttr key.Saturating) _ _ refl refl refl (ap not h) refl
-like_more attr.Signed n symbols b tokens h = like_row (word.Object object.MoreAttrs) (word.Object object.Attr) more_rows _ symbols b (name (codes "signed")) tokens (class.NewStateAttr key.Signed) _ _ refl refl refl (ap not h) refl
+like_more (attr.Direct t) n symbols b tokens h = like_row (word.Object object.MoreAttrs) (word.Object object.Attr) more_rows _ symbols b (keyword key.Direct) tokens (class.NewStateAttr key.Direct) _ _ refl refl refl (ap not h) refl
+like_more (attr.Static t) n symbols b tokens h = like_row (word.Object object.MoreAttrs) (word.Object object.Attr) more_rows _ symbols b (keyword key.Static) tokens (class.NewStateAttr key.Static) _ _ refl refl refl (ap not h) refl
+like_more (attr.Result r) n symbols b tokens h = like_row (word.Object object.MoreAttrs) (word.Object object.Attr) more_rows _ symbols b (keyword key.Result) tokens (class.NewStateAttr key.Result) _ _ refl refl refl (ap not h) refl
+like_more (attr.InstanceCount m) n symbols b tokens h = like_row (word.Object object.MoreAttrs) (word.Object object.Attr) more_rows _ symbols b (keyword key.InstanceCount) tokens (class.NewStateAttr key.InstanceCount) _ _ refl refl refl (ap not h) refl
+like_more (attr.MinWidth m) n symbols b tokens h = like_row (word.Object object.MoreAttrs) (word.Object object.Attr) more_rows _ symbols b (keyword key.MinWidth) tokens (class.NewStateAttr key.MinWidth) _ _ refl refl refl (ap not h) refl
+like_more attr.Saturating n symbols b tokens h = like_row (word.Object object.MoreAttrs) (word.Object object.Attr) more_rows _ symbols b (keyword key.Saturating) tokens (class.NewStateAttr key.Saturating) _ _ refl refl refl (ap not h) refl
+like_more attr.Signed n symbols b tokens h = like_row (word.Object object.MoreAttrs) (word.Object object.Attr) more_rows _ symbols b (keyword key.Signed) tokens (class.NewStateAttr key.Signed) _ _ refl refl refl (ap not h) refl
 like_more (attr.Counts t) n symbols b tokens h = cc
 like_more (attr.Layout t) n symbols b tokens h = cc
 like_more (attr.Width m) n symbols b tokens h = cc
@@ -90,14 +90,14 @@ next_attr (attr.MinWidth m) symbols b rest h = like_more (attr.MinWidth m) refl 
 next_attr attr.Saturating symbols b rest h = like_more attr.Saturating refl symbols b _ h ▷ reads_state_attr attr.Saturating refl _ b rest h
 next_attr attr.Signed symbols b rest h = like_more attr.Signed refl symbols b _ h ▷ reads_state_attr attr.Signed refl _ b rest h
 next_attr (attr.Counts t) symbols b rest h =
-    from (written_state_attr (attr.Counts t) ++ rest) (ap (λ ts. name (codes "type") ∷ colon ∷ ts) (append_assoc (written_counter_type t) (semicolon ∷ []) rest))
-    (takes_row (word.Object object.MoreAttrs) (class.NewStateAttr key.Counts) _ _ symbols b (name (codes "type")) (colon ∷ (written_counter_type t ++ semicolon ∷ rest)) (ap not h) refl
+    from (written_state_attr (attr.Counts t) ++ rest) (ap (λ ts. keyword key.Counts ∷ colon ∷ ts) (append_assoc (written_counter_type t) (semicolon ∷ []) rest))
+    (takes_row (word.Object object.MoreAttrs) (class.NewStateAttr key.Counts) _ _ symbols b (keyword key.Counts) (colon ∷ (written_counter_type t ++ semicolon ∷ rest)) (ap not h) refl
     ▷ reads (colon ∷ []) refl ▷ from (written_counter_type t ++ semicolon ∷ rest) (sym (append_assoc (written_counter_type t) (semicolon ∷ []) rest)) (reads_counter_type t (object_sym object.MoreAttrs ∷ symbols) b rest))
 next_attr (attr.Layout t) symbols b rest h =
-    takes_row (word.Object object.MoreAttrs) (class.NewStateAttr key.Layout) _ _ symbols b (name (codes "layout")) (colon ∷ name t ∷ semicolon ∷ rest) (ap not h) refl
+    takes_row (word.Object object.MoreAttrs) (class.NewStateAttr key.Layout) _ _ symbols b (keyword key.Layout) (colon ∷ name t ∷ semicolon ∷ rest) (ap not h) refl
     ▷ reads (colon ∷ name t ∷ semicolon ∷ []) refl ▷ does
 next_attr (attr.Width m) symbols b rest h =
-    takes_row (word.Object object.MoreAttrs) (class.NewStateAttr key.Width) _ _ symbols b (name (codes "width")) (colon ∷ lexeme.Number m ∷ semicolon ∷ rest) (ap not h) refl
+    takes_row (word.Object object.MoreAttrs) (class.NewStateAttr key.Width) _ _ symbols b (keyword key.Width) (colon ∷ lexeme.Number m ∷ semicolon ∷ rest) (ap not h) refl
     ▷ reads (colon ∷ lexeme.Number m ∷ semicolon ∷ []) refl ▷ does
 
 pub reads_more_attrs : (attrs : List StateAttr) (symbols : List Sym) (b : Built) (rest : List Lexeme)
@@ -120,13 +120,13 @@ counter_rows =
 
 like_counter : (a : StateAttr) → is_among (state_word a) object_needs ≡ false → (symbols : List Sym) (b : Built) (tokens : List Lexeme)
     → Goes (object_sym object.CounterAttrs ∷ symbols) b (name (state_word a) ∷ tokens) (object_sym object.Attr ∷ object_sym object.CounterAttrs ∷ symbols) b (name (state_word a) ∷ tokens)
-like_counter (attr.Direct t) n symbols b tokens = like_end (word.Object object.CounterAttrs) (word.Object object.Attr) counter_rows _ symbols b (name (codes "direct")) tokens refl refl refl refl refl
-like_counter (attr.Static t) n symbols b tokens = like_end (word.Object object.CounterAttrs) (word.Object object.Attr) counter_rows _ symbols b (name (codes "static")) tokens refl refl refl refl refl
-like_counter (attr.Result r) n symbols b tokens = like_end (word.Object object.CounterAttrs) (word.Object object.Attr) counter_rows _ symbols b (name (codes "result")) tokens refl refl refl refl refl
-like_counter (attr.InstanceCount m) n symbols b tokens = like_end (word.Object object.CounterAttrs) (word.Object object.Attr) counter_rows _ symbols b (name (codes "instance_count")) tokens refl refl refl refl refl
-like_counter (attr.MinWidth m) n symbols b tokens = like_end (word.Object object.CounterAttrs) (word.Object object.Attr) counter_rows _ symbols b (name (codes "min_width")) tokens refl refl refl refl refl
-like_counter attr.Saturating n symbols b tokens = like_end (word.Object object.CounterAttrs) (word.Object object.Attr) counter_rows _ symbols b (name (codes "saturating")) tokens refl refl refl refl refl
-like_counter attr.Signed n symbols b tokens = like_end (word.Object object.CounterAttrs) (word.Object object.Attr) counter_rows _ symbols b (name (codes "signed")) tokens refl refl refl refl refl
+like_counter (attr.Direct t) n symbols b tokens = like_end (word.Object object.CounterAttrs) (word.Object object.Attr) counter_rows _ symbols b (keyword key.Direct) tokens refl refl refl refl refl
+like_counter (attr.Static t) n symbols b tokens = like_end (word.Object object.CounterAttrs) (word.Object object.Attr) counter_rows _ symbols b (keyword key.Static) tokens refl refl refl refl refl
+like_counter (attr.Result r) n symbols b tokens = like_end (word.Object object.CounterAttrs) (word.Object object.Attr) counter_rows _ symbols b (keyword key.Result) tokens refl refl refl refl refl
+like_counter (attr.InstanceCount m) n symbols b tokens = like_end (word.Object object.CounterAttrs) (word.Object object.Attr) counter_rows _ symbols b (keyword key.InstanceCount) tokens refl refl refl refl refl
+like_counter (attr.MinWidth m) n symbols b tokens = like_end (word.Object object.CounterAttrs) (word.Object object.Attr) counter_rows _ symbols b (keyword key.MinWidth) tokens refl refl refl refl refl
+like_counter attr.Saturating n symbols b tokens = like_end (word.Object object.CounterAttrs) (word.Object object.Attr) counter_rows _ symbols b (keyword key.Saturating) tokens refl refl refl refl refl
+like_counter attr.Signed n symbols b tokens = like_end (word.Object object.CounterAttrs) (word.Object object.Attr) counter_rows _ symbols b (keyword key.Signed) tokens refl refl refl refl refl
 like_counter (attr.Counts t) n symbols b tokens = cc
 like_counter (attr.Layout t) n symbols b tokens = cc
 like_counter (attr.Width m) n symbols b tokens = cc
@@ -141,10 +141,10 @@ other_of_counter (attr.MinWidth m) n symbols b rest h = like_counter (attr.MinWi
 other_of_counter attr.Saturating n symbols b rest h = like_counter attr.Saturating refl symbols b _ ▷ reads_state_attr attr.Saturating refl _ b rest h
 other_of_counter attr.Signed n symbols b rest h = like_counter attr.Signed refl symbols b _ ▷ reads_state_attr attr.Signed refl _ b rest h
 other_of_counter (attr.Layout t) n symbols b rest h =
-    takes_row (word.Object object.CounterAttrs) (class.NewStateAttr key.Layout) _ _ symbols b (name (codes "layout")) (colon ∷ name t ∷ semicolon ∷ rest) (ap not h) refl
+    takes_row (word.Object object.CounterAttrs) (class.NewStateAttr key.Layout) _ _ symbols b (keyword key.Layout) (colon ∷ name t ∷ semicolon ∷ rest) (ap not h) refl
     ▷ reads (colon ∷ name t ∷ semicolon ∷ []) refl ▷ does
 other_of_counter (attr.Width m) n symbols b rest h =
-    takes_row (word.Object object.CounterAttrs) (class.NewStateAttr key.Width) _ _ symbols b (name (codes "width")) (colon ∷ lexeme.Number m ∷ semicolon ∷ rest) (ap not h) refl
+    takes_row (word.Object object.CounterAttrs) (class.NewStateAttr key.Width) _ _ symbols b (keyword key.Width) (colon ∷ lexeme.Number m ∷ semicolon ∷ rest) (ap not h) refl
     ▷ reads (colon ∷ lexeme.Number m ∷ semicolon ∷ []) refl ▷ does
 other_of_counter (attr.Counts t) n symbols b rest h = cc
 
@@ -172,7 +172,7 @@ reads_counter_attrs (attr.Layout t ∷ attrs) n = behind_other_counter (attr.Lay
 reads_counter_attrs (attr.Width m ∷ attrs) n = behind_other_counter (attr.Width m) attrs refl (reads_counter_attrs attrs n)
 reads_counter_attrs (attr.Counts t ∷ attrs) n = λ symbols b rest d c.
     from (flat_map written_state_attr (attr.Counts t ∷ attrs) ++ rest) (first_of written_state_attr (attr.Counts t) attrs rest)
-    (reads (name (codes "type") ∷ colon ∷ []) refl ▷ reads_counter_type t _ b (flat_map written_state_attr attrs ++ rest)
+    (reads (keyword key.Counts ∷ colon ∷ []) refl ▷ reads_counter_type t _ b (flat_map written_state_attr attrs ++ rest)
     ▷ reads_more_attrs attrs symbols _ rest (next_words state_word (attr.Counts t) attrs b.objects d) c)
 
 -- of a register
@@ -186,13 +186,13 @@ register_rows =
 
 like_register : (a : StateAttr) → is_among (state_word a) object_needs ≡ false → (symbols : List Sym) (b : Built) (tokens : List Lexeme)
     → Goes (object_sym object.RegisterAttrs ∷ symbols) b (name (state_word a) ∷ tokens) (object_sym object.Attr ∷ object_sym object.RegisterAttrs ∷ symbols) b (name (state_word a) ∷ tokens)
-like_register (attr.Direct t) n symbols b tokens = like_end (word.Object object.RegisterAttrs) (word.Object object.Attr) register_rows _ symbols b (name (codes "direct")) tokens refl refl refl refl refl
-like_register (attr.Static t) n symbols b tokens = like_end (word.Object object.RegisterAttrs) (word.Object object.Attr) register_rows _ symbols b (name (codes "static")) tokens refl refl refl refl refl
-like_register (attr.Result r) n symbols b tokens = like_end (word.Object object.RegisterAttrs) (word.Object object.Attr) register_rows _ symbols b (name (codes "result")) tokens refl refl refl refl refl
-like_register (attr.InstanceCount m) n symbols b tokens = like_end (word.Object object.RegisterAttrs) (word.Object object.Attr) register_rows _ symbols b (name (codes "instance_count")) tokens refl refl refl refl refl
-like_register (attr.MinWidth m) n symbols b tokens = like_end (word.Object object.RegisterAttrs) (word.Object object.Attr) register_rows _ symbols b (name (codes "min_width")) tokens refl refl refl refl refl
-like_register attr.Saturating n symbols b tokens = like_end (word.Object object.RegisterAttrs) (word.Object object.Attr) register_rows _ symbols b (name (codes "saturating")) tokens refl refl refl refl refl
-like_register attr.Signed n symbols b tokens = like_end (word.Object object.RegisterAttrs) (word.Object object.Attr) register_rows _ symbols b (name (codes "signed")) tokens refl refl refl refl refl
+like_register (attr.Direct t) n symbols b tokens = like_end (word.Object object.RegisterAttrs) (word.Object object.Attr) register_rows _ symbols b (keyword key.Direct) tokens refl refl refl refl refl
+like_register (attr.Static t) n symbols b tokens = like_end (word.Object object.RegisterAttrs) (word.Object object.Attr) register_rows _ symbols b (keyword key.Static) tokens refl refl refl refl refl
+like_register (attr.Result r) n symbols b tokens = like_end (word.Object object.RegisterAttrs) (word.Object object.Attr) register_rows _ symbols b (keyword key.Result) tokens refl refl refl refl refl
+like_register (attr.InstanceCount m) n symbols b tokens = like_end (word.Object object.RegisterAttrs) (word.Object object.Attr) register_rows _ symbols b (keyword key.InstanceCount) tokens refl refl refl refl refl
+like_register (attr.MinWidth m) n symbols b tokens = like_end (word.Object object.RegisterAttrs) (word.Object object.Attr) register_rows _ symbols b (keyword key.MinWidth) tokens refl refl refl refl refl
+like_register attr.Saturating n symbols b tokens = like_end (word.Object object.RegisterAttrs) (word.Object object.Attr) register_rows _ symbols b (keyword key.Saturating) tokens refl refl refl refl refl
+like_register attr.Signed n symbols b tokens = like_end (word.Object object.RegisterAttrs) (word.Object object.Attr) register_rows _ symbols b (keyword key.Signed) tokens refl refl refl refl refl
 like_register (attr.Counts t) n symbols b tokens = cc
 like_register (attr.Layout t) n symbols b tokens = cc
 like_register (attr.Width m) n symbols b tokens = cc
@@ -207,8 +207,8 @@ other_of_register (attr.MinWidth m) n symbols b rest h = like_register (attr.Min
 other_of_register attr.Saturating n symbols b rest h = like_register attr.Saturating refl symbols b _ ▷ reads_state_attr attr.Saturating refl _ b rest h
 other_of_register attr.Signed n symbols b rest h = like_register attr.Signed refl symbols b _ ▷ reads_state_attr attr.Signed refl _ b rest h
 other_of_register (attr.Counts t) n symbols b rest h =
-    from (written_state_attr (attr.Counts t) ++ rest) (ap (λ ts. name (codes "type") ∷ colon ∷ ts) (append_assoc (written_counter_type t) (semicolon ∷ []) rest))
-    (takes_row (word.Object object.RegisterAttrs) (class.NewStateAttr key.Counts) _ _ symbols b (name (codes "type")) (colon ∷ (written_counter_type t ++ semicolon ∷ rest)) (ap not h) refl
+    from (written_state_attr (attr.Counts t) ++ rest) (ap (λ ts. keyword key.Counts ∷ colon ∷ ts) (append_assoc (written_counter_type t) (semicolon ∷ []) rest))
+    (takes_row (word.Object object.RegisterAttrs) (class.NewStateAttr key.Counts) _ _ symbols b (keyword key.Counts) (colon ∷ (written_counter_type t ++ semicolon ∷ rest)) (ap not h) refl
     ▷ reads (colon ∷ []) refl ▷ from (written_counter_type t ++ semicolon ∷ rest) (sym (append_assoc (written_counter_type t) (semicolon ∷ []) rest)) (reads_counter_type t (object_sym object.RegisterAttrs ∷ symbols) b rest))
 other_of_register (attr.Layout t) n symbols b rest h = cc
 other_of_register (attr.Width m) n symbols b rest h = cc
@@ -235,8 +235,8 @@ reads_register_attrs (attr.Saturating ∷ attrs) n = behind_other_register attr.
 reads_register_attrs (attr.Signed ∷ attrs) n = behind_other_register attr.Signed attrs refl (reads_register_attrs attrs n)
 reads_register_attrs (attr.Counts t ∷ attrs) n = behind_other_register (attr.Counts t) attrs refl (reads_register_attrs attrs n)
 reads_register_attrs (attr.Layout t ∷ attrs) n = λ symbols b rest d c.
-    reads (name (codes "layout") ∷ colon ∷ name t ∷ semicolon ∷ []) refl ▷ does
+    reads (keyword key.Layout ∷ colon ∷ name t ∷ semicolon ∷ []) refl ▷ does
     ▷ reads_more_attrs attrs symbols _ rest (next_words state_word (attr.Layout t) attrs b.objects d) c
 reads_register_attrs (attr.Width m ∷ attrs) n = λ symbols b rest d c.
-    reads (name (codes "width") ∷ colon ∷ lexeme.Number m ∷ semicolon ∷ []) refl ▷ does
+    reads (keyword key.Width ∷ colon ∷ lexeme.Number m ∷ semicolon ∷ []) refl ▷ does
     ▷ reads_more_attrs attrs symbols _ rest (next_words state_word (attr.Width m) attrs b.objects d) c

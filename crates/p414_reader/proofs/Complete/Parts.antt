@@ -1,6 +1,7 @@
 -- Names, numbers, instances and fields: what is written so is read.
-use Rattle.std.proofs.Common.{◌≡◌, ℕ, List, [], ◌∷◌, ◌++◌, codes, Option, Some, None, refl, sym, ap, ◌∙◌, append_assoc, append-nil}
+use Rattle.std.proofs.Common.{◌≡◌, ℕ, List, [], ◌∷◌, ◌++◌, Option, Some, None, refl, sym, ap, ◌∙◌, append_assoc, append-nil}
 use Rattle.predictive_parser.specs.declared.symbol.Symbol.TheVariants.{Put}
+use Rattle.p414_lexemes.specs.declared.keyword.Keyword.TheVariants as key
 use Rattle.p414_lexemes.specs.declared.lexeme.Literal.{Literal}
 use Rattle.p414_lexemes.specs.declared.lexeme.Lexeme.{Lexeme}
 use Rattle.p414_lexemes.specs.declared.lexeme.Lexeme.TheVariants as lexeme
@@ -11,7 +12,7 @@ use Rattle.p414_ast.specs.declared.parts.Index.{Index}
 use Rattle.p414_ast.specs.declared.parts.Index.TheVariants as index
 use Rattle.p414_ast.specs.declared.parts.Inst.{Inst}
 use Rattle.p414_ast.specs.declared.parts.Ref.{Ref}
-use Rattle.p414_ast.specs.Words.{name, bracket_open, bracket_close, paren_open, paren_close, semicolon, dot, comma, plus, minus}
+use Rattle.p414_ast.specs.Words.{name, keyword, bracket_open, bracket_close, paren_open, paren_close, semicolon, dot, comma, plus, minus}
 use Rattle.p414_ast.specs.Written.{written_option, after_commas, by_commas, written_name, name_line, written_number, index_token, written_index, written_inst, written_ref, written_mask, written_arguments}
 use Rattle.p414_reader.specs.declared.symbols.Action.TheVariants as action
 use Rattle.p414_reader.specs.declared.symbols.PartAction.TheVariants as part_action
@@ -35,8 +36,8 @@ reads_name_lines (n ∷ names) symbols b rest c =
 
 pub reads_index_in : (i : Index) → Reads (word.Part part.IndexIn) i (index_token i ∷ [])
 reads_index_in (index.At n) symbols b rest = reads (lexeme.Number n ∷ []) refl ▷ does
-reads_index_in index.Next symbols b rest = reads (name (codes "next") ∷ []) refl ▷ does
-reads_index_in index.Last symbols b rest = reads (name (codes "last") ∷ []) refl ▷ does
+reads_index_in index.Next symbols b rest = reads (keyword key.Next ∷ []) refl ▷ does
+reads_index_in index.Last symbols b rest = reads (keyword key.Last ∷ []) refl ▷ does
 
 pub reads_index_option : (i : Option Index) → ReadsCalm (word.Part part.IndexOption) i (written_option written_index i)
 reads_index_option None symbols b rest c = builds (word.Part part.IndexOption) _ symbols b rest refl refl c
@@ -103,4 +104,4 @@ reads_arguments (Some ns) symbols b rest c =
 
 pub reads_mask_option : (m : Option Literal) → ReadsCalm (word.Part part.MaskOption) m (written_option written_mask m)
 reads_mask_option None symbols b rest c = builds (word.Part part.MaskOption) _ symbols b rest refl refl c
-reads_mask_option (Some m) symbols b rest c = reads (name (codes "mask") ∷ lexeme.Number m ∷ []) refl ▷ does
+reads_mask_option (Some m) symbols b rest c = reads (keyword key.Mask ∷ lexeme.Number m ∷ []) refl ▷ does

@@ -4,6 +4,7 @@ use Rattle.std.specs.List.{flat_map, list_all}
 use Rattle.std.specs.Str.{bytes_eq}
 use Rattle.predictive_parser.specs.declared.symbol.Symbol.TheVariants.{Put}
 use Rattle.predictive_parser.specs.Grammar.{Like}
+use Rattle.p414_lexemes.specs.declared.keyword.Keyword.TheVariants as key
 use Rattle.p414_lexemes.specs.declared.lexeme.Literal.{Literal}
 use Rattle.p414_lexemes.specs.declared.lexeme.Lexeme.{Lexeme}
 use Rattle.p414_lexemes.specs.declared.lexeme.Lexeme.TheVariants as lexeme
@@ -22,7 +23,7 @@ use Rattle.p414_ast.specs.declared.parsers.CaseTarget.TheVariants as target
 use Rattle.p414_ast.specs.declared.parsers.Case.{Case}
 use Rattle.p414_ast.specs.declared.parsers.Return.{Return}
 use Rattle.p414_ast.specs.declared.parsers.Return.TheVariants as end_of
-use Rattle.p414_ast.specs.Words.{name, brace_open, brace_close, bracket_open, bracket_close, paren_open, paren_close, semicolon, colon, comma, dot, plus, minus}
+use Rattle.p414_ast.specs.Words.{name, keyword, brace_open, brace_close, bracket_open, bracket_close, paren_open, paren_close, semicolon, colon, comma, dot, plus, minus}
 use Rattle.p414_ast.specs.Written.{written_option, after_commas, written_index, written_pvalue, written_pstmt, written_masked, written_target, written_case, written_return}
 use Rattle.p414_ast.specs.Conditions.{is_bare, is_pvalue, is_select_value, is_pstmt, is_case_values, is_case, is_return}
 use Rattle.p414_reader.specs.declared.symbols.Class.TheVariants as class
@@ -47,15 +48,15 @@ ReadsField i f text =
     (written_pvalue (pvalue.Field (record { instance = record { name = text; index = i }; field = f })))
 
 reads_current_field : (i : Option Index) (f : List ℕ) → ReadsField i f (codes "current")
-reads_current_field None f symbols b rest = reads (name (codes "current") ∷ dot ∷ name f ∷ []) refl ▷ does ▷ does
+reads_current_field None f symbols b rest = reads (keyword key.Current ∷ dot ∷ name f ∷ []) refl ▷ does ▷ does
 reads_current_field (Some i) f symbols b rest =
-    reads (name (codes "current") ∷ bracket_open ∷ []) refl ▷ reads_index_in i _ _ (bracket_close ∷ dot ∷ name f ∷ rest)
+    reads (keyword key.Current ∷ bracket_open ∷ []) refl ▷ reads_index_in i _ _ (bracket_close ∷ dot ∷ name f ∷ rest)
     ▷ reads (bracket_close ∷ dot ∷ name f ∷ []) refl ▷ does ▷ does
 
 reads_latest_field : (i : Option Index) (f : List ℕ) → not (is_bare (codes "latest") (record { name = codes "latest"; index = i })) ≡ true → ReadsField i f (codes "latest")
 reads_latest_field None f k symbols b rest = cc
 reads_latest_field (Some i) f k symbols b rest =
-    reads (name (codes "latest") ∷ bracket_open ∷ []) refl ▷ reads_index_in i _ _ (bracket_close ∷ dot ∷ name f ∷ rest)
+    reads (keyword key.Latest ∷ bracket_open ∷ []) refl ▷ reads_index_in i _ _ (bracket_close ∷ dot ∷ name f ∷ rest)
     ▷ reads (bracket_close ∷ dot ∷ name f ∷ []) refl ▷ does ▷ does
 
 reads_field : (text : List ℕ) (i : Option Index) (f : List ℕ) → not (is_bare (codes "latest") (record { name = text; index = i })) ≡ true → ReadsField i f text
@@ -75,8 +76,8 @@ reads_field text i f = go (bytes_eq (codes "current") text) (bytes_eq (codes "la
 
 pub reads_select_value : (v : PValue) → is_select_value v ≡ true → Reads (word.State state.SelectValue) v (written_pvalue v)
 reads_select_value (pvalue.Current offset bits) k symbols b rest =
-    reads (name (codes "current") ∷ paren_open ∷ lexeme.Number offset ∷ comma ∷ lexeme.Number bits ∷ paren_close ∷ []) refl ▷ does
-reads_select_value (pvalue.Latest f) k symbols b rest = reads (name (codes "latest") ∷ dot ∷ name f ∷ []) refl ▷ does
+    reads (keyword key.Current ∷ paren_open ∷ lexeme.Number offset ∷ comma ∷ lexeme.Number bits ∷ paren_close ∷ []) refl ▷ does
+reads_select_value (pvalue.Latest f) k symbols b rest = reads (keyword key.Latest ∷ dot ∷ name f ∷ []) refl ▷ does
 reads_select_value (pvalue.Field r) k symbols b rest = reads_field r.instance.name r.instance.index r.field k symbols b rest
 reads_select_value (pvalue.Number n) k symbols b rest = cc
 
@@ -109,12 +110,12 @@ pub reads_statements : (ss : List PStmt) → list_all is_pstmt ss ≡ true → R
 reads_statements [] k symbols b rest c = skips (word.State state.Statements) symbols b rest refl refl c
 reads_statements (pstmt.Extract i ∷ ss) k symbols b rest c =
     from (flat_map written_pstmt (pstmt.Extract i ∷ ss) ++ rest) (simp append_assoc)
-    (reads (name (codes "extract") ∷ paren_open ∷ []) refl ▷ reads_inst i _ _ (paren_close ∷ semicolon ∷ (flat_map written_pstmt ss ++ rest)) refl
+    (reads (keyword key.Extract ∷ paren_open ∷ []) refl ▷ reads_inst i _ _ (paren_close ∷ semicolon ∷ (flat_map written_pstmt ss ++ rest)) refl
     ▷ reads (paren_close ∷ semicolon ∷ []) refl ▷ does ▷ reads_statements ss k symbols _ rest c)
 reads_statements (pstmt.SetMetadata r v ∷ ss) k symbols b rest c =
     let p = both (is_pvalue v) (list_all is_pstmt ss) k in
     from (flat_map written_pstmt (pstmt.SetMetadata r v ∷ ss) ++ rest) (simp append_assoc)
-    (reads (name (codes "set_metadata") ∷ paren_open ∷ []) refl
+    (reads (keyword key.SetMetadata ∷ paren_open ∷ []) refl
     ▷ from _ (sym (ref_tokens r (comma ∷ (written_pvalue v ++ paren_close ∷ semicolon ∷ (flat_map written_pstmt ss ++ rest)))))
     (reads_ref r _ _ (comma ∷ (written_pvalue v ++ paren_close ∷ semicolon ∷ (flat_map written_pstmt ss ++ rest))))
     ▷ reads (comma ∷ []) refl ▷ reads_value v p.0 _ _ (paren_close ∷ semicolon ∷ (flat_map written_pstmt ss ++ rest))
@@ -126,7 +127,7 @@ abbrev ReadsState : List ℕ → Type 0
 ReadsState text = ReadsCalm (word.State state.Target) (target.State text) (written_target (target.State text))
 
 reads_error_state : ReadsState (codes "parse_error")
-reads_error_state symbols b rest c = reads (name (codes "parse_error") ∷ []) refl ▷ builds (word.State state.AfterError) _ symbols b rest refl refl c
+reads_error_state symbols b rest c = reads (keyword key.ParseError ∷ []) refl ▷ builds (word.State state.AfterError) _ symbols b rest refl refl c
 
 reads_state : (text : List ℕ) → ReadsState text
 reads_state text = go (bytes_eq (codes "parse_error") text) refl
@@ -136,7 +137,7 @@ reads_state text = go (bytes_eq (codes "parse_error") text) refl
     go false e symbols b rest c = takes_past (bytes_eq (codes "parse_error") text) (word.State state.Target) class.Name _ _ symbols b (name text) rest e refl ▷ does
 
 pub reads_target : (t : CaseTarget) → ReadsCalm (word.State state.Target) t (written_target t)
-reads_target (target.ParseError e) symbols b rest c = reads (name (codes "parse_error") ∷ name e ∷ []) refl ▷ does
+reads_target (target.ParseError e) symbols b rest c = reads (keyword key.ParseError ∷ name e ∷ []) refl ▷ does
 reads_target (target.State s) symbols b rest c = reads_state s symbols b rest c
 
 pub reads_more_masked : (ms : List Masked) → ReadsCalm (word.State state.MoreMasked) ms (after_commas written_masked ms)
@@ -153,7 +154,7 @@ ReadsCase t vs = is_case_values vs ≡ true → Reads (word.State state.Case) (r
 reads_case_of : (vs : CaseValues) (t : CaseTarget) → ReadsCase t vs
 reads_case_of case_values.Default t k symbols b rest =
     from (written_case (record { values = case_values.Default; target = t }) ++ rest) (simp append_assoc)
-    (reads (name (codes "default") ∷ colon ∷ []) refl ▷ reads_target t _ _ (semicolon ∷ rest) refl ▷ reads (semicolon ∷ []) refl ▷ does)
+    (reads (keyword key.Default ∷ colon ∷ []) refl ▷ reads_target t _ _ (semicolon ∷ rest) refl ▷ reads (semicolon ∷ []) refl ▷ does)
 reads_case_of (case_values.Values []) t k symbols b rest = cc
 reads_case_of (case_values.Values (m ∷ ms)) t k symbols b rest =
     let after = colon ∷ (written_target t ++ semicolon ∷ rest) in
@@ -172,7 +173,7 @@ reads_case c k = reads_case_of c.values c.target k
 like_case : (vs : CaseValues) (t : CaseTarget) → is_case_values vs ≡ true → (symbols : List Sym) (b : Built) (rest : List Lexeme)
     → Goes (state_sym state.Cases ∷ symbols) b (written_case (record { values = vs; target = t }) ++ rest)
     (state_sym state.Case ∷ state_sym state.Cases ∷ symbols) b (written_case (record { values = vs; target = t }) ++ rest)
-like_case case_values.Default t k symbols b rest = like (word.State state.Cases) (word.State state.Case) [] _ symbols b (name (codes "default")) _ _ refl refl refl refl
+like_case case_values.Default t k symbols b rest = like (word.State state.Cases) (word.State state.Case) [] _ symbols b (keyword key.Default) _ _ refl refl refl refl
 like_case (case_values.Values []) t k symbols b rest = cc
 like_case (case_values.Values (m ∷ ms)) t k symbols b rest = like (word.State state.Cases) (word.State state.Case) [] _ symbols b (lexeme.Number m.value) _ _ refl refl refl refl
 
@@ -190,7 +191,7 @@ abbrev ReadsReturn : List ℕ → Type 0
 ReadsReturn text = Reads (word.State state.Return) (end_of.State text) (written_return (end_of.State text))
 
 reads_return_select : ReadsReturn (codes "select")
-reads_return_select symbols b rest = reads (name (codes "return") ∷ name (codes "select") ∷ semicolon ∷ []) refl ▷ does
+reads_return_select symbols b rest = reads (keyword key.Return ∷ keyword key.Select ∷ semicolon ∷ []) refl ▷ does
 
 reads_return_state : (text : List ℕ) → ReadsReturn text
 reads_return_state text = go (bytes_eq (codes "select") text) refl
@@ -198,7 +199,7 @@ reads_return_state text = go (bytes_eq (codes "select") text) refl
     go : (t : Bool) → bytes_eq (codes "select") text ≡ t → ReadsReturn text
     go true e symbols b rest = subst ReadsReturn (sym (is_word (codes "select") text e)) reads_return_select symbols b rest
     go false e symbols b rest =
-        reads (name (codes "return") ∷ []) refl
+        reads (keyword key.Return ∷ []) refl
         ▷ takes_past (bytes_eq (codes "select") text) (word.State state.AfterReturn) class.Name _ _ symbols b (name text) (semicolon ∷ rest) e refl
         ▷ reads (semicolon ∷ []) refl ▷ does
 
@@ -211,7 +212,7 @@ reads_select v vs a cs k symbols b rest =
     let body = written_case a ++ (flat_map written_case cs ++ brace_close ∷ rest) in
     let b1 = record b { states = record b.states { value_lists = (v ∷ vs) ∷ b.states.value_lists } } in
     from (written_return (end_of.Select (v ∷ vs) (a ∷ cs)) ++ rest) (simp append_assoc)
-    (reads (name (codes "return") ∷ name (codes "select") ∷ paren_open ∷ []) refl ▷ does
+    (reads (keyword key.Return ∷ keyword key.Select ∷ paren_open ∷ []) refl ▷ does
     ▷ reads_select_value v q.0 _ _ (after_commas written_pvalue vs ++ paren_close ∷ brace_open ∷ body) ▷ does
     ▷ giving (ap (λ ls. record b { states = record b.states { value_lists = ls } }) (extended_is vs (v ∷ []) b.states.value_lists))
     (reads_more_values vs q.1 _ _ (paren_close ∷ brace_open ∷ body) refl)
@@ -226,4 +227,4 @@ reads_return (end_of.Select [] cs) k symbols b rest = cc
 reads_return (end_of.Select (v ∷ vs) []) k symbols b rest = let p = both (list_all is_select_value (v ∷ vs)) false k in cc
 reads_return (end_of.Select (v ∷ vs) (a ∷ cs)) k symbols b rest = reads_select v vs a cs k symbols b rest
 reads_return (end_of.State s) k symbols b rest = reads_return_state s symbols b rest
-reads_return (end_of.ParseError e) k symbols b rest = reads (name (codes "parse_error") ∷ name e ∷ semicolon ∷ []) refl ▷ does
+reads_return (end_of.ParseError e) k symbols b rest = reads (keyword key.ParseError ∷ name e ∷ semicolon ∷ []) refl ▷ does

@@ -1,5 +1,5 @@
 -- Tables: what is written so is read.
-use Rattle.std.proofs.Common.{◌≡◌, ℕ, Bool, true, false, not, List, [], ◌∷◌, ◌++◌, codes, map, Option, Some, None, refl, ap, ◌∙◌, append_assoc}
+use Rattle.std.proofs.Common.{◌≡◌, ℕ, Bool, true, false, not, List, [], ◌∷◌, ◌++◌, map, Option, Some, None, refl, ap, ◌∙◌, append_assoc}
 use Rattle.std.specs.List.{flat_map, list_all}
 use Rattle.predictive_parser.specs.Grammar.{◌⇒◌}
 use Rattle.p414_lexemes.specs.declared.lexeme.Literal.{Literal}
@@ -10,7 +10,7 @@ use Rattle.p414_ast.specs.declared.tables.ReadKey.TheVariants as read_key
 use Rattle.p414_ast.specs.declared.tables.Read.{Read}
 use Rattle.p414_ast.specs.declared.tables.TableAttr.{TableAttr}
 use Rattle.p414_ast.specs.declared.tables.TableAttr.TheVariants as attr
-use Rattle.p414_ast.specs.Words.{name, brace_open, brace_close, semicolon, colon, dot}
+use Rattle.p414_ast.specs.Words.{name, keyword, brace_open, brace_close, semicolon, colon, dot}
 use Rattle.p414_ast.specs.Written.{written_option, written_ref, written_arguments, written_truth, written_mask, written_read, table_word, written_table_value, written_table_attr}
 use Rattle.p414_ast.specs.Conditions.{is_among, all_different, is_table_attr, has_word, table_needs}
 use Rattle.p414_lexemes.specs.declared.keyword.Keyword.TheVariants as key
@@ -27,13 +27,13 @@ use Rattle.p414_reader.proofs.Readings.{Goes, Calm, Reads, ReadsCalm, ◌▷◌,
 use Rattle.p414_reader.proofs.Complete.Parts.{reads_name_lines, reads_index_option, reads_field_option, reads_arguments, reads_mask_option, ref_tokens}
 
 pub reads_timeout : (on : Bool) → Reads (word.Table table.Timeout) on (written_truth on ++ semicolon ∷ [])
-reads_timeout true symbols b rest = reads (name (codes "true") ∷ semicolon ∷ []) refl ▷ does
-reads_timeout false symbols b rest = reads (name (codes "false") ∷ semicolon ∷ []) refl ▷ does
+reads_timeout true symbols b rest = reads (keyword key.True ∷ semicolon ∷ []) refl ▷ does
+reads_timeout false symbols b rest = reads (keyword key.False ∷ semicolon ∷ []) refl ▷ does
 
 -- what is read
 
 -- a mask that may be left out, where the word goes on neither with it nor with what follows
-calm_mask : (w : Word) (m : Option Literal) (tokens : List Lexeme) → Calm w (name (codes "mask") ∷ []) → Calm w tokens → Calm w (written_option written_mask m ++ tokens)
+calm_mask : (w : Word) (m : Option Literal) (tokens : List Lexeme) → Calm w (keyword key.Mask ∷ []) → Calm w tokens → Calm w (written_option written_mask m ++ tokens)
 calm_mask w None tokens c d = d
 calm_mask w (Some m) tokens c d = c
 
@@ -81,26 +81,26 @@ pub reads_table_attr : (a : TableAttr) → is_among (table_word a) table_needs �
     → Goes (table_sym table.Attr ∷ symbols) b (written_table_attr a ++ rest) symbols (after_word (word.Table table.Attr) a b) rest
 reads_table_attr (attr.Reads rs) k symbols b rest h =
     from (written_table_attr (attr.Reads rs) ++ rest) (simp append_assoc)
-    (takes_row (word.Table table.Attr) (class.NewTableAttr key.Reads) _ _ symbols b (name (codes "reads")) (brace_open ∷ (flat_map written_read rs ++ brace_close ∷ rest)) (ap not h) refl
+    (takes_row (word.Table table.Attr) (class.NewTableAttr key.Reads) _ _ symbols b (keyword key.Reads) (brace_open ∷ (flat_map written_read rs ++ brace_close ∷ rest)) (ap not h) refl
     ▷ reads (brace_open ∷ []) refl ▷ does
     ▷ giving (ap (λ ls. record b { tables = record b.tables { reads = ls } }) (extended_is rs [] b.tables.reads)) (reads_reads rs _ _ (brace_close ∷ rest) refl)
     ▷ reads (brace_close ∷ []) refl ▷ does)
 reads_table_attr (attr.Actions names) k symbols b rest h = cc
 reads_table_attr (attr.MinSize n) k symbols b rest h =
-    takes_row (word.Table table.Attr) (class.NewTableAttr key.MinSize) _ _ symbols b (name (codes "min_size")) (colon ∷ lexeme.Number n ∷ semicolon ∷ rest) (ap not h) refl
+    takes_row (word.Table table.Attr) (class.NewTableAttr key.MinSize) _ _ symbols b (keyword key.MinSize) (colon ∷ lexeme.Number n ∷ semicolon ∷ rest) (ap not h) refl
     ▷ reads (colon ∷ lexeme.Number n ∷ semicolon ∷ []) refl ▷ does
 reads_table_attr (attr.MaxSize n) k symbols b rest h =
-    takes_row (word.Table table.Attr) (class.NewTableAttr key.MaxSize) _ _ symbols b (name (codes "max_size")) (colon ∷ lexeme.Number n ∷ semicolon ∷ rest) (ap not h) refl
+    takes_row (word.Table table.Attr) (class.NewTableAttr key.MaxSize) _ _ symbols b (keyword key.MaxSize) (colon ∷ lexeme.Number n ∷ semicolon ∷ rest) (ap not h) refl
     ▷ reads (colon ∷ lexeme.Number n ∷ semicolon ∷ []) refl ▷ does
 reads_table_attr (attr.Size n) k symbols b rest h =
-    takes_row (word.Table table.Attr) (class.NewTableAttr key.Size) _ _ symbols b (name (codes "size")) (colon ∷ lexeme.Number n ∷ semicolon ∷ rest) (ap not h) refl
+    takes_row (word.Table table.Attr) (class.NewTableAttr key.Size) _ _ symbols b (keyword key.Size) (colon ∷ lexeme.Number n ∷ semicolon ∷ rest) (ap not h) refl
     ▷ reads (colon ∷ lexeme.Number n ∷ semicolon ∷ []) refl ▷ does
 reads_table_attr (attr.SupportTimeout on) k symbols b rest h =
-    takes_row (word.Table table.Attr) (class.NewTableAttr key.SupportTimeout) _ _ symbols b (name (codes "support_timeout")) (colon ∷ ((written_truth on ++ semicolon ∷ []) ++ rest)) (ap not h) refl
+    takes_row (word.Table table.Attr) (class.NewTableAttr key.SupportTimeout) _ _ symbols b (keyword key.SupportTimeout) (colon ∷ ((written_truth on ++ semicolon ∷ []) ++ rest)) (ap not h) refl
     ▷ reads (colon ∷ []) refl ▷ reads_timeout on symbols b rest
 reads_table_attr (attr.DefaultAction a arguments) k symbols b rest h =
     from (written_table_attr (attr.DefaultAction a arguments) ++ rest) (simp append_assoc)
-    (takes_row (word.Table table.Attr) (class.NewTableAttr key.DefaultAction) _ _ symbols b (name (codes "default_action")) (colon ∷ name a ∷ (written_option written_arguments arguments ++ semicolon ∷ rest)) (ap not h) refl
+    (takes_row (word.Table table.Attr) (class.NewTableAttr key.DefaultAction) _ _ symbols b (keyword key.DefaultAction) (colon ∷ name a ∷ (written_option written_arguments arguments ++ semicolon ∷ rest)) (ap not h) refl
     ▷ reads (colon ∷ name a ∷ []) refl ▷ reads_arguments arguments _ _ (semicolon ∷ rest) refl ▷ reads (semicolon ∷ []) refl ▷ does)
 reads_table_attr (attr.ActionProfile p) k symbols b rest h = cc
 
@@ -112,13 +112,13 @@ new_rows =
 -- the next attribute, which isn't needed, is read as any attribute
 like_more : (a : TableAttr) (symbols : List Sym) (b : Built) (tokens : List Lexeme) → is_among (table_word a) table_needs ≡ false → is_among (table_word a) (table_words b) ≡ false
     → Goes (table_sym table.MoreAttrs ∷ symbols) b (name (table_word a) ∷ tokens) (table_sym table.Attr ∷ table_sym table.MoreAttrs ∷ symbols) b (name (table_word a) ∷ tokens)
-like_more (attr.Reads rs) symbols b tokens k h = like_row (word.Table table.MoreAttrs) (word.Table table.Attr) new_rows _ symbols b (name (codes "reads")) tokens (class.NewTableAttr key.Reads) _ _ refl refl refl (ap not h) refl
+like_more (attr.Reads rs) symbols b tokens k h = like_row (word.Table table.MoreAttrs) (word.Table table.Attr) new_rows _ symbols b (keyword key.Reads) tokens (class.NewTableAttr key.Reads) _ _ refl refl refl (ap not h) refl
 like_more (attr.Actions names) symbols b tokens k h = cc
-like_more (attr.MinSize n) symbols b tokens k h = like_row (word.Table table.MoreAttrs) (word.Table table.Attr) new_rows _ symbols b (name (codes "min_size")) tokens (class.NewTableAttr key.MinSize) _ _ refl refl refl (ap not h) refl
-like_more (attr.MaxSize n) symbols b tokens k h = like_row (word.Table table.MoreAttrs) (word.Table table.Attr) new_rows _ symbols b (name (codes "max_size")) tokens (class.NewTableAttr key.MaxSize) _ _ refl refl refl (ap not h) refl
-like_more (attr.Size n) symbols b tokens k h = like_row (word.Table table.MoreAttrs) (word.Table table.Attr) new_rows _ symbols b (name (codes "size")) tokens (class.NewTableAttr key.Size) _ _ refl refl refl (ap not h) refl
-like_more (attr.SupportTimeout on) symbols b tokens k h = like_row (word.Table table.MoreAttrs) (word.Table table.Attr) new_rows _ symbols b (name (codes "support_timeout")) tokens (class.NewTableAttr key.SupportTimeout) _ _ refl refl refl (ap not h) refl
-like_more (attr.DefaultAction a arguments) symbols b tokens k h = like_row (word.Table table.MoreAttrs) (word.Table table.Attr) new_rows _ symbols b (name (codes "default_action")) tokens (class.NewTableAttr key.DefaultAction) _ _ refl refl refl (ap not h) refl
+like_more (attr.MinSize n) symbols b tokens k h = like_row (word.Table table.MoreAttrs) (word.Table table.Attr) new_rows _ symbols b (keyword key.MinSize) tokens (class.NewTableAttr key.MinSize) _ _ refl refl refl (ap not h) refl
+like_more (attr.MaxSize n) symbols b tokens k h = like_row (word.Table table.MoreAttrs) (word.Table table.Attr) new_rows _ symbols b (keyword key.MaxSize) tokens (class.NewTableAttr key.MaxSize) _ _ refl refl refl (ap not h) refl
+like_more (attr.Size n) symbols b tokens k h = like_row (word.Table table.MoreAttrs) (word.Table table.Attr) new_rows _ symbols b (keyword key.Size) tokens (class.NewTableAttr key.Size) _ _ refl refl refl (ap not h) refl
+like_more (attr.SupportTimeout on) symbols b tokens k h = like_row (word.Table table.MoreAttrs) (word.Table table.Attr) new_rows _ symbols b (keyword key.SupportTimeout) tokens (class.NewTableAttr key.SupportTimeout) _ _ refl refl refl (ap not h) refl
+like_more (attr.DefaultAction a arguments) symbols b tokens k h = like_row (word.Table table.MoreAttrs) (word.Table table.Attr) new_rows _ symbols b (keyword key.DefaultAction) tokens (class.NewTableAttr key.DefaultAction) _ _ refl refl refl (ap not h) refl
 like_more (attr.ActionProfile p) symbols b tokens k h = cc
 
 -- the next attribute, where one that is needed is there
@@ -127,14 +127,14 @@ next_attr : (a : TableAttr) → is_table_attr a ≡ true → (symbols : List Sym
 next_attr (attr.Reads rs) k symbols b rest h = like_more (attr.Reads rs) symbols b _ refl h ▷ reads_table_attr (attr.Reads rs) refl _ b rest h
 next_attr (attr.Actions []) k symbols b rest h = cc
 next_attr (attr.Actions (n ∷ names)) k symbols b rest h =
-    takes_row (word.Table table.MoreAttrs) (class.NewTableAttr key.Actions) _ _ symbols b (name (codes "actions")) _ (ap not h) refl ▷ reads_actions n names (table_sym table.MoreAttrs ∷ symbols) b rest
+    takes_row (word.Table table.MoreAttrs) (class.NewTableAttr key.Actions) _ _ symbols b (keyword key.Actions) _ (ap not h) refl ▷ reads_actions n names (table_sym table.MoreAttrs ∷ symbols) b rest
 next_attr (attr.MinSize n) k symbols b rest h = like_more (attr.MinSize n) symbols b _ refl h ▷ reads_table_attr (attr.MinSize n) refl _ b rest h
 next_attr (attr.MaxSize n) k symbols b rest h = like_more (attr.MaxSize n) symbols b _ refl h ▷ reads_table_attr (attr.MaxSize n) refl _ b rest h
 next_attr (attr.Size n) k symbols b rest h = like_more (attr.Size n) symbols b _ refl h ▷ reads_table_attr (attr.Size n) refl _ b rest h
 next_attr (attr.SupportTimeout on) k symbols b rest h = like_more (attr.SupportTimeout on) symbols b _ refl h ▷ reads_table_attr (attr.SupportTimeout on) refl _ b rest h
 next_attr (attr.DefaultAction a arguments) k symbols b rest h = like_more (attr.DefaultAction a arguments) symbols b _ refl h ▷ reads_table_attr (attr.DefaultAction a arguments) refl _ b rest h
 next_attr (attr.ActionProfile p) k symbols b rest h =
-    takes_row (word.Table table.MoreAttrs) (class.NewTableAttr key.ActionProfile) _ _ symbols b (name (codes "action_profile")) (colon ∷ name p ∷ semicolon ∷ rest) (ap not h) refl
+    takes_row (word.Table table.MoreAttrs) (class.NewTableAttr key.ActionProfile) _ _ symbols b (keyword key.ActionProfile) (colon ∷ name p ∷ semicolon ∷ rest) (ap not h) refl
     ▷ reads (colon ∷ name p ∷ semicolon ∷ []) refl ▷ does
 
 pub reads_more_attrs : (attrs : List TableAttr) → list_all is_table_attr attrs ≡ true → (symbols : List Sym) (b : Built) (rest : List Lexeme)
@@ -155,13 +155,13 @@ own_rows = (class.Word key.Actions ⇒ actions_rest ++ table_sym table.MoreAttrs
 -- an attribute that isn't needed is read as any attribute
 like_other : (a : TableAttr) (symbols : List Sym) (b : Built) (tokens : List Lexeme) → is_among (table_word a) table_needs ≡ false
     → Goes (table_sym table.Attrs ∷ symbols) b (name (table_word a) ∷ tokens) (table_sym table.Attr ∷ table_sym table.Attrs ∷ symbols) b (name (table_word a) ∷ tokens)
-like_other (attr.Reads rs) symbols b tokens h = like_end (word.Table table.Attrs) (word.Table table.Attr) own_rows _ symbols b (name (codes "reads")) tokens refl refl refl refl refl
+like_other (attr.Reads rs) symbols b tokens h = like_end (word.Table table.Attrs) (word.Table table.Attr) own_rows _ symbols b (keyword key.Reads) tokens refl refl refl refl refl
 like_other (attr.Actions names) symbols b tokens h = cc
-like_other (attr.MinSize n) symbols b tokens h = like_end (word.Table table.Attrs) (word.Table table.Attr) own_rows _ symbols b (name (codes "min_size")) tokens refl refl refl refl refl
-like_other (attr.MaxSize n) symbols b tokens h = like_end (word.Table table.Attrs) (word.Table table.Attr) own_rows _ symbols b (name (codes "max_size")) tokens refl refl refl refl refl
-like_other (attr.Size n) symbols b tokens h = like_end (word.Table table.Attrs) (word.Table table.Attr) own_rows _ symbols b (name (codes "size")) tokens refl refl refl refl refl
-like_other (attr.SupportTimeout on) symbols b tokens h = like_end (word.Table table.Attrs) (word.Table table.Attr) own_rows _ symbols b (name (codes "support_timeout")) tokens refl refl refl refl refl
-like_other (attr.DefaultAction a arguments) symbols b tokens h = like_end (word.Table table.Attrs) (word.Table table.Attr) own_rows _ symbols b (name (codes "default_action")) tokens refl refl refl refl refl
+like_other (attr.MinSize n) symbols b tokens h = like_end (word.Table table.Attrs) (word.Table table.Attr) own_rows _ symbols b (keyword key.MinSize) tokens refl refl refl refl refl
+like_other (attr.MaxSize n) symbols b tokens h = like_end (word.Table table.Attrs) (word.Table table.Attr) own_rows _ symbols b (keyword key.MaxSize) tokens refl refl refl refl refl
+like_other (attr.Size n) symbols b tokens h = like_end (word.Table table.Attrs) (word.Table table.Attr) own_rows _ symbols b (keyword key.Size) tokens refl refl refl refl refl
+like_other (attr.SupportTimeout on) symbols b tokens h = like_end (word.Table table.Attrs) (word.Table table.Attr) own_rows _ symbols b (keyword key.SupportTimeout) tokens refl refl refl refl refl
+like_other (attr.DefaultAction a arguments) symbols b tokens h = like_end (word.Table table.Attrs) (word.Table table.Attr) own_rows _ symbols b (keyword key.DefaultAction) tokens refl refl refl refl refl
 like_other (attr.ActionProfile p) symbols b tokens h = cc
 
 -- attributes up to the first that is needed, and the others
@@ -187,7 +187,7 @@ reads_attrs (attr.Reads rs ∷ attrs) k n symbols b rest d c =
 reads_attrs (attr.Actions [] ∷ attrs) k n symbols b rest d c = cc
 reads_attrs (attr.Actions (a ∷ names) ∷ attrs) k n symbols b rest d c =
     from (flat_map written_table_attr (attr.Actions (a ∷ names) ∷ attrs) ++ rest) (first_of written_table_attr (attr.Actions (a ∷ names)) attrs rest)
-    (reads (name (codes "actions") ∷ []) refl ▷ reads_actions a names _ b (flat_map written_table_attr attrs ++ rest)
+    (reads (keyword key.Actions ∷ []) refl ▷ reads_actions a names _ b (flat_map written_table_attr attrs ++ rest)
     ▷ reads_more_attrs attrs k symbols _ rest (next_words table_word (attr.Actions (a ∷ names)) attrs b.tables.attributes d) c)
 reads_attrs (attr.MinSize m ∷ attrs) k n symbols b rest d c =
     reads_other (attr.MinSize m) attrs symbols b rest refl d (reads_attrs attrs k n symbols (with_table_attr (attr.MinSize m) b) rest (next_words table_word (attr.MinSize m) attrs b.tables.attributes d) c)
@@ -200,5 +200,5 @@ reads_attrs (attr.SupportTimeout on ∷ attrs) k n symbols b rest d c =
 reads_attrs (attr.DefaultAction a arguments ∷ attrs) k n symbols b rest d c =
     reads_other (attr.DefaultAction a arguments) attrs symbols b rest refl d (reads_attrs attrs k n symbols (with_table_attr (attr.DefaultAction a arguments) b) rest (next_words table_word (attr.DefaultAction a arguments) attrs b.tables.attributes d) c)
 reads_attrs (attr.ActionProfile p ∷ attrs) k n symbols b rest d c =
-    reads (name (codes "action_profile") ∷ colon ∷ name p ∷ semicolon ∷ []) refl ▷ does
+    reads (keyword key.ActionProfile ∷ colon ∷ name p ∷ semicolon ∷ []) refl ▷ does
     ▷ reads_more_attrs attrs k symbols _ rest (next_words table_word (attr.ActionProfile p) attrs b.tables.attributes d) c

@@ -4,9 +4,10 @@ use Rattle.std.specs.List.{flat_map, list_all}
 use Rattle.std.proofs.lemmas.List.Concat.{flat_map-append}
 use Rattle.std.proofs.lemmas.List.Folds.{list_all-append}
 use Rattle.predictive_parser.proofs.Meanings.{RowsShow, NoneShows}
+use Rattle.p414_lexemes.specs.declared.keyword.Keyword.TheVariants as key
 use Rattle.p414_lexemes.specs.declared.lexeme.Lexeme.{Lexeme}
 use Rattle.p414_ast.specs.Tree.{Stmt, no_statements, apply, apply_branches, if_then, call, no_else, else_block, else_if, no_branches}
-use Rattle.p414_ast.specs.Words.{name, brace_open, brace_close, paren_open, paren_close}
+use Rattle.p414_ast.specs.Words.{keyword, brace_open, brace_close, paren_open, paren_close}
 use Rattle.p414_ast.specs.Written.{in_parens, in_braces, written_expr, written_stmt}
 use Rattle.p414_ast.specs.Conditions.{is_expr, is_label, are_labels, labels_of, statement, behind_if, block, branches, is_stmt}
 use Rattle.p414_reader.specs.declared.symbols.Word.TheVariants as word
@@ -96,7 +97,7 @@ if_rows b = (
     λ us e f vs ss g ws el h. rw (f.0, g.0, h.0) (
       if_then e (block_of ss) el.other ∷ else_calls el.calls,
       (
-        rw (written_block ss, ← (else_calls_written el.calls)) (ap (λ (ws : List Lexeme). name (codes "if") ∷ ws) (if_tokens (written_expr e) (flat_map written_stmt ss) (written_stmt el.other) (cond el.calls else_call []))),
+        rw (written_block ss, ← (else_calls_written el.calls)) (ap (λ (ws : List Lexeme). keyword key.If ∷ ws) (if_tokens (written_expr e) (flat_map written_stmt ss) (written_stmt el.other) (cond el.calls else_call []))),
         both (is_stmt statement (if_then e (block_of ss) el.other)) (list_all (is_stmt statement) (else_calls el.calls))
             (both (is_expr 0 e) (is_stmt block (block_of ss) && is_stmt behind_if el.other) (f.1 refl)
             (both (is_stmt block (block_of ss)) (is_stmt behind_if el.other) (is_block ss g.1) h.1))
@@ -119,7 +120,7 @@ else_rows b = (
     λ us e f vs ss g ws el h. rw (f.0, g.0, h.0) (
       record { other = else_if (if_then e (block_of ss) el.other); calls = el.calls },
       (
-        rw (written_block ss) (ap (λ (ws : List Lexeme). name (codes "else") ∷ name (codes "if") ∷ ws) (if_tokens (written_expr e) (flat_map written_stmt ss) (written_stmt el.other) (cond el.calls else_call []))),
+        rw (written_block ss) (ap (λ (ws : List Lexeme). keyword key.Else ∷ keyword key.If ∷ ws) (if_tokens (written_expr e) (flat_map written_stmt ss) (written_stmt el.other) (cond el.calls else_call []))),
         both (is_expr 0 e) (is_stmt block (block_of ss) && is_stmt behind_if el.other) (f.1 refl)
             (both (is_stmt block (block_of ss)) (is_stmt behind_if el.other) (is_block ss g.1) h.1),
       ),

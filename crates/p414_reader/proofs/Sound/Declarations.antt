@@ -2,11 +2,12 @@
 use Rattle.std.proofs.Common.{◌≡◌, ℕ, suc, true, ◌&&◌, List, [], ◌∷◌, ◌++◌, map, codes, Option, Some, None, refl, sym, ap, ◌∙◌, append_assoc, append-nil}
 use Rattle.std.specs.List.{flat_map, list_all}
 use Rattle.predictive_parser.proofs.Meanings.{RowsShow, NoneShows}
+use Rattle.p414_lexemes.specs.declared.keyword.Keyword.TheVariants as key
 use Rattle.p414_lexemes.specs.declared.lexeme.Lexeme.{Lexeme}
 use Rattle.p414_ast.specs.declared.syntax.LeftOutKind.TheVariants as left_out
 use Rattle.p414_ast.specs.declared.syntax.Decl.TheVariants as decl
 use Rattle.p414_ast.specs.Tree.{no_statements}
-use Rattle.p414_ast.specs.Words.{name, brace_open, brace_close, paren_open, paren_close, semicolon}
+use Rattle.p414_ast.specs.Words.{name, keyword, brace_open, brace_close, paren_open, paren_close, semicolon}
 use Rattle.p414_ast.specs.Written.{written_option, in_braces, attribute, written_literal, name_line, by_commas, written_name, written_field, tail_word, written_tail, written_size, written_item, written_ref, written_calc, written_pstmt, written_return, written_call, table_word, written_table_attr, state_word, written_state_attr, written_stmt, written_decl}
 use Rattle.p414_ast.specs.Conditions.{Brace, opens, closes, neither, brace_of, behind_brace, is_balanced, all_different, is_tail, is_pstmt, is_return, is_table_attr, has_word, table_needs, counter_needs, register_needs, is_decl}
 use Rattle.p414_reader.specs.declared.symbols.Word.TheVariants as word
@@ -93,7 +94,7 @@ decl_rows_mean b = (
       rw (e, s.0, h.0) (
         d ∷ ds,
         (
-          ap (λ (xs : List Lexeme). name (codes "header_type") ∷ name text ∷ brace_open ∷ name (codes "fields") ∷ brace_open ∷ xs)
+          ap (λ (xs : List Lexeme). keyword key.HeaderType ∷ name text ∷ brace_open ∷ keyword key.Fields ∷ brace_open ∷ xs)
               (two_braced (flat_map written_field fields) (flat_map written_tail tails) (flat_map written_decl ds)),
           both (is_decl d) (list_all is_decl ds) (both (list_all is_tail tails) (all_different (map tail_word tails)) s.1 (s.2 refl)) h.1,
         ),
@@ -121,7 +122,7 @@ decl_rows_mean b = (
               rw (e, h.0) (
                 d ∷ ds,
                 (
-                  ap (λ (xs : List Lexeme). name (codes "field_list_calculation") ∷ name text ∷ brace_open ∷ name (codes "input") ∷ brace_open ∷ xs)
+                  ap (λ (xs : List Lexeme). keyword key.FieldListCalculation ∷ name text ∷ brace_open ∷ keyword key.Input ∷ brace_open ∷ xs)
                       (two_braced (flat_map name_line (first ∷ names)) (attribute (codes "algorithm") (written_name algorithm) ++ attribute (codes "output_width") (written_literal n)) (flat_map written_decl ds)),
                   h.1,
                 ),
@@ -132,7 +133,7 @@ decl_rows_mean b = (
                 let d = decl.CalculatedField (record { field = r; entries = entry ∷ entries }) in
                 rw (e, f, g, h.0) (
                   d ∷ ds,
-                  (ap (λ (xs : List Lexeme). name (codes "calculated_field") ∷ xs) (entry_tokens (written_ref r) (written_calc entry) (flat_map written_calc entries) (flat_map written_decl ds)), h.1),
+                  (ap (λ (xs : List Lexeme). keyword key.CalculatedField ∷ xs) (entry_tokens (written_ref r) (written_calc entry) (flat_map written_calc entries) (flat_map written_decl ds)), h.1),
                   rw (extended_by_list entries (entry ∷ []) b.calculations.entries, append_assoc b.decls (d ∷ []) ds),
                 ),
             (
@@ -141,7 +142,7 @@ decl_rows_mean b = (
                   rw (s.0, f.0, h.0) (
                     d ∷ ds,
                     (
-                      ap (λ (xs : List Lexeme). name (codes "parser") ∷ name text ∷ brace_open ∷ xs) (parser_tokens (flat_map written_pstmt statements) (written_return end) (flat_map written_decl ds)),
+                      ap (λ (xs : List Lexeme). keyword key.Parser ∷ name text ∷ brace_open ∷ xs) (parser_tokens (flat_map written_pstmt statements) (written_return end) (flat_map written_decl ds)),
                       both (is_decl d) (list_all is_decl ds) (both (list_all is_pstmt statements) (is_return end) s.1 f.1) h.1,
                     ),
                     rw (extended_by_list statements [] b.states.statements, append_assoc b.decls (d ∷ []) ds),
@@ -151,7 +152,7 @@ decl_rows_mean b = (
                     let d = decl.Action (record { name = text; parameters = parameters; calls = calls }) in
                     rw (e, f, h.0) (
                       d ∷ ds,
-                      (ap (λ (xs : List Lexeme). name (codes "action") ∷ name text ∷ paren_open ∷ xs) (action_tokens (by_commas written_name parameters) (flat_map written_call calls) (flat_map written_decl ds)), h.1),
+                      (ap (λ (xs : List Lexeme). keyword key.Action ∷ name text ∷ paren_open ∷ xs) (action_tokens (by_commas written_name parameters) (flat_map written_call calls) (flat_map written_decl ds)), h.1),
                       rw (extended_by_list parameters [] b.parts.name_lists, extended_by_list calls [] b.calls.calls, append_assoc b.decls (d ∷ []) ds),
                     )),
                 (

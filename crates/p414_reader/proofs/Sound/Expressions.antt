@@ -2,6 +2,7 @@
 use Rattle.std.proofs.Common.{◌≡◌, ℕ, suc, Bool, true, false, ◌&&◌, nat_le, if◌then◌else◌, List, [], ◌∷◌, codes, Option, Some, None, refl, sym, ap, subst, ◌∙◌, append_assoc, append-nil, bytes_eq, le_trans, le_refl, leb-true, le-leb}
 use Rattle.std.specs.Option.{unwrap_or}
 use Rattle.predictive_parser.proofs.Meanings.{Shows, MeansWord, RowsShow, NoneShows}
+use Rattle.p414_lexemes.specs.declared.keyword.Keyword.TheVariants as key
 use Rattle.p414_lexemes.specs.declared.lexeme.Lexeme.{Lexeme}
 use Rattle.p414_lexemes.specs.declared.lexeme.Lexeme.TheVariants as lexeme
 use Rattle.p414_lexemes.specs.declared.mark.Mark.TheVariants as mark
@@ -10,7 +11,7 @@ use Rattle.p414_ast.specs.declared.node.UnaryOperator.TheVariants as unary_of
 use Rattle.p414_ast.specs.declared.node.BinaryOperator.{BinaryOperator}
 use Rattle.p414_ast.specs.declared.node.BinaryOperator.TheVariants as binary_of
 use Rattle.p414_ast.specs.Tree.{Expr, valid, truth, field, number, parenthesized, unary, binary}
-use Rattle.p414_ast.specs.Words.{name, paren_open, paren_close, dot}
+use Rattle.p414_ast.specs.Words.{name, keyword, paren_open, paren_close, dot}
 use Rattle.p414_ast.specs.Operators.{unary_token, unary_power, binary_token, binary_power}
 use Rattle.p414_ast.specs.Written.{written_option, written_index, written_inst, written_expr}
 use Rattle.p414_ast.specs.Conditions.{is_expression_name, is_expr}
@@ -125,7 +126,7 @@ expr_rows least b =
           (
             λ us i f vs o s. rw f.0 (
               unwrap_or o (valid i),
-              (ap (λ ws. name (codes "valid") ∷ paren_open ∷ ws) (sym (append_assoc (written_inst i) (paren_close ∷ []) vs)) ∙ s.0, λ h. s.1 h f.1),
+              (ap (λ ws. keyword key.Valid ∷ paren_open ∷ ws) (sym (append_assoc (written_inst i) (paren_close ∷ []) vs)) ∙ s.0, λ h. s.1 h f.1),
               rw (with_operators_is o (valid i) es),
             ),
             (

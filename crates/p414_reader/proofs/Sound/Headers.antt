@@ -4,7 +4,7 @@ use Rattle.std.specs.List.{flat_map, list_all}
 use Rattle.predictive_parser.proofs.Meanings.{RowsShow, NoneShows}
 use Rattle.p414_ast.specs.declared.headers.FieldWidth.TheVariants as width
 use Rattle.p414_ast.specs.declared.headers.Initial.{Initial}
-use Rattle.p414_ast.specs.Words.{name, brace_open, brace_close, semicolon, colon}
+use Rattle.p414_ast.specs.Words.{name, keyword, brace_open, brace_close, semicolon, colon}
 use Rattle.p414_ast.specs.Views.{length_is, max_length_is}
 use Rattle.p414_ast.specs.Written.{written_expr, written_width, written_field_attributes, written_field, tail_word, written_tail, written_number, written_initial}
 use Rattle.p414_ast.specs.Conditions.{is_expr, is_tail}
@@ -50,7 +50,7 @@ rows_mean header.Tails built = (
   by_new (keyword_text key.Length) (map tail_word (newest [] built.bodies.tails)) _ (λ new. by_kept _ _ _ (λ e ok. by_kept_two _ _ _ _ (λ tails oks stay. (
     length_is e ∷ tails,
     (
-      ap (λ us. name (keyword_text key.Length) ∷ colon ∷ us) (end_joined (written_expr e) semicolon (flat_map written_tail tails)),
+      ap (λ us. keyword key.Length ∷ colon ∷ us) (end_joined (written_expr e) semicolon (flat_map written_tail tails)),
       both (is_expr 0 e) (list_all is_tail tails) (ok refl) oks,
       stay_extended tail_word (length_is e) tails built.bodies.tails new stay,
     ),
@@ -60,7 +60,7 @@ rows_mean header.Tails built = (
     by_new (keyword_text key.MaxLength) (map tail_word (newest [] built.bodies.tails)) _ (λ new. by_kept _ _ _ (λ e ok. by_kept_two _ _ _ _ (λ tails oks stay. (
       max_length_is e ∷ tails,
       (
-        ap (λ us. name (keyword_text key.MaxLength) ∷ colon ∷ us) (end_joined (written_expr e) semicolon (flat_map written_tail tails)),
+        ap (λ us. keyword key.MaxLength ∷ colon ∷ us) (end_joined (written_expr e) semicolon (flat_map written_tail tails)),
         both (is_expr 0 e) (list_all is_tail tails) (ok refl) oks,
         stay_extended tail_word (max_length_is e) tails built.bodies.tails new stay,
       ),

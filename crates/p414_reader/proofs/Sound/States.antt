@@ -2,6 +2,7 @@
 use Rattle.std.proofs.Common.{◌≡◌, ℕ, Bool, true, false, cond, List, [], ◌∷◌, ◌++◌, codes, Option, Some, None, refl, sym, ap, ap₂, ◌∙◌, append_assoc}
 use Rattle.std.specs.List.{flat_map, list_all}
 use Rattle.predictive_parser.proofs.Meanings.{RowsShow, NoneShows}
+use Rattle.p414_lexemes.specs.declared.keyword.Keyword.TheVariants as key
 use Rattle.p414_lexemes.specs.declared.lexeme.Lexeme.TheVariants.{Number}
 use Rattle.p414_ast.specs.declared.parts.Index.{Index}
 use Rattle.p414_ast.specs.declared.parts.Ref.{Ref}
@@ -14,7 +15,7 @@ use Rattle.p414_ast.specs.declared.parsers.CaseTarget.{CaseTarget}
 use Rattle.p414_ast.specs.declared.parsers.CaseTarget.TheVariants as target
 use Rattle.p414_ast.specs.declared.parsers.Case.{Case}
 use Rattle.p414_ast.specs.declared.parsers.Return.TheVariants as end_of
-use Rattle.p414_ast.specs.Words.{name, paren_open, paren_close, brace_open, brace_close, semicolon, colon, comma, dot}
+use Rattle.p414_ast.specs.Words.{name, keyword, paren_open, paren_close, brace_open, brace_close, semicolon, colon, comma, dot}
 use Rattle.p414_ast.specs.Written.{written_option, after_commas, written_index, written_inst, written_ref, written_pvalue, written_pstmt, written_mask, written_masked, written_target, written_case}
 use Rattle.p414_ast.specs.Conditions.{is_bare, is_pvalue, is_select_value, is_pstmt, is_case}
 use Rattle.p414_reader.specs.declared.symbols.Word.TheVariants as word
@@ -82,14 +83,14 @@ pub rows_mean : (w : StateWord) (built : Built) → RowsShow grammar14 fixed14 m
 rows_mean state.Statements built = (
   by_value _ _ (λ instance. by_kept _ _ _ (λ ss ok. (
     pstmt.Extract instance ∷ ss,
-    (ap (λ us. name (codes "extract") ∷ paren_open ∷ us) (ends_joined (written_inst instance) paren_close semicolon (flat_map written_pstmt ss)), ok),
+    (ap (λ us. keyword key.Extract ∷ paren_open ∷ us) (ends_joined (written_inst instance) paren_close semicolon (flat_map written_pstmt ss)), ok),
     refl,
   ))),
   (
     by_value _ _ (λ r. by_kept _ _ _ (λ v ok. by_kept _ _ _ (λ ss oks. (
       pstmt.SetMetadata r v ∷ ss,
       (
-        ap (λ us. name (codes "set_metadata") ∷ paren_open ∷ us)
+        ap (λ us. keyword key.SetMetadata ∷ paren_open ∷ us)
             (sym (append_assoc (written_ref r) (comma ∷ written_pvalue v) (paren_close ∷ semicolon ∷ flat_map written_pstmt ss))
             ∙ ends_joined (written_ref r ++ comma ∷ written_pvalue v) paren_close semicolon (flat_map written_pstmt ss)),
         both (is_pvalue v) (list_all is_pstmt ss) ok oks,
@@ -146,7 +147,7 @@ rows_mean state.AfterSelect built = (
     by_kept _ _ _ (λ v ok. by_kept _ _ _ (λ vs oks. by_kept _ _ _ (λ c okc. by_kept _ _ _ (λ cs okcs. (
       end_of.Select (v ∷ vs) (c ∷ cs),
       (
-        ap (λ us. name (codes "return") ∷ name (codes "select") ∷ paren_open ∷ us) (select_spelled v vs c cs),
+        ap (λ us. keyword key.Return ∷ keyword key.Select ∷ paren_open ∷ us) (select_spelled v vs c cs),
         both (list_all is_select_value (v ∷ vs)) (list_all is_case (c ∷ cs))
             (both (is_select_value v) (list_all is_select_value vs) ok oks) (both (is_case c) (list_all is_case cs) okc okcs),
       ),
