@@ -2,11 +2,13 @@
 use Rattle.std.proofs.Common.{◌≡◌, ℕ, zero, suc, Bool, true, false, not, nat_eq, List, [], ◌∷◌, Option, Some, None, refl, sym, ap, subst, ◌∙◌, bytes_eq}
 use Rattle.std.proofs.lemmas.Bool.{eqb-true}
 use Rattle.predictive_parser.proofs.Meanings.{Fixed}
+use Rattle.p414_lexemes.specs.declared.keyword.Keyword.{Keyword}
 use Rattle.p414_lexemes.specs.declared.lexeme.Literal.{Literal}
 use Rattle.p414_lexemes.specs.declared.lexeme.Lexeme.{Lexeme}
 use Rattle.p414_lexemes.specs.declared.lexeme.Lexeme.TheVariants as lexeme
 use Rattle.p414_lexemes.specs.declared.mark.Mark.{Mark}
 use Rattle.p414_lexemes.specs.declared.mark.Mark.TheVariants as mark
+use Rattle.p414_ast.specs.Words.{keyword}
 use Rattle.p414_ast.specs.Conditions.{is_among}
 use Rattle.p414_reader.specs.declared.symbols.Class.{Class}
 use Rattle.p414_reader.specs.declared.symbols.Class.TheVariants as class
@@ -134,7 +136,8 @@ by_number P f (lexeme.Number n) ok = f n
 by_number P f (lexeme.Mark m) ok = cc
 
 -- a word that stands not among these
-pub by_new : (word : List ℕ) (words : List (List ℕ)) (P : Lexeme → Type 0) → (is_among word words ≡ false → P (lexeme.Name word)) → (token : Lexeme) → is_new word words token ≡ true → P token
+pub by_new : (word : Keyword) (words : List (List ℕ)) (P : Lexeme → Type 0) → (is_among (keyword_text word) words ≡ false → P (keyword word)) → (token : Lexeme) → is_new (keyword_text word) words token ≡ true → P token
 by_new word words P f token ok =
-    subst P (sym (is_word_only word token (left_true (is_named (bytes_eq word) token) (not (is_among word words)) ok)))
-    (f (not_true (is_among word words) (right_true (is_named (bytes_eq word) token) (not (is_among word words)) ok)))
+    let text = keyword_text word in
+    subst P (sym (is_word_only text token (left_true (is_named (bytes_eq text) token) (not (is_among text words)) ok)))
+    (f (not_true (is_among text words) (right_true (is_named (bytes_eq text) token) (not (is_among text words)) ok)))

@@ -47,7 +47,7 @@ rows_mean header.Width built = (by_number _ (λ n. (width.Bits n, refl, refl)), 
 rows_mean header.Attributes built =
     (by_name _ (λ text. by_value _ _ (λ names. (text ∷ names, refl, ap (with_names built) (sym (extended_by_list names (text ∷ []) built.parts.name_lists))))), tt)
 rows_mean header.Tails built = (
-  by_new (keyword_text key.Length) (map tail_word (newest [] built.bodies.tails)) _ (λ new. by_kept _ _ _ (λ e ok. by_kept_two _ _ _ _ (λ tails oks stay. (
+  by_new key.Length (map tail_word (newest [] built.bodies.tails)) _ (λ new. by_kept _ _ _ (λ e ok. by_kept_two _ _ _ _ (λ tails oks stay. (
     length_is e ∷ tails,
     (
       ap (λ us. keyword key.Length ∷ colon ∷ us) (end_joined (written_expr e) semicolon (flat_map written_tail tails)),
@@ -57,7 +57,7 @@ rows_mean header.Tails built = (
     refl,
   )))),
   (
-    by_new (keyword_text key.MaxLength) (map tail_word (newest [] built.bodies.tails)) _ (λ new. by_kept _ _ _ (λ e ok. by_kept_two _ _ _ _ (λ tails oks stay. (
+    by_new key.MaxLength (map tail_word (newest [] built.bodies.tails)) _ (λ new. by_kept _ _ _ (λ e ok. by_kept_two _ _ _ _ (λ tails oks stay. (
       max_length_is e ∷ tails,
       (
         ap (λ us. keyword key.MaxLength ∷ colon ∷ us) (end_joined (written_expr e) semicolon (flat_map written_tail tails)),

@@ -2,6 +2,7 @@
 use Rattle.std.proofs.Common.{◌≡◌, ℕ, false, List, [], ◌∷◌, map, codes, bytes_eq, refl}
 use Rattle.std.proofs.lemmas.Bool.{or_right}
 use Rattle.predictive_parser.proofs.Meanings.{RowsShow, NoneShows}
+use Rattle.p414_lexemes.specs.declared.keyword.Keyword.TheVariants as key
 use Rattle.p414_ast.specs.declared.objects.CounterType.TheVariants as counter_type
 use Rattle.p414_ast.specs.declared.objects.StateAttr.TheVariants as attr
 use Rattle.p414_ast.specs.Written.{state_word}
@@ -25,18 +26,18 @@ neither_width w e = neither_right (bytes_eq w (codes "type")) (is_among w regist
 
 pub rows_mean : (w : ObjectWord) (built : Built) → RowsShow grammar14 fixed14 meaning14 (word.Object w) built (grammar14.rows (word.Object w))
 rows_mean object.Attr b = (
-  by_new (codes "direct") (object_words b) _ (λ new. by_name _ (λ text. (attr.Direct text, (refl, refl, new), refl))),
+  by_new key.Direct (object_words b) _ (λ new. by_name _ (λ text. (attr.Direct text, (refl, refl, new), refl))),
   (
-    by_new (codes "static") (object_words b) _ (λ new. by_name _ (λ text. (attr.Static text, (refl, refl, new), refl))),
+    by_new key.Static (object_words b) _ (λ new. by_name _ (λ text. (attr.Static text, (refl, refl, new), refl))),
     (
-      by_new (codes "result") (object_words b) _ (λ new us r e. rw e (attr.Result r, (refl, refl, new), refl)),
+      by_new key.Result (object_words b) _ (λ new us r e. rw e (attr.Result r, (refl, refl, new), refl)),
       (
-        by_new (codes "instance_count") (object_words b) _ (λ new. by_number _ (λ n. (attr.InstanceCount n, (refl, refl, new), refl))),
+        by_new key.InstanceCount (object_words b) _ (λ new. by_number _ (λ n. (attr.InstanceCount n, (refl, refl, new), refl))),
         (
-          by_new (codes "min_width") (object_words b) _ (λ new. by_number _ (λ n. (attr.MinWidth n, (refl, refl, new), refl))),
+          by_new key.MinWidth (object_words b) _ (λ new. by_number _ (λ n. (attr.MinWidth n, (refl, refl, new), refl))),
           (
-            by_new (codes "saturating") (object_words b) _ (λ new. (attr.Saturating, (refl, refl, new), refl)),
-            (by_new (codes "signed") (object_words b) _ (λ new. (attr.Signed, (refl, refl, new), refl)), tt),
+            by_new key.Saturating (object_words b) _ (λ new. (attr.Saturating, (refl, refl, new), refl)),
+            (by_new key.Signed (object_words b) _ (λ new. (attr.Signed, (refl, refl, new), refl)), tt),
           ),
         ),
       ),
@@ -50,13 +51,13 @@ rows_mean object.CounterAttrs b = (
     refl,
   ),
   (
-    by_new (codes "width") (object_words b) _ (λ new. by_number _ (λ n vs attrs s. rw s.0 (
+    by_new key.Width (object_words b) _ (λ new. by_number _ (λ n vs attrs s. rw s.0 (
       attr.Width n ∷ attrs,
       (refl, s.1, λ h. stay_extended state_word (attr.Width n) attrs b.objects new (s.2 (still_needed state_word counter_needs (attr.Width n) b.objects refl h))),
       refl,
     ))),
     (
-      by_new (codes "layout") (object_words b) _ (λ new. by_name _ (λ text vs attrs s. rw s.0 (
+      by_new key.Layout (object_words b) _ (λ new. by_name _ (λ text vs attrs s. rw s.0 (
         attr.Layout text ∷ attrs,
         (refl, s.1, λ h. stay_extended state_word (attr.Layout text) attrs b.objects new (s.2 (still_needed state_word counter_needs (attr.Layout text) b.objects refl h))),
         refl,
@@ -89,7 +90,7 @@ rows_mean object.RegisterAttrs b = (
       refl,
     )),
     (
-      by_new (codes "type") (object_words b) _ (λ new us t e vs attrs s. rw (e, s.0) (
+      by_new key.Counts (object_words b) _ (λ new us t e vs attrs s. rw (e, s.0) (
         attr.Counts t ∷ attrs,
         (refl, s.1, λ h. stay_extended state_word (attr.Counts t) attrs b.objects new (s.2 (still_needed state_word register_needs (attr.Counts t) b.objects refl h))),
         refl,
@@ -110,19 +111,19 @@ rows_mean object.RegisterAttrs b = (
   ),
 )
 rows_mean object.MoreAttrs b = (
-  by_new (codes "type") (object_words b) _ (λ new us t e vs attrs s. rw (e, s.0) (
+  by_new key.Counts (object_words b) _ (λ new us t e vs attrs s. rw (e, s.0) (
     attr.Counts t ∷ attrs,
     (refl, stay_extended state_word (attr.Counts t) attrs b.objects new s.1),
     refl,
   )),
   (
-    by_new (codes "width") (object_words b) _ (λ new. by_number _ (λ n vs attrs s. rw s.0 (
+    by_new key.Width (object_words b) _ (λ new. by_number _ (λ n vs attrs s. rw s.0 (
       attr.Width n ∷ attrs,
       (refl, stay_extended state_word (attr.Width n) attrs b.objects new s.1),
       refl,
     ))),
     (
-      by_new (codes "layout") (object_words b) _ (λ new. by_name _ (λ text vs attrs s. rw s.0 (
+      by_new key.Layout (object_words b) _ (λ new. by_name _ (λ text vs attrs s. rw s.0 (
         attr.Layout text ∷ attrs,
         (refl, stay_extended state_word (attr.Layout text) attrs b.objects new s.1),
         refl,

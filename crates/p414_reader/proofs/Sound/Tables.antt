@@ -3,6 +3,7 @@ use Rattle.std.proofs.Common.{◌≡◌, ℕ, true, false, List, [], ◌∷◌, 
 use Rattle.std.specs.List.{flat_map, list_all}
 use Rattle.std.proofs.lemmas.Bool.{or_right}
 use Rattle.predictive_parser.proofs.Meanings.{RowsShow, NoneShows}
+use Rattle.p414_lexemes.specs.declared.keyword.Keyword.TheVariants as key
 use Rattle.p414_lexemes.specs.declared.lexeme.Lexeme.{Lexeme}
 use Rattle.p414_lexemes.specs.declared.lexeme.Literal.{Literal}
 use Rattle.p414_ast.specs.declared.parts.Index.{Index}
@@ -36,17 +37,17 @@ read_tokens text i (Some f) mask kind more =
 
 pub rows_mean : (w : TableWord) (built : Built) → RowsShow grammar14 fixed14 meaning14 (word.Table w) built (grammar14.rows (word.Table w))
 rows_mean table.Attr b = (
-  by_new (codes "reads") (table_words b) _ (λ new us reads e. rw e (attr.Reads reads, (refl, refl, refl, new), rw (extended_by_list reads [] b.tables.reads))),
+  by_new key.Reads (table_words b) _ (λ new us reads e. rw e (attr.Reads reads, (refl, refl, refl, new), rw (extended_by_list reads [] b.tables.reads))),
   (
-    by_new (codes "min_size") (table_words b) _ (λ new. by_number _ (λ n. (attr.MinSize n, (refl, refl, refl, new), refl))),
+    by_new key.MinSize (table_words b) _ (λ new. by_number _ (λ n. (attr.MinSize n, (refl, refl, refl, new), refl))),
     (
-      by_new (codes "max_size") (table_words b) _ (λ new. by_number _ (λ n. (attr.MaxSize n, (refl, refl, refl, new), refl))),
+      by_new key.MaxSize (table_words b) _ (λ new. by_number _ (λ n. (attr.MaxSize n, (refl, refl, refl, new), refl))),
       (
-        by_new (codes "size") (table_words b) _ (λ new. by_number _ (λ n. (attr.Size n, (refl, refl, refl, new), refl))),
+        by_new key.Size (table_words b) _ (λ new. by_number _ (λ n. (attr.Size n, (refl, refl, refl, new), refl))),
         (
-          by_new (codes "support_timeout") (table_words b) _ (λ new us on e. rw e (attr.SupportTimeout on, (refl, refl, refl, new), refl)),
+          by_new key.SupportTimeout (table_words b) _ (λ new us on e. rw e (attr.SupportTimeout on, (refl, refl, refl, new), refl)),
           (
-            by_new (codes "default_action") (table_words b) _ (λ new. by_name _ (λ text us arguments e.
+            by_new key.DefaultAction (table_words b) _ (λ new. by_name _ (λ text us arguments e.
                 rw e (attr.DefaultAction text arguments, (refl, refl, refl, new), refl))),
             tt,
           ),
@@ -96,7 +97,7 @@ rows_mean table.Attrs b = (
   ),
 )
 rows_mean table.MoreAttrs b = (
-  by_new (codes "actions") (table_words b) _ (λ new. by_name _ (λ text us names e vs attrs s.
+  by_new key.Actions (table_words b) _ (λ new. by_name _ (λ text us names e vs attrs s.
       rw (e, s.0) (
         attr.Actions (text ∷ names) ∷ attrs,
         (
@@ -107,7 +108,7 @@ rows_mean table.MoreAttrs b = (
         rw (extended_by_list names (text ∷ []) b.parts.name_lists),
       ))),
   (
-    by_new (codes "action_profile") (table_words b) _ (λ new. by_name _ (λ text vs attrs s.
+    by_new key.ActionProfile (table_words b) _ (λ new. by_name _ (λ text vs attrs s.
         rw s.0 (
           attr.ActionProfile text ∷ attrs,
           (refl, s.1, stay_extended table_word (attr.ActionProfile text) attrs b.tables.attributes new s.2),
