@@ -57,11 +57,10 @@ use Rattle.p414_reader.specs.declared.symbols.ObjectWord.{ObjectWord}
 use Rattle.p414_reader.specs.declared.symbols.ObjectWord.TheVariants as object
 use Rattle.p414_reader.specs.declared.symbols.BodyWord.{BodyWord}
 use Rattle.p414_reader.specs.declared.symbols.BodyWord.TheVariants as body
-use Rattle.predictive_parser.specs.Values.{newest, older, extended}
+use Rattle.predictive_parser.specs.Values.{newest, older, extended, extended_option}
 use Rattle.p414_reader.specs.internal.Built.{Built, no_bodies}
 use Rattle.p414_reader.specs.declared.parts.Parts.{Parts}
-use Rattle.p414_reader.specs.internal.Classes.{with_token}
-use Rattle.p414_reader.specs.internal.Actions.{no_expr, with_argument, without_name, with_value, with_table_attr, with_state_attr, with_stmt, on_stmts}
+use Rattle.p414_reader.specs.internal.Actions.{no_expr, without_name, with_value, with_table_attr, with_state_attr, with_stmt, on_stmts}
 
 -- the newest list, with these put behind it one by one
 abbrev pub extended_by : {A : Type 0} → List A → List (List A) → List (List A)
@@ -103,7 +102,7 @@ PartSpells part.MaskOption mask us = us ≡ written_option written_mask mask
 
 abbrev pub with_arguments : List Number → List (Option (List Number)) → List (Option (List Number))
 with_arguments [] lists = lists
-with_arguments (n ∷ ns) lists = with_arguments ns (with_argument n lists)
+with_arguments (n ∷ ns) lists = with_arguments ns (extended_option n lists)
 
 abbrev pub after_part : (w : PartWord) → PartValue w → Parts → Parts
 after_part part.MoreNames names p = record p { name_lists = extended_by names p.name_lists }
@@ -453,7 +452,7 @@ SpellsWord word.Decls decls b us = (us ≡ flat_map written_decl decls) × (list
 
 abbrev pub with_tokens : List Lexeme → List (Option (List Lexeme)) → List (Option (List Lexeme))
 with_tokens [] groups = groups
-with_tokens (token ∷ tokens) groups = with_tokens tokens (with_token token groups)
+with_tokens (token ∷ tokens) groups = with_tokens tokens (extended_option token groups)
 
 abbrev pub after_word : (w : Word) → Value w → Built → Built
 after_word (word.Part w) value b = record b { parts = after_part w value b.parts }

@@ -37,6 +37,15 @@ impl Bodies {
         }
     }
 
+    /// Lets all parts go.
+    pub fn clear(&mut self, alloc: Global)
+        ensures trees { self.new.forest.trees ≡ record { exprs = []; tails = []; stmts = [] } }
+        ensures labels { self.new.labels ≡ [] }
+        ensures else_calls { self.new.else_calls ≡ [] }
+    {
+        *self = Bodies::new(alloc);
+    }
+
     /// Whether the label may stand behind those of the newest list of branches.
     pub fn may_follow(&self, text: &[u8]) -> bool
         ensures { result ≡ may_follow (newest [] self.now.labels) text.now }
@@ -136,11 +145,10 @@ impl Built {
     fn add_apply_branches(&mut self, alloc: Global) -> Result<(), OutOfMemory>
         ensures { OnOk result (self.new ≡ put_body BodyAction.AddApplyBranches self.old) }
     {
+        let _ = self.bodies.labels.pop_or(Labels::new(alloc));
         let table = self.parts.take_name(alloc);
         self.bodies.forest.apply_branches(table)?;
-        self.bodies.forest.then()?;
-        let _ = self.bodies.labels.pop_or(Labels::new(alloc));
-        Ok(())
+        self.bodies.forest.then()
     }
 
     /// Nothing stands behind the block, and then a control `else` is called or not.
@@ -183,11 +191,11 @@ impl Built {
 fn label_of(name: Text) -> Label
     ensures { result ≡ label_of name }
 {
-    if name.as_slice() == Keyword::Hit.text() {
+    if Keyword::Hit.text() == name.as_slice() {
         Label::Hit
-    } else if name.as_slice() == Keyword::Miss.text() {
+    } else if Keyword::Miss.text() == name.as_slice() {
         Label::Miss
-    } else if name.as_slice() == Keyword::Default.text() {
+    } else if Keyword::Default.text() == name.as_slice() {
         Label::Default
     } else {
         Label::Action(name)

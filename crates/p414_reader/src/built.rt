@@ -2,7 +2,8 @@
 ghost use Rattle.std.specs.Prelude.{◌≡◌, None, OnOk, IfOk};
 ghost use Rattle.p414_reader.specs.internal.Built as built;
 ghost use Rattle.p414_reader.specs.internal.Built.{nothing};
-ghost use Rattle.p414_reader.specs.internal.Classes.{accepts, shift, with_name, with_label, with_token};
+ghost use Rattle.predictive_parser.specs.Values.{extended_option};
+ghost use Rattle.p414_reader.specs.internal.Classes.{accepts, shift, with_name, with_label};
 ghost use Rattle.p414_reader.specs.internal.Actions.{put};
 ghost use Rattle.p414_reader.specs.internal.Lexemes.{lexeme_of};
 
@@ -152,14 +153,10 @@ impl Built {
 
     /// Keeps a token in the newest group.
     fn push_token(&mut self, alloc: Global, token: TokenView<'_>) -> Result<(), OutOfMemory>
-        ensures { OnOk result (self.new ≡ record self.old { groups = with_token (lexeme_of token.entry) self.old.groups }) }
+        ensures { OnOk result (self.new ≡ record self.old { groups = extended_option (lexeme_of token.entry) self.old.groups }) }
     {
-        let mut tokens = match self.groups.pop_or(None) {
-            Some(tokens) => tokens,
-            None => Rows::new(alloc),
-        };
-        tokens.push(token.to_lexeme(alloc)?)?;
-        self.groups.push(Some(tokens))
+        let lexeme = token.to_lexeme(alloc)?;
+        self.groups.extend_option(alloc, lexeme)
     }
 
     /// Does the action.
@@ -186,7 +183,7 @@ impl Built {
     fn end(&mut self, alloc: Global) -> Result<(), OutOfMemory>
         ensures { OnOk result (self.new ≡ put Action.EndDecls self.old) }
     {
-        self.bodies = Bodies::new(alloc);
+        self.bodies.clear(alloc);
         Ok(())
     }
 }

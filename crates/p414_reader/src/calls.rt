@@ -34,22 +34,23 @@ impl Built {
     pub fn put_call(&mut self, alloc: Global, action: CallAction) -> Result<(), OutOfMemory>
         ensures { OnOk result (self.new ≡ put_call action self.old) }
     {
+        let Built { parts, calls, .. } = self;
         match action {
-            CallAction::NoArgs => self.calls.arguments.push(Rows::new(alloc)),
+            CallAction::NoArgs => calls.arguments.push(Rows::new(alloc)),
             CallAction::AddArgNumber => {
-                let number = self.parts.take_number();
-                self.calls.arguments.extend(alloc, Arg::Number(number))
+                let number = parts.take_number();
+                calls.arguments.extend(alloc, Arg::Number(number))
             }
             CallAction::AddArg => {
-                let instance = self.parts.take_instance(alloc);
-                let field = self.parts.field_options.pop_or(None);
-                self.calls.arguments.extend(alloc, arg_of(instance, field))
+                let instance = parts.take_instance(alloc);
+                let field = parts.field_options.pop_or(None);
+                calls.arguments.extend(alloc, arg_of(instance, field))
             }
-            CallAction::NoCalls => self.calls.calls.push(Rows::new(alloc)),
+            CallAction::NoCalls => calls.calls.push(Rows::new(alloc)),
             CallAction::AddCall => {
-                let name = self.parts.take_name(alloc);
-                let arguments = self.calls.arguments.pop_list(alloc);
-                self.calls.calls.extend(alloc, Call { name, arguments })
+                let name = parts.take_name(alloc);
+                let arguments = calls.arguments.pop_list(alloc);
+                calls.calls.extend(alloc, Call { name, arguments })
             }
         }
     }

@@ -3,7 +3,6 @@ ghost use Rattle.std.specs.Prelude.{◌≡◌, OnOk, IfOk};
 ghost use Rattle.p414_reader.specs.declared.symbols.DeclKind.TheVariants as DeclKind;
 ghost use Rattle.p414_reader.specs.internal.Actions.{put_decl, with_decl, stateful_of, without_object};
 
-use crate::bodies::Bodies;
 use crate::built::Built;
 use crate::symbols::DeclKind;
 use p4x_bits::{OutOfMemory, Text};
@@ -12,7 +11,6 @@ use p414_ast::{
     Metadata, Parser, Return, Stateful, Table,
 };
 use std::alloc::Global;
-use std::mem;
 
 impl Built {
     /// A declaration ends, and is put behind the others.
@@ -20,7 +18,7 @@ impl Built {
         ensures { OnOk result (self.new ≡ put_decl kind self.old) }
     {
         let decl = self.declaration(alloc, kind)?;
-        self.bodies = Bodies::new(alloc);
+        self.bodies.clear(alloc);
         self.decls.push(decl)
     }
 
@@ -51,8 +49,8 @@ impl Built {
     {
         let name = self.parts.take_name(alloc);
         let fields = self.headers.fields.pop_list(alloc);
-        let bodies = mem::replace(&mut self.bodies, Bodies::new(alloc));
-        Decl::HeaderType(bodies.forest.into_header_type(alloc, name, fields))
+        let forest = &mut self.bodies.forest;
+        Decl::HeaderType(forest.take_header_type(alloc, name, fields))
     }
 
     fn header(&mut self, alloc: Global) -> Decl
@@ -160,8 +158,8 @@ impl Built {
         ensures { IfOk result (λ decl. put_decl DeclKind.Control self.old ≡ with_decl decl self.new) }
     {
         let name = self.parts.take_name(alloc);
-        let bodies = mem::replace(&mut self.bodies, Bodies::new(alloc));
-        Ok(Decl::Control(bodies.forest.into_control(name)?))
+        let control = self.bodies.forest.take_control(alloc, name)?;
+        Ok(Decl::Control(control))
     }
 
     fn left_out(&mut self, alloc: Global, kind: LeftOutKind) -> Decl

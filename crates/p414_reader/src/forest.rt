@@ -19,6 +19,7 @@ use p414_lexemes::Keyword;
 use predictive_parser::ValueStack;
 use std::alloc::Global;
 use std::marker::Model;
+use std::mem;
 
 /// Stacks of expressions, attributes of header types and statements, by the places of their nodes. Contracts see the
 /// trees, and the nodes that they are made of.
@@ -247,24 +248,25 @@ impl Forest {
         has_tail(self.tails.newest_list(), word.text())
     }
 
-    /// A header type with the newest list of attributes.
-    pub fn into_header_type(self, alloc: Global, name: Text, fields: Rows<Field>) -> HeaderType
-        ensures { result ≡ record { name = name; fields = fields; tails = newest [] self.trees.tails } }
+    /// Takes out a header type with the newest list of attributes. All nodes go into it.
+    pub fn take_header_type(&mut self, alloc: Global, name: Text, fields: Rows<Field>) -> HeaderType
+        ensures { result ≡ record { name = name; fields = fields; tails = newest [] self.old.trees.tails } }
     {
         let Forest {
             nodes,
             mut tails,
             ..
-        } = self;
+        } = mem::replace(self, Forest::new(alloc));
         HeaderType::new(name, fields, tails.pop_list(alloc), nodes)
     }
 
-    /// A control with the newest list of statements.
-    pub fn into_control(mut self, name: Text) -> Result<Control, OutOfMemory>
-        ensures { IfOk result (λ control. control ≡ record { name = name; body = newest no_statements self.trees.stmts }) }
+    /// Takes out a control with the newest list of statements. All nodes go into it.
+    pub fn take_control(&mut self, alloc: Global, name: Text) -> Result<Control, OutOfMemory>
+        ensures { IfOk result (λ control. control ≡ record { name = name; body = newest no_statements self.old.trees.stmts }) }
     {
         let body = self.take_stmt()?;
-        Ok(Control::new(name, self.nodes, body))
+        let Forest { nodes, .. } = mem::replace(self, Forest::new(alloc));
+        Ok(Control::new(name, nodes, body))
     }
 }
 

@@ -157,12 +157,7 @@ impl Parts {
         ensures { OnOk result (self.new ≡ put_part PartAction.AddNumber self.old) }
     {
         let number = self.take_number();
-        let mut list = match self.arguments.pop_or(None) {
-            Some(list) => list,
-            None => Rows::new(alloc),
-        };
-        list.push(number)?;
-        self.arguments.push(Some(list))
+        self.arguments.extend_option(alloc, number)
     }
 
     /// An instance of the newest name and index.

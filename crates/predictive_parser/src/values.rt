@@ -1,6 +1,6 @@
 // Stacks of what is built.
 ghost use Rattle.std.specs.Prelude.{◌≡◌, List, [], ◌∷◌, reverse, OnErr, OnOk, MatchOption};
-ghost use Rattle.predictive_parser.specs.Values.{newest, older, extended};
+ghost use Rattle.predictive_parser.specs.Values.{newest, older, extended, extended_option};
 
 use p4x_bits::{OutOfMemory, Rows};
 use std::alloc::Global;
@@ -91,5 +91,19 @@ impl<T: Drop> ValueStack<Rows<T>> {
             Some(list) => list.as_slice(),
             None => &[],
         }
+    }
+}
+
+impl<T: Drop> ValueStack<Option<Rows<T>>> {
+    /// Puts one more item behind the newest list; where there is none, begins one with it.
+    pub fn extend_option(&mut self, alloc: Global, item: T) -> Result<(), OutOfMemory>
+        ensures { OnOk result (self.new ≡ extended_option item self.old) }
+    {
+        let mut list = match self.pop_or(None) {
+            Some(list) => list,
+            None => Rows::new(alloc),
+        };
+        list.push(item)?;
+        self.push(Some(list))
     }
 }

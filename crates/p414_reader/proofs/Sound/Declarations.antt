@@ -1,6 +1,7 @@
 -- That the rows of groups of tokens and of declarations have the meaning of their words.
 use Rattle.std.proofs.Common.{◌≡◌, ℕ, suc, true, ◌&&◌, List, [], ◌∷◌, ◌++◌, map, codes, Option, Some, None, refl, sym, ap, ◌∙◌, append_assoc, append-nil}
 use Rattle.std.specs.List.{flat_map, list_all}
+use Rattle.predictive_parser.specs.Values.{extended_option}
 use Rattle.predictive_parser.proofs.Meanings.{RowsShow, NoneShows}
 use Rattle.p414_lexemes.specs.declared.keyword.Keyword.TheVariants as key
 use Rattle.p414_lexemes.specs.declared.lexeme.Lexeme.{Lexeme}
@@ -12,7 +13,7 @@ use Rattle.p414_ast.specs.Written.{written_option, in_braces, attribute, written
 use Rattle.p414_ast.specs.Conditions.{Brace, opens, closes, neither, brace_of, behind_brace, is_balanced, all_different, is_tail, is_pstmt, is_return, is_table_attr, has_word, table_needs, counter_needs, register_needs, is_decl}
 use Rattle.p414_reader.specs.declared.symbols.Word.TheVariants as word
 use Rattle.p414_reader.specs.internal.Built.{Built}
-use Rattle.p414_reader.specs.internal.Classes.{is_neither, with_token}
+use Rattle.p414_reader.specs.internal.Classes.{is_neither}
 use Rattle.p414_reader.specs.internal.Rows.{grammar14}
 use Rattle.p414_reader.proofs.Meaning.{meaning14, with_tokens}
 use Rattle.p414_reader.proofs.Lists.{both, extended_by_list, with_tokens_list}
@@ -32,7 +33,7 @@ same_depth token depth tokens ok = go (brace_of token) ok
 
 with_tokens_append : (us vs : List Lexeme) (groups : List (Option (List Lexeme))) → with_tokens (us ++ vs) groups ≡ with_tokens vs (with_tokens us groups)
 with_tokens_append [] vs groups = refl
-with_tokens_append (u ∷ us) vs groups = with_tokens_append us vs (with_token u groups)
+with_tokens_append (u ∷ us) vs groups = with_tokens_append us vs (extended_option u groups)
 
 pub group_rows_mean : (b : Built) → RowsShow grammar14 fixed14 meaning14 word.Group b (grammar14.rows word.Group)
 group_rows_mean b = (
@@ -41,7 +42,7 @@ group_rows_mean b = (
     λ us inner f vs tokens g. rw (f.0, g.0) (
       brace_open ∷ (inner ++ brace_close ∷ tokens),
       (refl, λ depth more. ap (is_balanced (suc depth)) (append_assoc inner (brace_close ∷ tokens) more) ∙ f.1 (suc depth) (brace_close ∷ (tokens ++ more)) ∙ g.1 depth more),
-      rw (with_tokens_append inner (brace_close ∷ tokens) (with_token brace_open b.groups)),
+      rw (with_tokens_append inner (brace_close ∷ tokens) (extended_option brace_open b.groups)),
     ),
     tt,
   ),

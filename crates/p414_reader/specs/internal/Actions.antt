@@ -55,7 +55,7 @@ use Rattle.p414_reader.specs.declared.symbols.DeclKind.{DeclKind}
 use Rattle.p414_reader.specs.declared.symbols.DeclKind.TheVariants as kind
 use Rattle.p414_reader.specs.declared.symbols.Action.{Action}
 use Rattle.p414_reader.specs.declared.symbols.Action.TheVariants as action
-use Rattle.predictive_parser.specs.Values.{newest, older, extended}
+use Rattle.predictive_parser.specs.Values.{newest, older, extended, extended_option}
 use Rattle.p414_reader.specs.internal.Built.{Bodies, Built, no_bodies}
 use Rattle.p414_reader.specs.declared.parts.Parts.{Parts}
 use Rattle.p414_lexemes.specs.declared.keyword.Keyword.TheVariants as key
@@ -92,12 +92,6 @@ last_instance p = newest no_instance p.instances
 abbrev pub last_field : Parts → Ref
 last_field p = newest no_field p.fields
 
--- a list of arguments with one more
-abbrev pub with_argument : Number → List (Option (List Number)) → List (Option (List Number))
-with_argument n [] = Some (n ∷ []) ∷ []
-with_argument n (None ∷ lists) = Some (n ∷ []) ∷ lists
-with_argument n (Some list ∷ lists) = Some (list ++ n ∷ []) ∷ lists
-
 abbrev pub put_part : PartAction → Parts → Parts
 put_part part.NoNames p = record p { name_lists = [] ∷ p.name_lists }
 put_part part.AddName p = record p { names = older p.names; name_lists = extended (last_name p ∷ []) p.name_lists }
@@ -107,7 +101,7 @@ put_part (part.Number sign) p =
     record p { literals = older p.literals; numbers = record { sign = sign; literal = last_literal p } ∷ p.numbers }
 put_part part.NoArguments p = record p { arguments = None ∷ p.arguments }
 put_part part.EmptyArguments p = record p { arguments = Some [] ∷ p.arguments }
-put_part part.AddNumber p = record p { numbers = older p.numbers; arguments = with_argument (newest no_number p.numbers) p.arguments }
+put_part part.AddNumber p = record p { numbers = older p.numbers; arguments = extended_option (newest no_number p.numbers) p.arguments }
 put_part part.NoIndex p = record p { indexes = None ∷ p.indexes }
 put_part part.IndexAt p = record p { literals = older p.literals; indexes = Some (index.At (last_literal p)) ∷ p.indexes }
 put_part part.IndexNext p = record p { indexes = Some index.Next ∷ p.indexes }

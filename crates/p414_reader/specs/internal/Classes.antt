@@ -15,7 +15,7 @@ use Rattle.p414_ast.specs.Written.{tail_word, table_word, state_word}
 use Rattle.p414_ast.specs.Conditions.{is_among, is_expression_name, is_mixed, Brace, opens, closes, neither, brace_of}
 use Rattle.p414_reader.specs.declared.symbols.Class.{Class}
 use Rattle.p414_reader.specs.declared.symbols.Class.TheVariants as class
-use Rattle.predictive_parser.specs.Values.{newest, extended}
+use Rattle.predictive_parser.specs.Values.{newest, extended, extended_option}
 use Rattle.p414_lexemes.specs.declared.keyword.Keyword.TheVariants as key
 use Rattle.p414_lexemes.specs.Keywords.{keyword_text}
 use Rattle.p414_reader.specs.internal.Built.{Built}
@@ -153,12 +153,6 @@ with_name text built = record built { parts = record built.parts { names = text 
 abbrev pub with_literal : Literal → Built → Built
 with_literal n built = record built { parts = record built.parts { literals = n ∷ built.parts.literals } }
 
--- a group with one more token
-abbrev pub with_token : Lexeme → List (Option (List Lexeme)) → List (Option (List Lexeme))
-with_token token [] = Some (token ∷ []) ∷ []
-with_token token (None ∷ groups) = Some (token ∷ []) ∷ groups
-with_token token (Some tokens ∷ groups) = Some (tokens ++ token ∷ []) ∷ groups
-
 abbrev pub with_label : List ℕ → Built → Built
 with_label text built =
     record (with_name text built) { bodies = record built.bodies { labels = extended (text ∷ []) built.bodies.labels } }
@@ -176,6 +170,6 @@ shift (class.NewStateAttr k) token built = built
 shift class.NewLabel token built = with_label (text_of token) built
 shift (class.Infix least most) token built = built
 shift (class.Prefix least) token built = built
-shift class.GroupToken token built = record built { groups = with_token token built.groups }
-shift class.GroupOpen token built = record built { groups = with_token token built.groups }
-shift class.GroupClose token built = record built { groups = with_token token built.groups }
+shift class.GroupToken token built = record built { groups = extended_option token built.groups }
+shift class.GroupOpen token built = record built { groups = extended_option token built.groups }
+shift class.GroupClose token built = record built { groups = extended_option token built.groups }
