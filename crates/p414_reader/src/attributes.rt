@@ -1,59 +1,80 @@
-// Which attributes a table, or a counter, meter or register, has.
-ghost use Rattle.std.specs.Prelude.{◌≡◌, map};
+// Attributes of header types, tables, counters, meters and registers, by the words that they begin with.
+ghost use Rattle.std.specs.Prelude.{◌≡◌, ℕ, List, map};
 ghost use Rattle.p414_ast.specs.Written.{table_word, state_word};
 ghost use Rattle.p414_ast.specs.Conditions.{is_among};
+ghost use Rattle.p414_lexemes.specs.Keywords.{keyword_text};
+ghost use Rattle.p414_reader.specs.internal.Forest.{tail_text};
 
-use p414_ast::{StateAttr, TableAttr};
+use p414_ast::{StateAttr, TableAttr, TypeTail};
 use p414_lexemes::Keyword;
 
-/// Whether the attribute of this word is one of these.
-pub fn has_table_attr(attributes: &[TableAttr], word: &[u8]) -> bool
-    ensures { result ≡ is_among word.now (map table_word attributes.now) }
-{
-    attributes
-        .iter()
-        .any(|attribute| word == table_word(attribute))
+/// What begins with a word of its own.
+pub trait Worded {
+    // The octets of the word.
+    ghost text: { Self → List ℕ };
+
+    /// The word that it begins with.
+    fn keyword(&self) -> Keyword
+        ensures { keyword_text result ≡ text self.now };
 }
 
-/// The word of an attribute.
-fn table_word(attribute: &TableAttr) -> &'static [u8]
-    ensures { result.now ≡ table_word attribute.now }
-{
-    match attribute {
-        TableAttr::Reads(_) => Keyword::Reads.text(),
-        TableAttr::Actions(_) => Keyword::Actions.text(),
-        TableAttr::MinSize(_) => Keyword::MinSize.text(),
-        TableAttr::MaxSize(_) => Keyword::MaxSize.text(),
-        TableAttr::Size(_) => Keyword::Size.text(),
-        TableAttr::SupportTimeout(_) => Keyword::SupportTimeout.text(),
-        TableAttr::DefaultAction(_, _) => Keyword::DefaultAction.text(),
-        TableAttr::ActionProfile(_) => Keyword::ActionProfile.text(),
+impl Worded for TypeTail {
+    ghost text = { tail_text };
+
+    fn keyword(&self) -> Keyword {
+        match self {
+            TypeTail::Length(_) => Keyword::Length,
+            TypeTail::MaxLength(_) => Keyword::MaxLength,
+        }
     }
 }
 
-/// Whether the attribute of this word is one of these.
-pub fn has_state_attr(attributes: &[StateAttr], word: &[u8]) -> bool
-    ensures { result ≡ is_among word.now (map state_word attributes.now) }
-{
-    attributes
-        .iter()
-        .any(|attribute| word == state_word(attribute))
+impl Worded for TableAttr {
+    ghost text = { table_word };
+
+    fn keyword(&self) -> Keyword {
+        match self {
+            TableAttr::Reads(_) => Keyword::Reads,
+            TableAttr::Actions(_) => Keyword::Actions,
+            TableAttr::MinSize(_) => Keyword::MinSize,
+            TableAttr::MaxSize(_) => Keyword::MaxSize,
+            TableAttr::Size(_) => Keyword::Size,
+            TableAttr::SupportTimeout(_) => Keyword::SupportTimeout,
+            TableAttr::DefaultAction(_, _) => Keyword::DefaultAction,
+            TableAttr::ActionProfile(_) => Keyword::ActionProfile,
+        }
+    }
 }
 
-/// The word of an attribute.
-fn state_word(attribute: &StateAttr) -> &'static [u8]
-    ensures { result.now ≡ state_word attribute.now }
-{
-    match attribute {
-        StateAttr::Counts(_) => Keyword::Counts.text(),
-        StateAttr::Direct(_) => Keyword::Direct.text(),
-        StateAttr::Static(_) => Keyword::Static.text(),
-        StateAttr::Layout(_) => Keyword::Layout.text(),
-        StateAttr::Result(_) => Keyword::Result.text(),
-        StateAttr::InstanceCount(_) => Keyword::InstanceCount.text(),
-        StateAttr::Width(_) => Keyword::Width.text(),
-        StateAttr::MinWidth(_) => Keyword::MinWidth.text(),
-        StateAttr::Saturating => Keyword::Saturating.text(),
-        StateAttr::Signed => Keyword::Signed.text(),
+impl Worded for StateAttr {
+    ghost text = { state_word };
+
+    fn keyword(&self) -> Keyword {
+        match self {
+            StateAttr::Counts(_) => Keyword::Counts,
+            StateAttr::Direct(_) => Keyword::Direct,
+            StateAttr::Static(_) => Keyword::Static,
+            StateAttr::Layout(_) => Keyword::Layout,
+            StateAttr::Result(_) => Keyword::Result,
+            StateAttr::InstanceCount(_) => Keyword::InstanceCount,
+            StateAttr::Width(_) => Keyword::Width,
+            StateAttr::MinWidth(_) => Keyword::MinWidth,
+            StateAttr::Saturating => Keyword::Saturating,
+            StateAttr::Signed => Keyword::Signed,
+        }
     }
+}
+
+/// Whether one of these begins with the word.
+pub fn has_word<T: Worded>(items: &[T], word: &[u8]) -> bool
+    ensures { result ≡ is_among word.now (map T.text items.now) }
+{
+    items.iter().any(|item| word == text_of(item))
+}
+
+/// The octets of the word that it begins with.
+fn text_of<T: Worded>(item: &T) -> &'static [u8]
+    ensures { result.now ≡ T.text item.now }
+{
+    item.keyword().text()
 }

@@ -7,7 +7,7 @@ ghost use Rattle.p414_reader.specs.internal.Classes.{accepts, shift, with_name, 
 ghost use Rattle.p414_reader.specs.internal.Actions.{put};
 ghost use Rattle.p414_reader.specs.internal.Lexemes.{lexeme_of};
 
-use crate::attributes::{has_state_attr, has_table_attr};
+use crate::attributes::has_word;
 use crate::bodies::Bodies;
 use crate::calculations::Calculations;
 use crate::calls::Calls;
@@ -102,11 +102,10 @@ impl Built {
             Class::ExpressionName => token.is_expression_name(),
             Class::NewTail(word) => token.is_word(word) && !self.bodies.forest.has_tail(word),
             Class::NewTableAttr(word) => {
-                token.is_word(word)
-                    && !has_table_attr(self.tables.attributes.newest_list(), word.text())
+                token.is_word(word) && !has_word(self.tables.attributes.newest_list(), word.text())
             }
             Class::NewStateAttr(word) => {
-                token.is_word(word) && !has_state_attr(self.objects.newest_list(), word.text())
+                token.is_word(word) && !has_word(self.objects.newest_list(), word.text())
             }
             Class::NewLabel => token.is_name() && self.bodies.may_follow(token.text()),
             Class::Infix(least, most) => is_infix(least, most, token),

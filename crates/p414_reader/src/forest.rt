@@ -10,6 +10,7 @@ ghost use Rattle.predictive_parser.specs.Values.{newest, extended};
 ghost use Rattle.p414_reader.specs.internal.Actions.{on_expr, on_exprs, with_stmt, with_else_call};
 ghost use Rattle.p414_reader.specs.internal.Forest.{TakesExpr, TakesStmt, over_stmt, over_stmts, over_if, add_tail};
 
+use crate::attributes::has_word;
 use p4x_bits::{OutOfMemory, Rows, Text};
 use p414_ast::{
     BinaryOperator, Control, ExprNode, Field, HeaderType, Label, Nodes, StmtNode, TypeTail,
@@ -245,7 +246,7 @@ impl Forest {
     pub fn has_tail(&self, word: Keyword) -> bool
         ensures { result ≡ is_among (keyword_text word) (map tail_word (newest [] self.now.trees.tails)) }
     {
-        has_tail(self.tails.newest_list(), word.text())
+        has_word(self.tails.newest_list(), word.text())
     }
 
     /// Takes out a header type with the newest list of attributes. All nodes go into it.
@@ -267,22 +268,5 @@ impl Forest {
         let body = self.take_stmt()?;
         let Forest { nodes, .. } = mem::replace(self, Forest::new(alloc));
         Ok(Control::new(name, nodes, body))
-    }
-}
-
-/// Whether the attribute of this word is one of these.
-fn has_tail(tails: &[TypeTail], word: &[u8]) -> bool
-    ensures { (nodes : Trees) → result ≡ is_among word.now (map tail_word (map (tail_tree nodes) tails.now)) }
-{
-    tails.iter().any(|tail| word == tail_word(tail))
-}
-
-/// The word of an attribute.
-fn tail_word(tail: &TypeTail) -> &'static [u8]
-    ensures { (nodes : Trees) → result.now ≡ tail_word (tail_tree nodes tail.now) }
-{
-    match tail {
-        TypeTail::Length(_) => Keyword::Length.text(),
-        TypeTail::MaxLength(_) => Keyword::MaxLength.text(),
     }
 }

@@ -1,6 +1,9 @@
 -- Trees by the places of their nodes: expressions, attributes of header types, and statements that aren't part of another yet.
 use Rattle.std.specs.Prelude.{◌≡◌, ℕ, ◌<◌, false, List, [], ◌∷◌, length, map}
+use Rattle.p414_lexemes.specs.declared.keyword.Keyword.TheVariants as key
+use Rattle.p414_lexemes.specs.Keywords.{keyword_text}
 use Rattle.p414_ast.specs.declared.headers.TypeTail.{TypeTail}
+use Rattle.p414_ast.specs.declared.headers.TypeTail.TheVariants as tail
 use Rattle.p414_ast.specs.Tree.{Expr, truth, Stmt, no_statements, if_then, Trees, expr_at, stmt_at, Keeps}
 use Rattle.p414_ast.specs.Views.{TailTree, tail_tree, TailsWithin}
 use Rattle.predictive_parser.specs.Values.{newest, older, extended}
@@ -14,6 +17,11 @@ pub record Forest : Type 0 where
 abbrev pub forest_of : Trees → List ℕ → List (List TypeTail) → List ℕ → Forest
 forest_of nodes exprs tails stmts =
     record { exprs = map (expr_at nodes.exprs) exprs; tails = map (map (tail_tree nodes)) tails; stmts = map (stmt_at nodes.stmts) stmts }
+
+-- the word of an attribute of a header type
+abbrev pub tail_text : TypeTail → List ℕ
+tail_text (tail.Length place) = keyword_text key.Length
+tail_text (tail.MaxLength place) = keyword_text key.MaxLength
 
 -- the newest statement, or the two newest, are put under another
 abbrev pub over_stmt : (Stmt → Stmt) → List Stmt → List Stmt
