@@ -71,35 +71,27 @@ impl Built {
     pub fn put_body(&mut self, alloc: Global, action: BodyAction) -> Result<(), OutOfMemory>
         ensures { OnOk result (self.new ≡ put_body action self.old) }
     {
+        let Built { parts, bodies, .. } = self;
+        let forest = &mut bodies.forest;
         match action {
-            BodyAction::Number => {
-                let number = self.parts.take_literal();
-                self.bodies.forest.expression(ExprNode::Number(number))
-            }
-            BodyAction::Truth(value) => self.bodies.forest.expression(ExprNode::Truth(value)),
-            BodyAction::Valid => {
-                let instance = self.parts.take_instance(alloc);
-                self.bodies.forest.expression(ExprNode::Valid(instance))
-            }
-            BodyAction::Field => {
-                let field = self.parts.take_field(alloc);
-                self.bodies.forest.expression(ExprNode::Field(field))
-            }
-            BodyAction::Parenthesized => self.bodies.forest.parenthesized(),
-            BodyAction::Unary(operator) => self.bodies.forest.unary(operator),
-            BodyAction::Binary(operator) => self.bodies.forest.binary(operator),
-            BodyAction::NoTails => self.bodies.forest.open_tails(alloc),
-            BodyAction::AddLength => self.bodies.forest.add_length(alloc),
-            BodyAction::AddMaxLength => self.bodies.forest.add_max_length(alloc),
-            BodyAction::NoStatements => self.bodies.forest.statement(StmtNode::NoStatements),
-            BodyAction::AddCall => self.add_call(alloc),
+            BodyAction::Number => forest.expression(ExprNode::Number(parts.take_literal())),
+            BodyAction::Truth(value) => forest.expression(ExprNode::Truth(value)),
+            BodyAction::Valid => forest.expression(ExprNode::Valid(parts.take_instance(alloc))),
+            BodyAction::Field => forest.expression(ExprNode::Field(parts.take_field(alloc))),
+            BodyAction::Parenthesized => forest.parenthesized(),
+            BodyAction::Unary(operator) => forest.unary(operator),
+            BodyAction::Binary(operator) => forest.binary(operator),
+            BodyAction::NoTails => forest.open_tails(alloc),
+            BodyAction::AddLength => forest.add_length(alloc),
+            BodyAction::AddMaxLength => forest.add_max_length(alloc),
+            BodyAction::NoStatements => forest.statement(StmtNode::NoStatements),
+            BodyAction::AddCall => forest.add_statement(StmtNode::Call(parts.take_name(alloc))),
             BodyAction::AddCallOf(word) => {
-                let name = word.to_text(alloc)?;
-                self.bodies.forest.add_statement(StmtNode::Call(name))
+                forest.add_statement(StmtNode::Call(word.to_text(alloc)?))
             }
-            BodyAction::AddApply => self.add_apply(alloc),
+            BodyAction::AddApply => forest.add_statement(StmtNode::Apply(parts.take_name(alloc))),
             BodyAction::NoBranches => self.no_branches(alloc),
-            BodyAction::AddBranch => self.add_branch(alloc),
+            BodyAction::AddBranch => forest.branch(label_of(parts.take_name(alloc))),
             BodyAction::AddApplyBranches => self.add_apply_branches(alloc),
             BodyAction::NoElse => self.no_else(false),
             BodyAction::NoElseThenCall => self.no_else(true),
@@ -109,36 +101,12 @@ impl Built {
         }
     }
 
-    /// Puts a call of the newest name into the newest list of statements.
-    fn add_call(&mut self, alloc: Global) -> Result<(), OutOfMemory>
-        ensures { OnOk result (self.new ≡ put_body BodyAction.AddCall self.old) }
-    {
-        let name = self.parts.take_name(alloc);
-        self.bodies.forest.add_statement(StmtNode::Call(name))
-    }
-
-    /// Puts `apply` of the newest name into the newest list of statements.
-    fn add_apply(&mut self, alloc: Global) -> Result<(), OutOfMemory>
-        ensures { OnOk result (self.new ≡ put_body BodyAction.AddApply self.old) }
-    {
-        let name = self.parts.take_name(alloc);
-        self.bodies.forest.add_statement(StmtNode::Apply(name))
-    }
-
     /// Begins a list of branches.
     fn no_branches(&mut self, alloc: Global) -> Result<(), OutOfMemory>
         ensures { OnOk result (self.new ≡ put_body BodyAction.NoBranches self.old) }
     {
         self.bodies.forest.statement(StmtNode::NoBranches)?;
         self.bodies.labels.push(Labels::new(alloc))
-    }
-
-    /// Puts a branch of the newest name and list of statements into the list of branches before it.
-    fn add_branch(&mut self, alloc: Global) -> Result<(), OutOfMemory>
-        ensures { OnOk result (self.new ≡ put_body BodyAction.AddBranch self.old) }
-    {
-        let label = label_of(self.parts.take_name(alloc));
-        self.bodies.forest.branch(label)
     }
 
     /// Puts `apply` of the newest name, with the newest branches, into the newest list of statements.

@@ -45,31 +45,35 @@ impl Built {
     ) -> Result<(), OutOfMemory>
         ensures { OnOk result (self.new ≡ put_calculation action self.old) }
     {
+        let Built {
+            parts,
+            calculations,
+            ..
+        } = self;
         match action {
-            CalculationAction::NoItems => self.calculations.items.push(Rows::new(alloc)),
+            CalculationAction::NoItems => calculations.items.push(Rows::new(alloc)),
             CalculationAction::AddItemNumber => {
-                let number = self.parts.take_literal();
-                self.calculations.items.extend(alloc, Item::Number(number))
+                calculations
+                    .items
+                    .extend(alloc, Item::Number(parts.take_literal()))
             }
             CalculationAction::AddItem => {
-                let instance = self.parts.take_instance(alloc);
-                let field = self.parts.field_options.pop_or(None);
-                self.calculations
-                    .items
-                    .extend(alloc, item_of(instance, field))
+                let instance = parts.take_instance(alloc);
+                let field = parts.field_options.pop_or(None);
+                calculations.items.extend(alloc, item_of(instance, field))
             }
-            CalculationAction::NoCond => self.calculations.conditions.push(None),
+            CalculationAction::NoCond => calculations.conditions.push(None),
             CalculationAction::CondValid => {
-                let condition = CalcCond::Valid(self.parts.take_instance(alloc));
-                self.calculations.conditions.push(Some(condition))
+                let condition = CalcCond::Valid(parts.take_instance(alloc));
+                calculations.conditions.push(Some(condition))
             }
             CalculationAction::CondEqual => {
-                let field = self.parts.take_field(alloc);
-                let literal = self.parts.take_literal();
+                let field = parts.take_field(alloc);
+                let literal = parts.take_literal();
                 let condition = CalcCond::Equal(field, literal);
-                self.calculations.conditions.push(Some(condition))
+                calculations.conditions.push(Some(condition))
             }
-            CalculationAction::NoCalcs => self.calculations.entries.push(Rows::new(alloc)),
+            CalculationAction::NoCalcs => calculations.entries.push(Rows::new(alloc)),
             CalculationAction::AddCalc(used_to) => self.add_calc(alloc, used_to),
         }
     }

@@ -38,34 +38,32 @@ impl Built {
     pub fn put_header(&mut self, alloc: Global, action: HeaderAction) -> Result<(), OutOfMemory>
         ensures { OnOk result (self.new ≡ put_header action self.old) }
     {
+        let Built { parts, headers, .. } = self;
         match action {
             HeaderAction::WidthBits => {
-                let width = self.parts.take_literal();
-                self.headers.widths.push(FieldWidth::Bits(width))
+                headers.widths.push(FieldWidth::Bits(parts.take_literal()))
             }
-            HeaderAction::WidthRest => self.headers.widths.push(FieldWidth::Rest),
-            HeaderAction::NoFields => self.headers.fields.push(Rows::new(alloc)),
+            HeaderAction::WidthRest => headers.widths.push(FieldWidth::Rest),
+            HeaderAction::NoFields => headers.fields.push(Rows::new(alloc)),
             HeaderAction::AddField => {
                 let field = Field {
-                    name: self.parts.take_name(alloc),
-                    width: self.headers.widths.pop_or(FieldWidth::Rest),
-                    attributes: self.parts.name_lists.pop_list(alloc),
+                    name: parts.take_name(alloc),
+                    width: headers.widths.pop_or(FieldWidth::Rest),
+                    attributes: parts.name_lists.pop_list(alloc),
                 };
-                self.headers.fields.extend(alloc, field)
+                headers.fields.extend(alloc, field)
             }
-            HeaderAction::NoInitials => self.headers.initials_options.push(None),
-            HeaderAction::EmptyInitials => self.headers.initials.push(Rows::new(alloc)),
+            HeaderAction::NoInitials => headers.initials_options.push(None),
+            HeaderAction::EmptyInitials => headers.initials.push(Rows::new(alloc)),
             HeaderAction::AddInitial => {
-                let field = self.parts.take_name(alloc);
-                let value = self.parts.take_number();
-                self.headers
-                    .initials
-                    .extend(alloc, Initial { field, value })
+                let field = parts.take_name(alloc);
+                let value = parts.take_number();
+                headers.initials.extend(alloc, Initial { field, value })
             }
             HeaderAction::SomeInitials(semicolon) => {
-                let values = self.headers.initials.pop_list(alloc);
+                let values = headers.initials.pop_list(alloc);
                 let initials = Initials { values, semicolon };
-                self.headers.initials_options.push(Some(initials))
+                headers.initials_options.push(Some(initials))
             }
         }
     }

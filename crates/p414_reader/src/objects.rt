@@ -14,46 +14,31 @@ impl Built {
     pub fn put_object(&mut self, alloc: Global, action: ObjectAction) -> Result<(), OutOfMemory>
         ensures { OnOk result (self.new ≡ put_object action self.old) }
     {
+        let Built { parts, objects, .. } = self;
         match action {
-            ObjectAction::NoAttrs => self.objects.push(Rows::new(alloc)),
-            ObjectAction::AddCounts(what) => self.add_state_attr(alloc, StateAttr::Counts(what)),
+            ObjectAction::NoAttrs => objects.push(Rows::new(alloc)),
+            ObjectAction::AddCounts(what) => objects.extend(alloc, StateAttr::Counts(what)),
             ObjectAction::AddDirect => {
-                let name = self.parts.take_name(alloc);
-                self.add_state_attr(alloc, StateAttr::Direct(name))
+                objects.extend(alloc, StateAttr::Direct(parts.take_name(alloc)))
             }
             ObjectAction::AddStatic => {
-                let name = self.parts.take_name(alloc);
-                self.add_state_attr(alloc, StateAttr::Static(name))
+                objects.extend(alloc, StateAttr::Static(parts.take_name(alloc)))
             }
             ObjectAction::AddLayout => {
-                let name = self.parts.take_name(alloc);
-                self.add_state_attr(alloc, StateAttr::Layout(name))
+                objects.extend(alloc, StateAttr::Layout(parts.take_name(alloc)))
             }
             ObjectAction::AddResult => {
-                let field = self.parts.take_field(alloc);
-                self.add_state_attr(alloc, StateAttr::Result(field))
+                objects.extend(alloc, StateAttr::Result(parts.take_field(alloc)))
             }
             ObjectAction::AddInstanceCount => {
-                let count = self.parts.take_literal();
-                self.add_state_attr(alloc, StateAttr::InstanceCount(count))
+                objects.extend(alloc, StateAttr::InstanceCount(parts.take_literal()))
             }
-            ObjectAction::AddWidth => {
-                let width = self.parts.take_literal();
-                self.add_state_attr(alloc, StateAttr::Width(width))
-            }
+            ObjectAction::AddWidth => objects.extend(alloc, StateAttr::Width(parts.take_literal())),
             ObjectAction::AddMinWidth => {
-                let width = self.parts.take_literal();
-                self.add_state_attr(alloc, StateAttr::MinWidth(width))
+                objects.extend(alloc, StateAttr::MinWidth(parts.take_literal()))
             }
-            ObjectAction::AddSaturating => self.add_state_attr(alloc, StateAttr::Saturating),
-            ObjectAction::AddSigned => self.add_state_attr(alloc, StateAttr::Signed),
+            ObjectAction::AddSaturating => objects.extend(alloc, StateAttr::Saturating),
+            ObjectAction::AddSigned => objects.extend(alloc, StateAttr::Signed),
         }
-    }
-
-    /// Puts an attribute into the newest list.
-    fn add_state_attr(&mut self, alloc: Global, attribute: StateAttr) -> Result<(), OutOfMemory>
-        ensures { OnOk result (self.new ≡ with_state_attr attribute self.old) }
-    {
-        self.objects.extend(alloc, attribute)
     }
 }

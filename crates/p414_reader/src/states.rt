@@ -60,35 +60,47 @@ impl Built {
     pub fn put_state(&mut self, alloc: Global, action: StateAction) -> Result<(), OutOfMemory>
         ensures { OnOk result (self.new ≡ put_state action self.old) }
     {
+        let Built { parts, states, .. } = self;
         match action {
             StateAction::ValueCurrent => self.add_current(),
-            StateAction::ValueLatest => self.add_latest(alloc),
-            StateAction::ValueField => self.add_field(alloc),
-            StateAction::ValueNumber => self.add_number(),
-            StateAction::NoValues => self.states.value_lists.push(Rows::new(alloc)),
+            StateAction::ValueLatest => states.values.push(PValue::Latest(parts.take_name(alloc))),
+            StateAction::ValueField => states.values.push(value_of(parts.take_field(alloc))),
+            StateAction::ValueNumber => states.values.push(PValue::Number(parts.take_number())),
+            StateAction::NoValues => states.value_lists.push(Rows::new(alloc)),
             StateAction::AddValue => self.add_value(alloc),
-            StateAction::NoStatements => self.states.statements.push(Rows::new(alloc)),
-            StateAction::AddExtract => self.add_extract(alloc),
+            StateAction::NoStatements => states.statements.push(Rows::new(alloc)),
+            StateAction::AddExtract => {
+                let instance = parts.take_instance(alloc);
+                states.statements.extend(alloc, PStmt::Extract(instance))
+            }
             StateAction::AddSetMetadata => self.add_set_metadata(alloc),
-            StateAction::NoMasked => self.states.masked.push(Rows::new(alloc)),
+            StateAction::NoMasked => states.masked.push(Rows::new(alloc)),
             StateAction::AddMasked => self.add_masked(alloc),
             StateAction::CaseMasked => self.case_masked(alloc),
-            StateAction::CaseDefault => self.states.case_values.push(CaseValues::Default),
-            StateAction::TargetError => self.target_error(alloc),
-            StateAction::TargetState => self.target_state(alloc),
-            StateAction::TargetStateOf(word) => {
-                let name = word.to_text(alloc)?;
-                self.states.targets.push(CaseTarget::State(name))
+            StateAction::CaseDefault => states.case_values.push(CaseValues::Default),
+            StateAction::TargetError => {
+                states
+                    .targets
+                    .push(CaseTarget::ParseError(parts.take_name(alloc)))
             }
-            StateAction::NoCases => self.states.cases.push(Rows::new(alloc)),
+            StateAction::TargetState => {
+                states
+                    .targets
+                    .push(CaseTarget::State(parts.take_name(alloc)))
+            }
+            StateAction::TargetStateOf(word) => {
+                states.targets.push(CaseTarget::State(word.to_text(alloc)?))
+            }
+            StateAction::NoCases => states.cases.push(Rows::new(alloc)),
             StateAction::AddCase => self.add_case(alloc),
             StateAction::ReturnSelect => self.add_select(alloc),
-            StateAction::ReturnState => self.return_state(alloc),
+            StateAction::ReturnState => states.ends.push(Return::State(parts.take_name(alloc))),
             StateAction::ReturnStateOf(word) => {
-                let name = word.to_text(alloc)?;
-                self.states.ends.push(Return::State(name))
+                states.ends.push(Return::State(word.to_text(alloc)?))
             }
-            StateAction::ReturnError => self.return_error(alloc),
+            StateAction::ReturnError => {
+                states.ends.push(Return::ParseError(parts.take_name(alloc)))
+            }
         }
     }
 
@@ -101,46 +113,12 @@ impl Built {
         self.states.values.push(PValue::Current(offset, width))
     }
 
-    /// The field of `latest` by the newest name.
-    fn add_latest(&mut self, alloc: Global) -> Result<(), OutOfMemory>
-        ensures { OnOk result (self.new ≡ put_state StateAction.ValueLatest self.old) }
-    {
-        let name = self.parts.take_name(alloc);
-        self.states.values.push(PValue::Latest(name))
-    }
-
-    /// The newest field as a value.
-    fn add_field(&mut self, alloc: Global) -> Result<(), OutOfMemory>
-        ensures { OnOk result (self.new ≡ put_state StateAction.ValueField self.old) }
-    {
-        let field = self.parts.take_field(alloc);
-        self.states.values.push(value_of(field))
-    }
-
-    /// The newest number as a value.
-    fn add_number(&mut self) -> Result<(), OutOfMemory>
-        ensures { OnOk result (self.new ≡ put_state StateAction.ValueNumber self.old) }
-    {
-        let number = self.parts.take_number();
-        self.states.values.push(PValue::Number(number))
-    }
-
     /// Puts the newest value into the newest list.
     fn add_value(&mut self, alloc: Global) -> Result<(), OutOfMemory>
         ensures { OnOk result (self.new ≡ put_state StateAction.AddValue self.old) }
     {
         let value = self.states.take_value(alloc);
         self.states.value_lists.extend(alloc, value)
-    }
-
-    /// Puts `extract` of the newest instance into the newest list.
-    fn add_extract(&mut self, alloc: Global) -> Result<(), OutOfMemory>
-        ensures { OnOk result (self.new ≡ put_state StateAction.AddExtract self.old) }
-    {
-        let instance = self.parts.take_instance(alloc);
-        self.states
-            .statements
-            .extend(alloc, PStmt::Extract(instance))
     }
 
     /// Puts `set_metadata` of the newest field and value into the newest list.
@@ -171,22 +149,6 @@ impl Built {
         self.states.case_values.push(CaseValues::Values(values))
     }
 
-    /// A case goes to the error of the newest name.
-    fn target_error(&mut self, alloc: Global) -> Result<(), OutOfMemory>
-        ensures { OnOk result (self.new ≡ put_state StateAction.TargetError self.old) }
-    {
-        let name = self.parts.take_name(alloc);
-        self.states.targets.push(CaseTarget::ParseError(name))
-    }
-
-    /// A case goes to the state of the newest name.
-    fn target_state(&mut self, alloc: Global) -> Result<(), OutOfMemory>
-        ensures { OnOk result (self.new ≡ put_state StateAction.TargetState self.old) }
-    {
-        let name = self.parts.take_name(alloc);
-        self.states.targets.push(CaseTarget::State(name))
-    }
-
     /// Puts a case into the newest list.
     fn add_case(&mut self, alloc: Global) -> Result<(), OutOfMemory>
         ensures { OnOk result (self.new ≡ put_state StateAction.AddCase self.old) }
@@ -206,22 +168,6 @@ impl Built {
         let values = self.states.value_lists.pop_list(alloc);
         let cases = self.states.cases.pop_list(alloc);
         self.states.ends.push(Return::Select(values, cases))
-    }
-
-    /// The state ends with the state of the newest name.
-    fn return_state(&mut self, alloc: Global) -> Result<(), OutOfMemory>
-        ensures { OnOk result (self.new ≡ put_state StateAction.ReturnState self.old) }
-    {
-        let name = self.parts.take_name(alloc);
-        self.states.ends.push(Return::State(name))
-    }
-
-    /// The state ends with the error of the newest name.
-    fn return_error(&mut self, alloc: Global) -> Result<(), OutOfMemory>
-        ensures { OnOk result (self.new ≡ put_state StateAction.ReturnError self.old) }
-    {
-        let name = self.parts.take_name(alloc);
-        self.states.ends.push(Return::ParseError(name))
     }
 }
 

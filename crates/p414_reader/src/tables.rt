@@ -35,37 +35,33 @@ impl Built {
     pub fn put_table(&mut self, alloc: Global, action: TableAction) -> Result<(), OutOfMemory>
         ensures { OnOk result (self.new ≡ put_table action self.old) }
     {
+        let Built { parts, tables, .. } = self;
+        let attributes = &mut tables.attributes;
         match action {
-            TableAction::NoReads => self.tables.reads.push(Rows::new(alloc)),
+            TableAction::NoReads => tables.reads.push(Rows::new(alloc)),
             TableAction::AddRead => self.add_read(alloc),
-            TableAction::NoAttrs => self.tables.attributes.push(Rows::new(alloc)),
+            TableAction::NoAttrs => attributes.push(Rows::new(alloc)),
             TableAction::AddReads => {
-                let reads = self.tables.reads.pop_list(alloc);
-                self.add_table_attr(alloc, TableAttr::Reads(reads))
+                attributes.extend(alloc, TableAttr::Reads(tables.reads.pop_list(alloc)))
             }
             TableAction::AddActions => {
-                let names = self.parts.name_lists.pop_list(alloc);
-                self.add_table_attr(alloc, TableAttr::Actions(names))
+                attributes.extend(alloc, TableAttr::Actions(parts.name_lists.pop_list(alloc)))
             }
             TableAction::AddMinSize => {
-                let size = self.parts.take_literal();
-                self.add_table_attr(alloc, TableAttr::MinSize(size))
+                attributes.extend(alloc, TableAttr::MinSize(parts.take_literal()))
             }
             TableAction::AddMaxSize => {
-                let size = self.parts.take_literal();
-                self.add_table_attr(alloc, TableAttr::MaxSize(size))
+                attributes.extend(alloc, TableAttr::MaxSize(parts.take_literal()))
             }
-            TableAction::AddSize => {
-                let size = self.parts.take_literal();
-                self.add_table_attr(alloc, TableAttr::Size(size))
+            TableAction::AddSize => attributes.extend(alloc, TableAttr::Size(parts.take_literal())),
+            TableAction::AddTimeout(on) => attributes.extend(alloc, TableAttr::SupportTimeout(on)),
+            TableAction::AddDefaultAction => {
+                let name = parts.take_name(alloc);
+                let arguments = parts.arguments.pop_or(None);
+                attributes.extend(alloc, TableAttr::DefaultAction(name, arguments))
             }
-            TableAction::AddTimeout(on) => {
-                self.add_table_attr(alloc, TableAttr::SupportTimeout(on))
-            }
-            TableAction::AddDefaultAction => self.add_default_action(alloc),
             TableAction::AddProfile => {
-                let name = self.parts.take_name(alloc);
-                self.add_table_attr(alloc, TableAttr::ActionProfile(name))
+                attributes.extend(alloc, TableAttr::ActionProfile(parts.take_name(alloc)))
             }
         }
     }
@@ -82,22 +78,6 @@ impl Built {
             kind: self.parts.take_name(alloc),
         };
         self.tables.reads.extend(alloc, read)
-    }
-
-    /// Puts `default_action` of the newest name and arguments into the newest list.
-    fn add_default_action(&mut self, alloc: Global) -> Result<(), OutOfMemory>
-        ensures { OnOk result (self.new ≡ put_table TableAction.AddDefaultAction self.old) }
-    {
-        let name = self.parts.take_name(alloc);
-        let arguments = self.parts.arguments.pop_or(None);
-        self.add_table_attr(alloc, TableAttr::DefaultAction(name, arguments))
-    }
-
-    /// Puts an attribute into the newest list.
-    fn add_table_attr(&mut self, alloc: Global, attribute: TableAttr) -> Result<(), OutOfMemory>
-        ensures { OnOk result (self.new ≡ with_table_attr attribute self.old) }
-    {
-        self.tables.attributes.extend(alloc, attribute)
     }
 }
 
