@@ -15,7 +15,7 @@ use crate::token::token_at;
 use p4x_bits::OutOfMemory;
 use p414_ast::Mark;
 use p414_lexemes::Keyword;
-use predictive_parser::{Alternative, Stack, Symbol, choose_first};
+use predictive_parser::{Alternative, Stack, Symbol, behind_operator, choose_first};
 
 const EXPR: Sym = Symbol::Word(Word::Body(BodyWord::Expr(0)));
 
@@ -79,11 +79,11 @@ fn choose_expr(
         None => choose_operand(reading, least, &[], more, place, stack),
         Some(operator) => {
             let power = unary_power(operator);
-            let prefix = [
-                Symbol::Word(Word::Body(BodyWord::Expr(power))),
-                Symbol::Put(Action::Body(BodyAction::Unary(operator))),
-                Symbol::Word(Word::Body(BodyWord::Operators(least, power))),
-            ];
+            let prefix = behind_operator(
+                Word::Body(BodyWord::Expr(power)),
+                Action::Body(BodyAction::Unary(operator)),
+                Word::Body(BodyWord::Operators(least, power)),
+            );
             choose_operand(reading, least, &prefix, more, place, stack)
         }
     }
@@ -169,11 +169,11 @@ fn choose_operator(
         ),
         Some(operator) => {
             let power = binary_power(operator);
-            let rest = [
-                Symbol::Word(Word::Body(BodyWord::Expr(power + 1))),
-                Symbol::Put(Action::Body(BodyAction::Binary(operator))),
-                Symbol::Word(Word::Body(BodyWord::Operators(least, power))),
-            ];
+            let rest = behind_operator(
+                Word::Body(BodyWord::Expr(power + 1)),
+                Action::Body(BodyAction::Binary(operator)),
+                Word::Body(BodyWord::Operators(least, power)),
+            );
             choose_first(
                 reading,
                 &[Alternative { first, rest: &rest }],

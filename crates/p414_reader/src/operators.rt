@@ -8,6 +8,7 @@ use crate::token::TokenView;
 use p414_ast::{BinaryOperator, UnaryOperator};
 use p414_lexemes::{Keyword, Mark};
 use p414_tok::TokenKind14;
+use predictive_parser::may_follow;
 
 /// The operator that a token is, if it is one before an operand.
 pub fn prefix_of(token: TokenView<'_>) -> Option<UnaryOperator>
@@ -85,10 +86,7 @@ pub fn is_infix(least: u8, most: u8, token: TokenView<'_>) -> bool
     ensures { result ≡ is_infix least most (infix_of (lexeme_of token.entry)) }
 {
     match infix_of(token) {
-        Some(operator) => {
-            let power = binary_power(operator);
-            least <= power && power <= most
-        }
+        Some(operator) => may_follow(least, most, binary_power(operator)),
         None => false,
     }
 }

@@ -5,6 +5,7 @@
 mod alternatives;
 mod builder;
 mod choosing;
+mod operators;
 mod parser;
 mod row;
 mod stack;
@@ -13,6 +14,7 @@ mod values;
 
 pub use alternatives::{Alternative, choose_first};
 pub use builder::{Builder, Lookahead};
+pub use operators::{behind_operator, may_follow};
 pub use parser::{ParseError, parse};
 pub use row::{Row, WordRows};
 pub use stack::Stack;

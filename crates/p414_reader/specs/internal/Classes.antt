@@ -11,6 +11,7 @@ use Rattle.p414_ast.specs.declared.node.UnaryOperator.TheVariants as unary
 use Rattle.p414_ast.specs.declared.node.BinaryOperator.{BinaryOperator}
 use Rattle.p414_ast.specs.declared.node.BinaryOperator.TheVariants as binary
 use Rattle.p414_ast.specs.Operators.{unary_power, binary_power}
+use Rattle.predictive_parser.specs.Operators as operators
 use Rattle.p414_ast.specs.Written.{tail_word, table_word, state_word}
 use Rattle.p414_ast.specs.Conditions.{is_among, is_expression_name, is_mixed, Brace, opens, closes, neither, brace_of}
 use Rattle.p414_reader.specs.declared.symbols.Class.{Class}
@@ -111,7 +112,7 @@ is_prefix least (Some operator) = nat_le least (unary_power operator)
 
 abbrev pub is_infix : ℕ → ℕ → Option BinaryOperator → Bool
 is_infix least most None = false
-is_infix least most (Some operator) = nat_le least (binary_power operator) && nat_le (binary_power operator) most
+is_infix least most (Some operator) = operators.may_follow least most (binary_power operator)
 
 abbrev pub is_neither : Brace → Bool
 is_neither opens = false

@@ -18,6 +18,7 @@ use Rattle.p414_ast.specs.declared.node.BinaryOperator.{BinaryOperator}
 use Rattle.p414_ast.specs.declared.syntax.LeftOutKind.{LeftOutKind}
 use Rattle.p414_ast.specs.declared.syntax.LeftOutKind.TheVariants as left_out
 use Rattle.p414_ast.specs.Operators.{unary_power, binary_power}
+use Rattle.predictive_parser.specs.Operators.{behind_prefix, behind_infix}
 use Rattle.p414_lexemes.specs.declared.keyword.Keyword.{Keyword}
 use Rattle.p414_lexemes.specs.declared.keyword.Keyword.TheVariants as key
 use Rattle.p414_reader.specs.declared.symbols.Class.{Class}
@@ -459,12 +460,12 @@ operand_rest least = body_sym (Operators least 12) ∷ []
 abbrev pub prefix_rest : ℕ → Option UnaryOperator → List Sym
 prefix_rest least None = []
 prefix_rest least (Some operator) =
-    body_sym (Expr (unary_power operator)) ∷ Put (action.Body (body.Unary operator)) ∷ body_sym (Operators least (unary_power operator)) ∷ []
+    behind_prefix (λ power. word.Body (Expr power)) (λ least most. word.Body (Operators least most)) least (unary_power operator) (action.Body (body.Unary operator))
 
 abbrev pub infix_rest : ℕ → Option BinaryOperator → List Sym
 infix_rest least None = []
 infix_rest least (Some operator) =
-    body_sym (Expr (suc (binary_power operator))) ∷ Put (action.Body (body.Binary operator)) ∷ body_sym (Operators least (binary_power operator)) ∷ []
+    behind_infix (λ power. word.Body (Expr power)) (λ least most. word.Body (Operators least most)) least (binary_power operator) (action.Body (body.Binary operator))
 
 -- a block of statements, whose brace is to open
 abbrev pub block_sym : List Sym → List Sym
