@@ -1,8 +1,6 @@
 -- Places of nodes, while more nodes are put behind: what is seen of them stays as it was.
-use Rattle.std.proofs.Common.{◌≡◌, ℕ, zero, suc, ◌<◌, ◌≤◌, false, List, [], ◌∷◌, length, refl, sym, subst, ap, ap₂, ◌∙◌, arith}
-use Rattle.std.specs.Prelude.{map, All, Result, Ok, Err, IfOk, OnOk, OnErr}
-use Rattle.std.proofs.lemmas.List.{map-append}
-use Rattle.std.proofs.lemmas.List.Elements.{All-append}
+use Rattle.std.proofs.Common.{◌≡◌, ℕ, zero, suc, ◌<◌, ◌≤◌, List, [], ◌∷◌, length, refl, sym, subst, ap, ap₂, ◌∙◌, arith}
+use Rattle.std.specs.Prelude.{map, Result, Ok, Err, IfOk, OnOk, OnErr}
 use Rattle.p414_ast.specs.declared.headers.TypeTail.{TypeTail}
 use Rattle.p414_ast.specs.declared.headers.TypeTail.TheVariants.{Length, MaxLength}
 use Rattle.p414_ast.specs.declared.node.ExprNode.{ExprNode}

@@ -1,7 +1,7 @@
 // Expressions and statements over earlier ones, as they are put together.
 ghost use Rattle.std.specs.Prelude.{◌≡◌, [], ◌∷◌, length, map, IfOk, OnOk};
 ghost use Rattle.p414_ast.specs.Tree as tree;
-ghost use Rattle.p414_ast.specs.Tree.{Trees, parenthesized, unary, binary, no_statements, apply_branches, branch, else_block, else_if, expr_of, stmt_of, ExprInOrder, StmtInOrder};
+ghost use Rattle.p414_ast.specs.Tree.{parenthesized, unary, binary, no_statements, apply_branches, branch, else_block, else_if, expr_of, stmt_of, ExprInOrder, StmtInOrder};
 ghost use Rattle.p414_ast.specs.Views.{length_is, max_length_is, tail_tree, TailWithin};
 ghost use Rattle.p414_ast.specs.Written.{tail_word};
 ghost use Rattle.p414_ast.specs.Conditions.{is_among};

@@ -1,6 +1,6 @@
 // Counters, meters and registers, as they are put together.
 ghost use Rattle.std.specs.Prelude.{◌≡◌, OnOk};
-ghost use Rattle.p414_reader.specs.internal.Actions.{put_object, with_state_attr};
+ghost use Rattle.p414_reader.specs.internal.Actions.{put_object};
 ghost use Rattle.p414_reader.specs.internal.Built as built;
 
 use crate::built::Built;

@@ -2,7 +2,7 @@
 ghost use Rattle.std.specs.Prelude.{◌≡◌, OnOk};
 ghost use Rattle.p414_reader.specs.declared.symbols.TableAction.TheVariants as TableAction;
 ghost use Rattle.p414_reader.specs.internal.Built.{no_tables};
-ghost use Rattle.p414_reader.specs.internal.Actions.{put_table, key_of, with_table_attr};
+ghost use Rattle.p414_reader.specs.internal.Actions.{put_table, key_of};
 
 use crate::built::Built;
 use crate::symbols::TableAction;

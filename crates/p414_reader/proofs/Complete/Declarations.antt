@@ -1,7 +1,7 @@
 -- Declarations that are spelled with tokens are read of them.
 use Rattle.std.proofs.Common.{◌≡◌, ℕ, zero, suc, true, false, not, ◌&&◌, ◌||◌, List, [], ◌∷◌, ◌++◌, codes, map, Option, Some, None, refl, sym, ap, subst, ◌∙◌, append_assoc, append-nil, eqb-true, arith}
 use Rattle.std.specs.List.{flat_map, list_all}
-use Rattle.predictive_parser.specs.declared.symbol.Symbol.TheVariants.{Token, Put}
+use Rattle.predictive_parser.specs.declared.symbol.Symbol.TheVariants.{Token}
 use Rattle.predictive_parser.specs.declared.symbol.Symbol.TheVariants as symbol
 use Rattle.p414_lexemes.specs.declared.keyword.Keyword.TheVariants as key
 use Rattle.p414_lexemes.specs.declared.lexeme.Lexeme.{Lexeme}
@@ -40,7 +40,7 @@ use Rattle.p414_reader.specs.declared.symbols.BodyWord.TheVariants as body
 use Rattle.p414_reader.specs.internal.Built.{Built, no_bodies}
 use Rattle.p414_reader.specs.internal.Classes.{infix_of}
 use Rattle.p414_reader.specs.internal.Rows as rows
-use Rattle.p414_reader.specs.internal.Rows.{Sym, grammar14}
+use Rattle.p414_reader.specs.internal.Rows.{Sym}
 use Rattle.p414_reader.proofs.Readings.{Goes, Calm, Reads, ◌▷◌, reads, does, from, giving, skips, builds, both, extended_is}
 use Rattle.p414_reader.proofs.Closing.{is_some}
 use Rattle.p414_reader.proofs.Complete.Expressions.{next_power, power_of, expr_read}

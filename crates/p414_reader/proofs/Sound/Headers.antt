@@ -14,7 +14,6 @@ use Rattle.p414_reader.specs.declared.symbols.HeaderWord.{HeaderWord}
 use Rattle.p414_reader.specs.declared.symbols.HeaderWord.TheVariants as header
 use Rattle.predictive_parser.specs.Values.{newest, older}
 use Rattle.p414_reader.specs.internal.Rows.{grammar14}
-use Rattle.p414_lexemes.specs.Keywords.{keyword_text}
 use Rattle.p414_reader.specs.internal.Built.{Built}
 use Rattle.p414_reader.proofs.Meaning.{meaning14}
 use Rattle.p414_reader.proofs.Lists.{by_value, by_kept, by_kept_two, both, end_joined, end_joined_two, extended_by_list, stay_none, stay_extended}
