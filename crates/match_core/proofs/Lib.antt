@@ -2,6 +2,7 @@ pub mod Leaders
 pub mod Matches
 pub mod Ordered
 pub mod Indexes
+pub mod InParts
 pub mod InPairs
 pub mod Sizing
 pub mod Building

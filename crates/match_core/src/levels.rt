@@ -38,12 +38,12 @@ fn stands_at(levels: &[Level], place: usize, bits: u8) -> bool
     place < levels.len() && levels[place].bits == bits
 }
 
-/// The place of the level of so many bits, which is made, with so many marks, where there is none.
+/// The place of the level of so many bits, which is made, for so many entries, where there is none.
 fn level_of(
     alloc: Global,
     levels: &mut Vec<Level>,
     bits: u8,
-    marks: usize,
+    entries: usize,
 ) -> Result<usize, OutOfMemory>
     requires { AreLevels levels.old.items }
     ensures levels { OnOk result (AreLevels levels.new.items) }
@@ -55,17 +55,17 @@ fn level_of(
     if stands_at(levels, place, bits) {
         return Ok(place);
     }
-    let map = NumberMap::new(alloc, marks)?;
+    let map = NumberMap::new(alloc, entries)?;
     levels.insert(place, Level { bits, map })?;
     Ok(place)
 }
 
-/// Puts the number of an entry at a key of the level of so many bits, where none stands. A level that is made has so many
-/// marks.
+/// Puts the number of an entry at a key of the level of so many bits, where none stands. A level that is made serves so many
+/// entries.
 pub fn put(
     alloc: Global,
     levels: &mut Vec<Level>,
-    marks: usize,
+    entries: usize,
     bits: u8,
     key: u128,
     number: u32,
@@ -74,7 +74,7 @@ pub fn put(
     ensures levels { OnOk result (AreLevels levels.new.items) }
     ensures put { OnOk result (IsLevelPut nat_cmp levels.old.items levels.new.items bits key number) }
 {
-    let place = level_of(alloc, levels, bits, marks)?;
+    let place = level_of(alloc, levels, bits, entries)?;
     levels[place].map.put(key, number)?;
     Ok(())
 }

@@ -1,7 +1,7 @@
-// A map from numbers to entries. Marks tell of most numbers at once that the map hasn't them.
-ghost use Rattle.std.specs.Prelude.{◌≡◌, ℕ, ◌%◌, [], true, IfOk, OnOk, slice_index_or, slice_set};
+// A map from numbers to entries, in parts, so that a look-up searches a small one.
+ghost use Rattle.std.specs.Prelude.{◌≡◌, ℕ, ◌≤◌, [], length, IfOk, OnOk, OnErr};
 ghost use Rattle.std.specs.Ordering.{nat_cmp};
-ghost use Rattle.match_core.specs.internal.Maps.{stored, IsPut};
+ghost use Rattle.match_core.specs.internal.Maps.{stored, part_number, joined, AreParts, IsPut};
 
 use crate::exact::put_first;
 use p4x_bits::OutOfMemory;
@@ -9,87 +9,116 @@ use std::alloc::Global;
 use std::collections::BTreeMap;
 use std::marker::Model;
 
-/// How many marks a map has that has any.
-pub const MARKS: usize = 4096;
+/// How many numbers a part has where they are spread evenly over the parts.
+const SHARE: usize = 8;
 
-/// A map from numbers to entries. Each number of the map has its mark set, at its last twelve bits; a place that has no
-/// mark tells nothing.
+/// How many parts a map has at most.
+const MOST_PARTS: usize = 8192;
+
+/// The entries of some of the numbers.
+#[derive(Drop)]
+struct Part {
+    map: BTreeMap<u128, u32>,
+}
+
+impl Model for Part {
+    ghost use Rattle.std.specs.Prelude.{List, ℕ};
+
+    ghost Value = { List (ℕ × ℕ) };
+
+    ghost view = { λ part. part.map.entries };
+}
+
+impl Part {
+    fn new(alloc: Global) -> Part
+        ensures { result ≡ [] }
+    {
+        Part {
+            map: BTreeMap::new(alloc),
+        }
+    }
+
+    fn put(&mut self, number: u128, entry: u32) -> Result<(), OutOfMemory>
+        ensures put { OnOk result (IsPut nat_cmp self.old self.new number entry) }
+        ensures err { OnErr result ((other : ℕ) → stored nat_cmp self.new other ≡ stored nat_cmp self.old other) }
+    {
+        put_first(&mut self.map, number, entry)
+    }
+
+    fn get(&self, number: u128) -> Option<u32>
+        ensures { result ≡ stored nat_cmp self.now number }
+    {
+        self.map.get(&number).copied()
+    }
+}
+
+/// A map from numbers to entries. A number stands in the part that its low bits tell.
 #[derive(Drop)]
 pub struct NumberMap {
-    marks: Vec<bool>,
-    map: BTreeMap<u128, u32>,
+    parts: Vec<Part>,
 }
 
 impl Model for NumberMap {
     ghost use Rattle.std.specs.Prelude.{List, ℕ};
-    ghost use Rattle.match_core.specs.internal.Maps.{IsMarked};
+    ghost use Rattle.match_core.specs.internal.Maps.{joined, AreParts};
 
     ghost Value = { List (ℕ × ℕ) };
 
-    ghost view = { λ numbers. numbers.map.entries };
+    ghost view = { λ numbers. joined numbers.parts.items };
 
-    ghost invariant = { λ numbers. IsMarked numbers.marks.items numbers.map.entries };
+    ghost invariant = { λ numbers. AreParts numbers.parts.items };
 }
 
-/// The place of the mark of a number.
-fn place_of(number: u128) -> usize
-    ensures { result ≡ number % 4096 }
+/// How many parts a map of so many entries has: a power of two.
+fn parts_for(entries: usize) -> usize
+    ensures { 1 ≤ result }
 {
-    (number % 4096) as usize
+    (entries / SHARE).clamp(1, MOST_PARTS).next_power_of_two()
 }
 
-/// Sets the mark of a number, where there is one.
-fn mark(marks: &mut Vec<bool>, number: u128)
-    ensures { marks.new.items ≡ slice_set marks.old.items (number % 4096) true }
+/// The place of the part of a number.
+fn part_number(parts: &[Part], number: u128) -> usize
+    ensures { result ≡ part_number (length parts.now) number }
 {
-    let place = place_of(number);
-    if place < marks.len() {
-        marks[place] = true;
+    let mask = parts.len().saturating_sub(1);
+    ((number % MOST_PARTS as u128) as usize & mask).min(mask)
+}
+
+/// So many parts, which have no numbers.
+fn empty_parts(alloc: Global, count: usize) -> Result<Vec<Part>, OutOfMemory>
+    requires { 1 ≤ count }
+    ensures are { IfOk result (λ parts. AreParts parts.items) }
+    ensures empty { IfOk result (λ parts. joined parts.items ≡ []) }
+{
+    let mut parts = Vec::with_capacity(alloc, count)?;
+    for _ in 0..count {
+        parts.push(Part::new(alloc))?;
     }
-}
-
-/// Whether the mark of a number is set, or there is none.
-fn is_marked(marks: &[bool], number: u128) -> bool
-    ensures { result ≡ slice_index_or marks.now (number % 4096) true }
-{
-    let place = place_of(number);
-    if place < marks.len() {
-        marks[place]
-    } else {
-        true
-    }
+    Ok(parts)
 }
 
 impl NumberMap {
-    /// A map without numbers, with so many marks.
-    pub fn new(alloc: Global, marks: usize) -> Result<NumberMap, OutOfMemory>
+    /// A map without numbers, with as many parts as serve so many entries.
+    pub fn new(alloc: Global, entries: usize) -> Result<NumberMap, OutOfMemory>
         ensures { IfOk result (λ numbers. numbers ≡ []) }
     {
-        let mut unset = Vec::new(alloc);
-        unset.resize(marks, false)?;
-        Ok(NumberMap {
-            marks: unset,
-            map: BTreeMap::new(alloc),
-        })
+        let parts = empty_parts(alloc, parts_for(entries))?;
+        Ok(NumberMap { parts })
     }
 
     /// Puts an entry at a number where none stands.
     pub fn put(&mut self, number: u128, entry: u32) -> Result<(), OutOfMemory>
         ensures { OnOk result (IsPut nat_cmp self.old self.new number entry) }
     {
-        mark(&mut self.marks, number);
-        put_first(&mut self.map, number, entry)?;
-        Ok(())
+        let place = part_number(&self.parts, number);
+        self.parts[place].put(number, entry)
     }
 
     /// The entry of a number.
     pub fn get(&self, number: u128) -> Option<u32>
         ensures { result ≡ stored nat_cmp self.now number }
     {
-        if is_marked(&self.marks, number) {
-            self.map.get(&number).copied()
-        } else {
-            None
-        }
+        let place = part_number(&self.parts, number);
+        self.parts[place].get(number)
     }
 }

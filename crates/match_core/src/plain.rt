@@ -14,7 +14,6 @@ ghost use Rattle.match_core.specs.internal.Codes.{are_plain, code_one, code_of, 
 use crate::entries::{Entry, KeyMatch};
 use crate::key::Key;
 use crate::levels::{Level, put};
-use crate::numbers::MARKS;
 use crate::scan::{has_priority, high_bits, prefix_rank};
 use crate::signatures::{KeyKind, KeySpec};
 use p4x_bits::OutOfMemory;
@@ -79,14 +78,6 @@ pub fn prefix_bits(specs: &[KeySpec], ones: &[KeyMatch]) -> u8
     (128 - prefix_rank(ones)) as u8
 }
 
-/// How many marks a level has: many where a look-up asks several levels.
-fn marks_of(kind: KeyKind) -> usize {
-    match kind {
-        KeyKind::Lpm => MARKS,
-        _ => 0,
-    }
-}
-
 /// The index of a table of one key.
 pub fn number_levels(
     alloc: Global,
@@ -99,13 +90,12 @@ pub fn number_levels(
     ensures levels { IfOk result (λ levels. AreLevels levels.items) }
     ensures index { IfOk result (λ levels. IsCodeIndex (spec ∷ []) entries.now (length entries.now) (number_found levels.items)) }
 {
-    let marks = marks_of(spec.kind);
     let mut levels = Vec::new(alloc);
     for i in 0..entries.len() {
         let ones = entries[i].keys.as_slice();
         let bits = prefix_bits(&[spec], ones);
         let number = first_code(spec, ones);
-        put(alloc, &mut levels, marks, bits, number, i as u32)?;
+        put(alloc, &mut levels, entries.len(), bits, number, i as u32)?;
     }
     Ok(levels)
 }

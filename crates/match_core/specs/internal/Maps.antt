@@ -1,5 +1,5 @@
 -- Maps in which the first number that was put at a key stays.
-use Rattle.std.specs.Prelude.{◌≡◌, ℕ, ◌%◌, Bool, true, List, slice_index_or, Option, Some, is_some, unwrap_or, if◌then◌else◌}
+use Rattle.std.specs.Prelude.{◌≡◌, ℕ, ◌-◌, ◌%◌, ◌≤◌, min, bit_and, true, List, [], ◌∷◌, ◌++◌, length, slice_index_or, Option, Some, is_some, unwrap_or, if◌then◌else◌}
 use Rattle.std.specs.Ordering.{nat_cmp, is_eq}
 use Rattle.std.specs.declared.cmp.Ordering.{Ordering}
 use Rattle.std.specs.Map.{lookup}
@@ -16,7 +16,16 @@ IsPut {K} cmp old new key i =
     stored cmp new other ≡
     (if is_eq (cmp key other) then Some (unwrap_or (stored cmp old key) i) else stored cmp old other)
 
--- each number that a map has is marked, at its last twelve bits; where no mark stands, a number counts as marked
-abbrev pub IsMarked : List Bool → List (ℕ × ℕ) → Type 0
-IsMarked marks map =
-    (number : ℕ) → is_some (stored nat_cmp map number) ≡ true → slice_index_or marks (number % 4096) true ≡ true
+-- the part in which a number stands, of so many: its low bits tell
+abbrev pub part_number : ℕ → ℕ → ℕ
+part_number count number = min (bit_and (number % 8192) (count - 1)) (count - 1)
+
+-- what all parts have, one behind the other
+abbrev pub joined : List (List (ℕ × ℕ)) → List (ℕ × ℕ)
+joined [] = []
+joined (part ∷ parts) = part ++ joined parts
+
+-- there is a part, and a number stands in its own part alone
+pub record AreParts (parts : List (List (ℕ × ℕ))) : Type 0 where
+  pub some : 1 ≤ length parts
+  pub own : (place number : ℕ) → is_some (stored nat_cmp (slice_index_or parts place []) number) ≡ true → place ≡ part_number (length parts) number
