@@ -7,7 +7,7 @@ use Rattle.digraph.specs.Graphs.{Among, successors, IsEdge, WalkTo, OnCycle, IsL
 use Rattle.digraph.specs.Graphs.WalkTo.{Edge, Onward}
 use Rattle.digraph.proofs.Members.{among_place, place_among}
 use Rattle.p414_rules.specs.Walks.{IsWalk, IsCycle}
-use Rattle.parse_graph.specs.declared.graph.StateNode.{StateNode}
+use Rattle.parse_graph.specs.declared.nodes.StateNode.{StateNode}
 use Rattle.parse_graph.specs.Graphs.{extracts_at, next_at, IsWhole, IsIdle, IsLeastIdle}
 use Rattle.parse_graph.specs.internal.IdleEdges.{is_none, extracts_none, idle_next, idle_graph}
 

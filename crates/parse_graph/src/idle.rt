@@ -4,7 +4,7 @@ ghost use Rattle.digraph.specs.Graphs.{IsClosed};
 ghost use Rattle.parse_graph.specs.Graphs.{IsWhole, IsIdle, IsLeastIdle};
 ghost use Rattle.parse_graph.specs.internal.IdleEdges.{extracts_none, idle_next, idle_graph, with_edges};
 
-use crate::graph::{Graph, StateNode};
+use crate::nodes::{Graph, StateNode};
 use digraph::{Components, Digraph};
 use p4x_bits::OutOfMemory;
 use std::alloc::Global;

@@ -1,8 +1,11 @@
 //! The parser states of a P4_14 program as a graph, and its idle cycles.
 #![tactic(auto)]
 
-mod graph;
+mod nodes;
 mod idle;
+mod names;
+mod program;
 
-pub use graph::{Graph, StateNode};
+pub use nodes::{Graph, StateNode};
 pub use idle::first_idle_cycle;
+pub use program::graph;

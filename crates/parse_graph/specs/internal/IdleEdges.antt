@@ -1,7 +1,7 @@
 -- The states that extract nothing as a graph of their own.
 use Rattle.std.specs.Prelude.{ℕ, Bool, true, false, if◌then◌else◌, List, [], ◌∷◌, map, filter, fold}
 use Rattle.digraph.specs.Graphs.{with_edge}
-use Rattle.parse_graph.specs.declared.graph.StateNode.{StateNode}
+use Rattle.parse_graph.specs.declared.nodes.StateNode.{StateNode}
 use Rattle.parse_graph.specs.Graphs.{extracts_at}
 
 abbrev pub is_none : List ℕ → Bool

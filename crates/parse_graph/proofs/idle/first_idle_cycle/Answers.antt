@@ -1,6 +1,6 @@
 use Rattle.std.proofs.Common.{◌∙◌, ℕ, List, sym, ap, subst}
 use Rattle.digraph.specs.Graphs.{IsLeastOnCycle}
-use Rattle.parse_graph.specs.declared.graph.StateNode.{StateNode}
+use Rattle.parse_graph.specs.declared.nodes.StateNode.{StateNode}
 use Rattle.parse_graph.specs.internal.IdleEdges.{idle_graph}
 use Rattle.parse_graph.proofs.Idling.{on_cycle, least_idle}
 use Rattle.parse_graph.proofs.idle.first_idle_cycle.Goals as goal

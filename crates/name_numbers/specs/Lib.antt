@@ -1,0 +1,3 @@
+-- Read Names first.
+pub mod Names
+pub mod internal

@@ -1,0 +1,16 @@
+-- The graph of a program's parser states (P4_14 1.0.5, "Parser Specification").
+use Rattle.std.specs.Prelude.{◌≡◌, ℕ, List, map, codes, Some}
+use Rattle.p414_ast.specs.declared.parsers.Parser.{Parser}
+use Rattle.p414_ast.specs.declared.syntax.Decl.{Decl}
+use Rattle.p414_rules.specs.ParserGraph.{states, state_number, extracts_in, next_in}
+use Rattle.parse_graph.specs.declared.nodes.Graph.{Graph}
+use Rattle.parse_graph.specs.declared.nodes.StateNode.{StateNode}
+
+-- what a state extracts, and the states that its return names, by their numbers
+abbrev pub node_of : List Decl → Parser → StateNode
+node_of ds state = record { extracts = extracts_in ds state; next = next_in ds state }
+
+-- a graph has each state of these declarations, and begins in the one that is named `start`
+pub record IsGraph (ds : List Decl) (g : Graph) : Type 0 where
+  pub states_are : g.states ≡ map (node_of ds) (states ds)
+  pub start_is : state_number ds (codes "start") ≡ Some g.start
