@@ -31,7 +31,11 @@ fn add_edges(graph: &mut Digraph, states: &[StateNode], next: &[u32]) -> Result<
 }
 
 /// Adds a state, with its edges if it extracts nothing.
-fn add_state(graph: &mut Digraph, states: &[StateNode], state: &StateNode) -> Result<(), OutOfMemory>
+fn add_state(
+    graph: &mut Digraph,
+    states: &[StateNode],
+    state: &StateNode,
+) -> Result<(), OutOfMemory>
     requires { All (λ s. s < length states.now) state.now.next }
     ensures { OnOk result (graph.new ≡ graph.old ++ idle_next states.now state.now ∷ []) }
 {

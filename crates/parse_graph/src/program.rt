@@ -1,10 +1,11 @@
 // The graph of a program's parser states (P4_14 1.0.5, "Parser Specification").
-ghost use Rattle.std.specs.Prelude.{◌≡◌, ◌≢◌, ℕ, None, codes, filter_map, map, IfOk, OnOk};
-ghost use Rattle.p414_rules.specs.ParserGraph.{state_number, extracts_in, next_in, case_target_of, states};
+ghost use Rattle.std.specs.Prelude.{◌≡◌, ◌≢◌, ◌↔◌, ℕ, None, codes, filter_map, map, IfOk, OnOk};
+ghost use Rattle.p414_rules.specs.ParserGraph.{state_number, extracts_in, next_in, case_target_of, states, HasIdleCycle};
+ghost use Rattle.parse_graph.specs.Graphs.{IsWhole, IsIdle};
 ghost use Rattle.parse_graph.specs.Programs.{IsGraph, node_of};
 
-use crate::nodes::{Graph, StateNode};
 use crate::names::Names;
+use crate::nodes::{Graph, StateNode};
 use p4x_bits::{Numbers, OutOfMemory, Rows};
 use p414_ast::{Case, CaseTarget, Decl, PStmt, Parser, Return, Syntax14};
 use std::alloc::Global;
@@ -85,13 +86,13 @@ fn nodes_of(
 /// linear in the syntax but for the search of names; the one error is want of memory.
 pub fn graph(alloc: Global, syntax: &Syntax14) -> Result<Graph, OutOfMemory>
     requires { state_number syntax.now.decls (codes "start") ≢ None }
-    ensures { IfOk result (IsGraph syntax.now.decls) }
+    ensures graph { IfOk result (IsGraph syntax.now.decls) }
+    ensures whole { IfOk result (λ g. IsWhole g.states) }
+    ensures idle { IfOk result (λ g. HasIdleCycle syntax.now.decls ↔ ((s : ℕ) × IsIdle g.states s)) }
 {
     let decls = syntax.decls.as_slice();
     let names = Names::of(alloc, decls)?;
     let states = nodes_of(alloc, &names, decls)?;
-    let start = names
-        .state_number(b"start".as_slice())
-        .unwrap_or_default();
+    let start = names.state_number(b"start".as_slice()).unwrap_or_default();
     Ok(Graph { states, start })
 }
