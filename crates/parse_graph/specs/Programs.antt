@@ -1,5 +1,5 @@
 -- The graph of a program's parser states (P4_14 1.0.5, "Parser Specification").
-use Rattle.std.specs.Prelude.{◌≡◌, ℕ, List, map, codes, Some}
+use Rattle.std.specs.Prelude.{◌≡◌, ℕ, List, map, codes, unwrap_or}
 use Rattle.p414_ast.specs.declared.parsers.Parser.{Parser}
 use Rattle.p414_ast.specs.declared.syntax.Decl.{Decl}
 use Rattle.p414_rules.specs.ParserGraph.{states, state_number, extracts_in, next_in}
@@ -10,7 +10,8 @@ use Rattle.parse_graph.specs.declared.nodes.StateNode.{StateNode}
 abbrev pub node_of : List Decl → Parser → StateNode
 node_of ds state = record { extracts = extracts_in ds state; next = next_in ds state }
 
--- a graph has each state of these declarations, and begins in the one that is named `start`
+-- a graph has each state of these declarations, and begins in the one that is named `start`; in state 0, where there is
+-- none
 pub record IsGraph (ds : List Decl) (g : Graph) : Type 0 where
   pub states_are : g.states ≡ map (node_of ds) (states ds)
-  pub start_is : state_number ds (codes "start") ≡ Some g.start
+  pub start_is : g.start ≡ unwrap_or (state_number ds (codes "start")) 0

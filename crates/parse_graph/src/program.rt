@@ -1,5 +1,5 @@
 // The graph of a program's parser states (P4_14 1.0.5, "Parser Specification").
-ghost use Rattle.std.specs.Prelude.{◌≡◌, ◌≢◌, ◌↔◌, ℕ, None, codes, filter_map, map, IfOk, OnOk};
+ghost use Rattle.std.specs.Prelude.{◌≡◌, ◌↔◌, ℕ, filter_map, map, IfOk};
 ghost use Rattle.p414_rules.specs.ParserGraph.{state_number, extracts_in, next_in, case_target_of, states, HasIdleCycle};
 ghost use Rattle.parse_graph.specs.Graphs.{IsWhole, IsIdle};
 ghost use Rattle.parse_graph.specs.Programs.{IsGraph, node_of};
@@ -82,10 +82,10 @@ fn nodes_of(
     Ok(nodes)
 }
 
-/// The parser states of a program that has a state `start` as a graph. A name that no state has leads to none. In time
-/// linear in the syntax but for the search of names; the one error is want of memory.
+/// The parser states of a program as a graph. A name that no state has leads to none, and where no state is named `start`,
+/// which C2 refuses, the graph begins in state 0. In time linear in the syntax but for the search of names; the one error
+/// is want of memory.
 pub fn graph(alloc: Global, syntax: &Syntax14) -> Result<Graph, OutOfMemory>
-    requires { state_number syntax.now.decls (codes "start") ≢ None }
     ensures graph { IfOk result (IsGraph syntax.now.decls) }
     ensures whole { IfOk result (λ g. IsWhole g.states) }
     ensures idle { IfOk result (λ g. HasIdleCycle syntax.now.decls ↔ ((s : ℕ) × IsIdle g.states s)) }
