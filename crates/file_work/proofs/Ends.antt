@@ -1,5 +1,7 @@
 -- The ends of the work by their statuses.
 use Rattle.std.proofs.Common.{◌≡◌, ◌⊎◌, inl, inr, ℕ, List, Option, Some, None, Result, Ok, Err, refl, ap, arith}
+use Rattle.p4x_fault.specs.declared.Fault.{Fault as Refusal}
+use Rattle.file_work.specs.declared.stop.Limited.{Limited}
 use Rattle.file_work.specs.declared.stop.Stop.{Stop}
 use Rattle.file_work.specs.declared.stop.Stop.TheVariants.{Fault, Usage, Program, Entries, Refused, Limit, Memory}
 use Rattle.file_work.specs.Stops.{code_of, stop_code}
@@ -49,6 +51,46 @@ is_usage (Err Entries) is = absurd (omega arith)
 is_usage (Err (Refused fault)) is = absurd (omega arith)
 is_usage (Err (Limit file)) is = absurd (omega arith)
 is_usage (Err Memory) is = absurd (omega arith)
+
+pub is_program : (end : Result (List ℕ) Stop) → code_of end ≡ 3 → end ≡ Err Program
+is_program (Ok line) is = absurd (omega arith)
+is_program (Err Fault) is = absurd (omega arith)
+is_program (Err Usage) is = absurd (omega arith)
+is_program (Err Program) is = refl
+is_program (Err Entries) is = absurd (omega arith)
+is_program (Err (Refused fault)) is = absurd (omega arith)
+is_program (Err (Limit file)) is = absurd (omega arith)
+is_program (Err Memory) is = absurd (omega arith)
+
+pub is_entries : (end : Result (List ℕ) Stop) → code_of end ≡ 4 → end ≡ Err Entries
+is_entries (Ok line) is = absurd (omega arith)
+is_entries (Err Fault) is = absurd (omega arith)
+is_entries (Err Usage) is = absurd (omega arith)
+is_entries (Err Program) is = absurd (omega arith)
+is_entries (Err Entries) is = refl
+is_entries (Err (Refused fault)) is = absurd (omega arith)
+is_entries (Err (Limit file)) is = absurd (omega arith)
+is_entries (Err Memory) is = absurd (omega arith)
+
+pub is_refused : (end : Result (List ℕ) Stop) → code_of end ≡ 5 → (fault : Refusal) × (end ≡ Err (Refused fault))
+is_refused (Ok line) is = absurd (omega arith)
+is_refused (Err Fault) is = absurd (omega arith)
+is_refused (Err Usage) is = absurd (omega arith)
+is_refused (Err Program) is = absurd (omega arith)
+is_refused (Err Entries) is = absurd (omega arith)
+is_refused (Err (Refused fault)) is = (fault, refl)
+is_refused (Err (Limit file)) is = absurd (omega arith)
+is_refused (Err Memory) is = absurd (omega arith)
+
+pub is_limit : (end : Result (List ℕ) Stop) → code_of end ≡ 6 → (file : Limited) × (end ≡ Err (Limit file))
+is_limit (Ok line) is = absurd (omega arith)
+is_limit (Err Fault) is = absurd (omega arith)
+is_limit (Err Usage) is = absurd (omega arith)
+is_limit (Err Program) is = absurd (omega arith)
+is_limit (Err Entries) is = absurd (omega arith)
+is_limit (Err (Refused fault)) is = absurd (omega arith)
+is_limit (Err (Limit file)) is = (file, refl)
+is_limit (Err Memory) is = absurd (omega arith)
 
 -- a loose end has status 1 or 7
 pub loose_code : (end : Result (List ℕ) Stop) → IsLoose end → (code_of end ≡ 1) ⊎ (code_of end ≡ 7)

@@ -1,5 +1,6 @@
 pub mod Ends
 pub mod Files
 pub mod Laws
+pub mod Order
 pub mod Phases
 pub mod Ways

@@ -25,6 +25,11 @@ OwnRose inputs outputs old new before after = DeskRose inputs outputs old new �
 abbrev pub ComesWhere : ℕ → ℕ → Type 0 → Type 0
 ComesWhere status code cause = (status ≡ code → cause) × (cause → (status ≡ code) ⊎ (status ≡ 1) ⊎ (status ≡ 7))
 
+-- The same of a cause behind which another one may have this status too: with the status one of both holds.
+abbrev pub ComesFirst : ℕ → ℕ → Type 0 → Type 0 → Type 0
+ComesFirst status code cause later =
+    (status ≡ code → cause ⊎ later) × (cause → (status ≡ code) ⊎ (status ≡ 1) ⊎ (status ≡ 7))
+
 -- no file changed but these
 abbrev pub OnlyThese : List (List ℕ) → DeskView → DeskView → Type 0
 OnlyThese outputs old new = (name : List ℕ) → NoneIs name outputs → new.told name ≡ old.told name

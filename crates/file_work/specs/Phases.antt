@@ -14,6 +14,12 @@ line_view (Err e) = Err e
 abbrev pub Loosely : Stop → Type 0 → Type 0
 Loosely stop P = (stop ≡ Fault) ⊎ (stop ≡ Memory) ⊎ P
 
+-- The work reads some files first. Where it is done, they were taken. Where it stops, it stops at them, or they were
+-- taken and the stop is none that they alone come to; or it is a fault or want of memory.
+abbrev pub StopsOrGoesOn : {A : Type 0} → (Stop → Type 0) → Type 0 → (Stop → Type 0) → Result A Stop → Type 0
+StopsOrGoesOn stops taken own (Ok done) = taken
+StopsOrGoesOn stops taken own (Err stop) = Loosely stop (stops stop ⊎ (taken × (own stop → ⊥)))
+
 -- what a desk tells of a file: nothing, or its content where it is there
 abbrev pub Told : Type 0
 Told = Option (Option (List ℕ))

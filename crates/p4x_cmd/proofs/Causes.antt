@@ -16,9 +16,9 @@ use Rattle.file_work.proofs.Ends.{is_fault, is_usage, not_done}
 use Rattle.file_work.proofs.Files.{put_told}
 use Rattle.file_work.proofs.Laws.{all_part, IsDone, left_fronts, left_ends, left_as_due, left_done}
 use Rattle.p4x_cmd.specs.declared.one_table.OneTable14.{OneTable14}
-use Rattle.p4x_cmd.specs.Calls.{OnTold, AreTold, Carried, Done, CarryStatuses, Statuses, AcceptsAll, Usages, CarryLeft, Left, FilesLeft, Translated, IsEnd, PacketsFit, WorksFor, inputs_in, outputs_in, RefusesCapture, OverCapture}
+use Rattle.p4x_cmd.specs.Calls.{OnTold, OnForm, AreTold, Carried, Done, CarryStatuses, Statuses, AcceptsAll, Usages, CarryLeft, Left, FilesLeft, Translated, IsEnd, PacketsFit, WorksFor, inputs_in, outputs_in, RefusesCapture, OverCapture}
 use Rattle.p4x_cmd.specs.Carries.{SameRuns}
-use Rattle.p4x_cmd.specs.Carry.{CarryDue, ProgramIs, Begins, StopsBefore, Written, capture_reports, delivered}
+use Rattle.p4x_cmd.specs.Carry.{CarryDue, ProgramIs, Begins, InOrder, StopsBefore, Written, capture_reports, delivered}
 use Rattle.p4x_cmd.specs.Entries.{no_entries}
 use Rattle.p4x_cmd.specs.Forms14.{Reads14}
 use Rattle.p4x_cmd.specs.Meaning14.{signature14}
@@ -26,8 +26,9 @@ use Rattle.p4x_cmd.specs.Meaning16.{Run16, signature16}
 use Rattle.p4x_cmd.specs.Runs.{default_bound, this_run, this_run14}
 use Rattle.p4x_cmd.proofs.Captured.{Whole, whole_capture, empty_reports}
 use Rattle.p4x_cmd.proofs.Filling.{no_entries_fit, signature_is}
+use Rattle.p4x_cmd.proofs.Judging.{program_first, entries_first, ports_first}
 use Rattle.p4x_cmd.proofs.Reading14.{reads14_once}
-use Rattle.p4x_cmd.proofs.Statuses.{KnownSo, due_ends, statuses_are, begins_not}
+use Rattle.p4x_cmd.proofs.Statuses.{AllStatuses, KnownSo, due_ends, statuses_are, begins_not}
 
 -- a program that is taken is the only one that its text reads as
 one_program : (o : Option (List ℕ)) (p : OneTable14) → ProgramIs o (Ok p) → (read : List ℕ) (other : OneTable14) → o ≡ Some read → Reads14 read other → other ≡ p
@@ -134,7 +135,7 @@ module _ (f : CarryFiles) (files : List ℕ → Option (List ℕ)) (old new : De
   known_by status (inr (inr due)) = inr (inr (due_ends f files status due.0 due.1 due.2))
 
   module _ (before after : SinkView) (status : ℕ) (end : Result (List ℕ) Stop) (leaves : Leaves (carry_outputs f) (CarryDue f files) end old new) (as_due : AsDue (CarryDue f files) old new status) where
-    statuses : CarryStatuses f files status
+    statuses : AllStatuses f files status
     statuses = statuses_are f files status (known_by status as_due)
 
     files_left : CarryLeft f files old new status
@@ -144,6 +145,25 @@ module _ (f : CarryFiles) (files : List ℕ → Option (List ℕ)) (old new : De
       fronts = left_fronts (carry_outputs f) (CarryDue f files) old new end leaves;
       as_due = as_due;
     }
+
+  -- each cause by the files that are read until it is found
+  each_status : (before after : SinkView) (status : ℕ) → Ended (WorksFor (Some (carry f)) old new) before after status → CarryStatuses f old files status
+  each_status before after status e = record {
+    program = λ told. program_first f files status before after e.end e.says (order.program files told);
+    entries = λ told. entries_first f files status before after e.end e.says (order.entries files told);
+    ports = λ told. ports_first f files status before after e.end e.says (order.ports files told);
+    refused = λ told. (all told).refused;
+    limit = λ told. (all told).limit;
+    accepted = λ told. (all told).accepted;
+  }
+    where
+      order : InOrder f old e.end
+      order = e.is.2
+
+      all : Tells (carry_inputs f) old files → AllStatuses f files status
+      all told =
+          let leaves = e.is.0.leaves files told in
+          statuses before after status e.end leaves (left_as_due (carry_outputs f) (CarryDue f files) old new e.end leaves before after status e.says)
 
 -- one of three where the second doesn't hold
 not_second : (A B C : Type 0) → (B → ⊥) → A ⊎ B ⊎ C → A ⊎ C
@@ -172,11 +192,14 @@ usages (Some (carry f)) old new before after status ended = λ two. elim ended.s
 
 ends : (found : Option Command) (old new : DeskView) (end : Result (List ℕ) Stop) → WorksFor found old new end → IsEnd found old end
 ends None old new end works = works.0
-ends (Some (carry f)) old new end works = λ files told. left_ends (carry_outputs f) (CarryDue f files) old new end (works.0.leaves files told)
+ends (Some (carry f)) old new end works = ((λ files told. left_ends (carry_outputs f) (CarryDue f files) old new end (works.0.leaves files told)), works.2)
 
 only : (found : Option Command) (old new : DeskView) (end : Result (List ℕ) Stop) → WorksFor found old new end → (name : List ℕ) → NoneIs name (outputs_in found) → new.told name ≡ old.told name
 only None old new end works name none = ap (λ (d : DeskView). d.told name) works.1
 only (Some (carry f)) old new end works name none = works.0.moves.others name none
+
+statuses_of : (c : Command) (files : List ℕ → Option (List ℕ)) (old new : DeskView) (before after : SinkView) (status : ℕ) → Ended (WorksFor (Some c) old new) before after status → Statuses c old files status
+statuses_of (carry f) files old new before after status ended = each_status f files old new before after status ended
 
 -- what holds of the work of a command
 module _ (c : Command) (files : List ℕ → Option (List ℕ)) (old new : DeskView) (before after : SinkView) (status : ℕ) (ended : Ended (WorksFor (Some c) old new) before after status) (told : Tells (inputs_of c) old files) where
@@ -187,14 +210,6 @@ module _ (c : Command) (files : List ℕ → Option (List ℕ)) (old new : DeskV
       by_command (carry f) e t m =
           carried f files old new t m before after e.end e.is.1 (left_done (carry_outputs f) (CarryDue f files) old new e.end (e.is.0.leaves files t) before after status e.says zero)
 
-  statuses_of : Statuses c files status
-  statuses_of = by_command c ended told
-    where
-      by_command : (c : Command) → Ended (WorksFor (Some c) old new) before after status → Tells (inputs_of c) old files → Statuses c files status
-      by_command (carry f) e t =
-          let leaves = e.is.0.leaves files t in
-          statuses f files old new before after status e.end leaves (left_as_due (carry_outputs f) (CarryDue f files) old new e.end leaves before after status e.says)
-
   left_of : Left c files old new status
   left_of = by_command c ended told
     where
@@ -204,10 +219,10 @@ module _ (c : Command) (files : List ℕ → Option (List ℕ)) (old new : DeskV
           files_left f files old new before after status e.end leaves (left_as_due (carry_outputs f) (CarryDue f files) old new e.end leaves before after status e.says)
 
   taken_of : AcceptsAll c files → (status ≡ 0) ⊎ (status ≡ 1) ⊎ (status ≡ 7)
-  taken_of taken = by_command c statuses_of taken
+  taken_of taken = by_command c (statuses_of c files old new before after status ended) told taken
     where
-      by_command : (c : Command) → Statuses c files status → AcceptsAll c files → (status ≡ 0) ⊎ (status ≡ 1) ⊎ (status ≡ 7)
-      by_command (carry f) s t = s.accepted.1 t
+      by_command : (c : Command) → Statuses c old files status → Tells (inputs_of c) old files → AcceptsAll c files → (status ≡ 0) ⊎ (status ≡ 1) ⊎ (status ≡ 7)
+      by_command (carry f) s told t = (s.accepted told).1 t
 
 module _ (found : Option Command) (old new : DeskView) (before after : SinkView) (status : ℕ) (ended : Ended (WorksFor found old new) before after status) where
   pub fault_is : status ≡ 1 → OwnRose (inputs_in found) (outputs_in found) old new before after
@@ -228,8 +243,8 @@ module _ (found : Option Command) (old new : DeskView) (before after : SinkView)
   pub carried_is : OnTold found old (λ c files. AreTold (outputs_of c) old → status ≡ 0 → Done c files new before after)
   carried_is = λ c files is told. done_of c files old new before after status (of_some c is) told
 
-  pub statuses_is : OnTold found old (λ c files. Statuses c files status)
-  statuses_is = λ c files is told. statuses_of c files old new before after status (of_some c is) told
+  pub statuses_is : OnForm found (λ c files. Statuses c old files status)
+  statuses_is = λ c files is. statuses_of c files old new before after status (of_some c is)
 
   pub complete_is : OnTold found old (λ c files. AcceptsAll c files → (OwnRose (inputs_in found) (outputs_in found) old new before after → ⊥) → (status ≡ 0) ⊎ (status ≡ 7))
   complete_is = λ c files is told taken none.

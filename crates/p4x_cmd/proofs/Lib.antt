@@ -6,9 +6,11 @@ pub mod Delivering
 pub mod Dividing
 pub mod Filling
 pub mod HeaderLaws
+pub mod Judging
 pub mod Judging14
 pub mod Left
 pub mod Named
+pub mod Order
 pub mod Packets
 pub mod Pass16
 pub mod Phases

@@ -2,6 +2,7 @@
 use Rattle.std.proofs.Common.{◌≡◌, ◌⊎◌, inl, inr, ◌≤◌, ℕ, nat_lt, ◌==◌, MatchBool, Bool, true, false, if◌then◌else◌, List, [], ◌∷◌, length, Option, Some, None, Result, Ok, Err, refl, sym, ◌∙◌, ap, subst, arith}
 use Rattle.p4x_fault.specs.declared.Fault.{Fault as Refusal}
 use Rattle.pcap_io.specs.Ports.{ports_of}
+use Rattle.p4x_io.specs.Desk.{DeskView}
 use Rattle.p4x_cmd.specs.declared.one_table.OneTable14.{OneTable14}
 use Rattle.file_work.specs.declared.stop.Limited.TheVariants.{Ports, Capture}
 use Rattle.file_work.specs.declared.stop.Stop.{Stop}
@@ -9,20 +10,20 @@ use Rattle.file_work.specs.declared.stop.Stop.TheVariants.{Fault, Usage, Program
 use Rattle.p4x_cmd.specs.Calls.{CarryStatuses, Accepts, RefusesProgram, RefusesEntries, RefusesPorts, RefusesCapture, OverPorts, OverCapture}
 use Rattle.p4x_cmd.specs.Carry.{CarryDue, ProgramIs, IsRefused, HasProgram, Begins, StopsBefore, entries_stop, taken_ports, ports_in, ports_end, ports_limit, program_limit}
 use Rattle.file_work.specs.Clauses.{ComesWhere}
-use Rattle.file_work.specs.Works.{Due}
+use Rattle.file_work.specs.Works.{Due, Tells}
 use Rattle.file_work.proofs.Ends.{stop_in, code_at, code_stop}
 use Rattle.file_work.proofs.Ways.{Ends, Known, comes_where}
 use Rattle.file_work.specs.Stops.{code_of, stop_code}
-use Rattle.command_words.specs.Words.{CarryFiles}
+use Rattle.command_words.specs.Words.{CarryFiles, carry_inputs}
 use Rattle.p4x_cmd.proofs.Captured.{capture_stop, reports_stop, CaptureEnd, capture_ends, capture_taken, capture_over}
 
 -- What the file of the program can come to.
 
-abbrev program_stop : Option (List ℕ) → Stop
+abbrev pub program_stop : Option (List ℕ) → Stop
 program_stop None = Fault
 program_stop (Some text) = Program
 
-program_stops : (o : Option (List ℕ)) (stop : Stop) → ProgramIs o (Err stop) → stop ≡ program_stop o
+pub program_stops : (o : Option (List ℕ)) (stop : Stop) → ProgramIs o (Err stop) → stop ≡ program_stop o
 program_stops None Fault is = refl
 program_stops None Usage is = absurd is
 program_stops None Program is = absurd is
@@ -39,7 +40,7 @@ program_stops (Some text) (Limit file) is = absurd is
 program_stops (Some text) Memory is = absurd is
 
 -- a program that is taken doesn't stop the command
-taken_goes_on : (o : Option (List ℕ)) (p : OneTable14) (stop : Stop) → ProgramIs o (Ok p) → ProgramIs o (Err stop) → ⊥
+pub taken_goes_on : (o : Option (List ℕ)) (p : OneTable14) (stop : Stop) → ProgramIs o (Ok p) → ProgramIs o (Err stop) → ⊥
 taken_goes_on None p stop taken is = taken
 taken_goes_on (Some text) p stop taken is = refused (subst (λ (s : Stop). ProgramIs (Some text) (Err s)) (program_stops (Some text) stop is) is)
   where
@@ -49,25 +50,25 @@ taken_goes_on (Some text) p stop taken is = refused (subst (λ (s : Stop). Progr
 
 -- What the entries and the ports can come to.
 
-abbrev EntriesEnd : Option Stop → Type 0
+abbrev pub EntriesEnd : Option Stop → Type 0
 EntriesEnd None = Unit {0}
 EntriesEnd (Some Fault) = Unit {0}
 EntriesEnd (Some Entries) = Unit {0}
 EntriesEnd (Some stop) = ⊥
 
-entries_ends : (o : Option (List ℕ)) → EntriesEnd (entries_stop o)
+pub entries_ends : (o : Option (List ℕ)) → EntriesEnd (entries_stop o)
 entries_ends None = tt
 entries_ends (Some []) = tt
 entries_ends (Some (b ∷ octets)) = tt
 
-abbrev PortsEnd : Result (List ℕ) Stop → Type 0
+abbrev pub PortsEnd : Result (List ℕ) Stop → Type 0
 PortsEnd (Ok ports) = Unit {0}
 PortsEnd (Err Fault) = Unit {0}
 PortsEnd (Err (Refused fault)) = Unit {0}
 PortsEnd (Err (Limit Ports)) = Unit {0}
 PortsEnd (Err stop) = ⊥
 
-ports_ends : (files : List ℕ → Option (List ℕ)) (o : Option (List ℕ)) → PortsEnd (ports_end files o)
+pub ports_ends : (files : List ℕ → Option (List ℕ)) (o : Option (List ℕ)) → PortsEnd (ports_end files o)
 ports_ends files None = tt
 ports_ends files (Some name) = in_file (files name)
   where
@@ -83,6 +84,24 @@ ports_ends files (Some name) = in_file (files name)
     in_file None = tt
     in_file (Some text) = by_limit (nat_lt ports_limit (length text)) text
 
+-- the statuses with their causes, where the desk tells all inputs
+pub record AllStatuses (f : CarryFiles) (files : List ℕ → Option (List ℕ)) (status : ℕ) : Type 0 where
+  pub accepted : ComesWhere status 0 (Accepts f files)
+  pub program : ComesWhere status 3 (RefusesProgram f files)
+  pub entries : ComesWhere status 4 (RefusesEntries f files)
+  pub refused : ComesWhere status 5 (RefusesPorts f files ⊎ RefusesCapture f files)
+  pub limit : ComesWhere status 6 (OverPorts f files ⊎ OverCapture f files)
+
+-- they follow from what each cause says by itself
+pub all_statuses : (f : CarryFiles) (old : DeskView) (files : List ℕ → Option (List ℕ)) (status : ℕ) → CarryStatuses f old files status → Tells (carry_inputs f) old files → AllStatuses f files status
+all_statuses f old files status each told = record {
+  accepted = each.accepted told;
+  program = each.program (told.0, tt);
+  entries = each.entries (told.0, (told.1.0, tt));
+  refused = each.refused told;
+  limit = each.limit told;
+}
+
 module _ (f : CarryFiles) (files : List ℕ → Option (List ℕ)) where
   -- The work stops here, or nowhere.
   abbrev Comes : Option Stop → Type 0
@@ -96,7 +115,7 @@ module _ (f : CarryFiles) (files : List ℕ → Option (List ℕ)) where
 
   -- It stops at one place only.
 
-  entries_not_both : (stop : Stop) → entries_stop (files f.entries) ≡ Some stop → entries_stop (files f.entries) ≡ None → ⊥
+  pub entries_not_both : (stop : Stop) → entries_stop (files f.entries) ≡ Some stop → entries_stop (files f.entries) ≡ None → ⊥
   entries_not_both stop some none = cc (some, none)
 
   pub begins_not : (p : OneTable14) (ports : List ℕ) (stop : Stop) → Begins f files p ports → StopsBefore f files stop → ⊥
@@ -104,7 +123,7 @@ module _ (f : CarryFiles) (files : List ℕ → Option (List ℕ)) where
   begins_not p ports stop begins (inr (inl entries)) = entries_not_both stop entries.2 begins.0.1
   begins_not p ports stop begins (inr (inr refused)) = let other = refused.2 in let taken = begins.1 in cc (other, taken)
 
-  stops_once : (a b : Stop) → StopsBefore f files a → StopsBefore f files b → a ≡ b
+  pub stops_once : (a b : Stop) → StopsBefore f files a → StopsBefore f files b → a ≡ b
   stops_once a b (inl one) (inl other) = program_stops (files f.program) a one ∙ sym (program_stops (files f.program) b other)
   stops_once a b (inl one) (inr (inl other)) = absurd (taken_goes_on (files f.program) other.0 a other.1 one)
   stops_once a b (inl one) (inr (inr other)) = absurd (taken_goes_on (files f.program) other.0 a other.1.0 one)
@@ -205,7 +224,7 @@ module _ (f : CarryFiles) (files : List ℕ → Option (List ℕ)) where
   comes = comes_where Comes CauseOf comes_once cause_of
 
   -- each status comes exactly where its cause holds
-  pub statuses_are : (status : ℕ) → KnownSo status → CarryStatuses f files status
+  pub statuses_are : (status : ℕ) → KnownSo status → AllStatuses f files status
   statuses_are status known = record {
     accepted = comes status 0 (λ e. omega arith) (λ e. omega arith) known accepted_ends;
     program = comes status 3 (λ e. omega arith) (λ e. omega arith) known program_ends;

@@ -7,7 +7,7 @@ use Rattle.command_words.specs.Words.{CarryFiles, Command, carry, carry_inputs, 
 use Rattle.file_work.specs.declared.stop.Limited.TheVariants as limited
 use Rattle.file_work.specs.declared.stop.Stop.{Stop}
 use Rattle.file_work.specs.declared.stop.Stop.TheVariants.{Usage, Program, Entries, Refused, Limit}
-use Rattle.file_work.specs.Clauses.{ComesWhere, EndsAsDue, OnlyThese, Fronts, AsDue}
+use Rattle.file_work.specs.Clauses.{ComesWhere, ComesFirst, EndsAsDue, OnlyThese, Fronts, AsDue}
 use Rattle.file_work.specs.Works.{Held, Due, Works, AllKept, Tells}
 use Rattle.fabric.specs.Numbers.{IsArrival}
 use Rattle.fabric.specs.declared.packets.Arrival.{Arrival}
@@ -18,7 +18,7 @@ use Rattle.match_core.specs.Fits.{Fits}
 use Rattle.p4x_cmd.specs.declared.one_table.OneTable14.{OneTable14}
 use Rattle.p4x_cmd.specs.Carries.{SameRuns}
 use Rattle.run_stream.specs.Captured.{capture_limit}
-use Rattle.p4x_cmd.specs.Carry.{CarryDue, ProgramIs, HasProgram, Begins, StopsBefore, Written, entries_stop, ports_end, capture_reports}
+use Rattle.p4x_cmd.specs.Carry.{CarryDue, ProgramIs, HasProgram, Begins, StopsBefore, TakesPorts, InOrder, Written, entries_stop, ports_end, program_read, entries_read, ports_read, capture_reports}
 use Rattle.p4x_cmd.specs.Entries.{no_entries}
 use Rattle.p4x_cmd.specs.Forms14.{Reads14}
 use Rattle.p4x_cmd.specs.Meaning16.{signature16}
@@ -31,6 +31,10 @@ use Rattle.p4x_cmd.specs.Runs.{this_run, this_run14}
 -- hold.
 abbrev pub OnTold : Option Command → DeskView → (Command → Held → Type 0) → Type 0
 OnTold found old P = (c : Command) (files : Held) → found ≡ Some c → Tells (inputs_of c) old files → P c files
+
+-- The premise where each fact says by itself which files the desk has to tell: the words are a form of this command.
+abbrev pub OnForm : Option Command → (Command → Held → Type 0) → Type 0
+OnForm found P = (c : Command) (files : Held) → found ≡ Some c → P c files
 
 -- the desk tells of these files whether they are there, and what they hold
 abbrev pub AreTold : List (List ℕ) → DeskView → Type 0
@@ -120,17 +124,26 @@ OverCapture f files = (p : OneTable14) × (ports : List ℕ) × Begins f files p
 abbrev pub Accepts : CarryFiles → Held → Type 0
 Accepts f files = (p : OneTable14) × (ports : List ℕ) × Begins f files p ports × CaptureIs (files f.capture) None
 
--- The statuses of `carry`, each with its cause: the first in the order of the work.
-pub record CarryStatuses (f : CarryFiles) (files : Held) (status : ℕ) : Type 0 where
-  pub accepted : ComesWhere status 0 (Accepts f files)
-  pub program : ComesWhere status 3 (RefusesProgram f files)
-  pub entries : ComesWhere status 4 (RefusesEntries f files)
-  pub refused : ComesWhere status 5 (RefusesPorts f files ⊎ RefusesCapture f files)
-  pub limit : ComesWhere status 6 (OverPorts f files ⊎ OverCapture f files)
+-- The statuses that come of the ports, whatever the capture holds. Where 5 or 6 doesn't come of them, they are taken,
+-- and it comes of the capture.
+pub record PortStatuses (f : CarryFiles) (files : Held) (status : ℕ) : Type 0 where
+  pub refused : ComesFirst status 5 (RefusesPorts f files) (TakesPorts f files)
+  pub limit : ComesFirst status 6 (OverPorts f files) (TakesPorts f files)
+
+-- The statuses of `carry`, each with its cause: the first in the order of the work. A cause asks of the desk only that
+-- it tells the files that are read until it is found.
+pub record CarryStatuses (f : CarryFiles) (old : DeskView) (files : Held) (status : ℕ) : Type 0 where
+  pub program : Tells (program_read f) old files → ComesWhere status 3 (RefusesProgram f files)
+  pub entries : Tells (entries_read f) old files → ComesWhere status 4 (RefusesEntries f files)
+  pub ports : Tells (ports_read f) old files → PortStatuses f files status
+  pub refused : Tells (carry_inputs f) old files
+      → ComesWhere status 5 (RefusesPorts f files ⊎ RefusesCapture f files)
+  pub limit : Tells (carry_inputs f) old files → ComesWhere status 6 (OverPorts f files ⊎ OverCapture f files)
+  pub accepted : Tells (carry_inputs f) old files → ComesWhere status 0 (Accepts f files)
 
 -- the table of a command's statuses
-abbrev pub Statuses : Command → Held → ℕ → Type 0
-Statuses (carry f) files status = CarryStatuses f files status
+abbrev pub Statuses : Command → DeskView → Held → ℕ → Type 0
+Statuses (carry f) old files status = CarryStatuses f old files status
 
 -- all input files of a command are taken
 abbrev pub AcceptsAll : Command → Held → Type 0
@@ -200,10 +213,16 @@ pub record FilesLeft (found : Option Command) (old new : DeskView) (status : ℕ
 abbrev pub DueOf : Command → Held → Due → Type 0
 DueOf (carry f) files d = CarryDue f files d
 
--- how the work of any words ends: as it is due, or with a fault or want of memory
+-- how the work of a command ends by the files that it reads first
+abbrev pub EndsInOrder : Command → DeskView → Result (List ℕ) Stop → Type 0
+EndsInOrder (carry f) old end = InOrder f old end
+
+-- How the work of any words ends: as it is due, or with a fault or want of memory. Where the desk tells only files that
+-- are read first, it ends as these say.
 abbrev pub IsEnd : Option Command → DeskView → Result (List ℕ) Stop → Type 0
 IsEnd None old end = end ≡ Err Usage
-IsEnd (Some c) old end = (files : Held) → Tells (inputs_of c) old files → EndsAsDue (DueOf c files) end
+IsEnd (Some c) old end =
+    ((files : Held) → Tells (inputs_of c) old files → EndsAsDue (DueOf c files) end) × EndsInOrder c old end
 
 -- the packets of a capture that was run to its end are such as come in
 abbrev pub PacketsFit : CarryFiles → DeskView → Result (List ℕ) Stop → Type 0
@@ -216,3 +235,4 @@ abbrev pub WorksFor : Option Command → DeskView → DeskView → Result (List 
 WorksFor None old new end = (end ≡ Err Usage) × (new ≡ old)
 WorksFor (Some (carry f)) old new end =
     Works (carry_inputs f) (carry_outputs f) (CarryDue f) old new end × PacketsFit f old end
+    × EndsInOrder (carry f) old end

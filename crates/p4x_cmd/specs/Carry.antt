@@ -1,7 +1,8 @@
 -- The command `carry`: what is due for what its input files hold (this project's own).
-use Rattle.std.specs.Prelude.{◌≡◌, ◌⊎◌, ◌<◌, ◌≤◌, ℕ, nat_lt, if◌then◌else◌, true, List, [], ◌∷◌, length, Option, Some, None, Result, Ok, Err}
+use Rattle.std.specs.Prelude.{◌≡◌, ◌⊎◌, ◌<◌, ◌≤◌, ℕ, nat_lt, if◌then◌else◌, true, List, [], ◌∷◌, length, Option, Some, None, option_to_list, Result, Ok, Err}
 use Rattle.p416_ast.specs.declared.syntax.Syntax16.{Syntax16}
 use Rattle.p4x_fault.specs.declared.Fault.{Fault as Refusal}
+use Rattle.p4x_io.specs.Desk.{DeskView}
 use Rattle.pcap_io.specs.Ports.{ports_of}
 use Rattle.p4x_cmd.specs.declared.one_table.OneTable14.{OneTable14}
 use Rattle.file_work.specs.declared.stop.Limited.TheVariants as limited
@@ -12,7 +13,8 @@ use Rattle.p4x_cmd.specs.Typed16.{is_well_typed}
 use Rattle.p4x_cmd.specs.FirstCut.{is_first_cut}
 use Rattle.p4x_cmd.specs.Forms14.{Reads14}
 use Rattle.p4x_cmd.specs.Forms16.{Reads16}
-use Rattle.file_work.specs.Works.{Held, Due}
+use Rattle.file_work.specs.Phases.{StopsOrGoesOn}
+use Rattle.file_work.specs.Works.{Held, Due, Tells}
 use Rattle.run_stream.specs.Captured.{Reports, reports_over}
 use Rattle.p4x_cmd.specs.Reports.{lined}
 use Rattle.p4x_cmd.specs.Runs.{this_run}
@@ -78,6 +80,56 @@ StopsBefore f files stop =
 -- the command has a program, entries that are taken, and these ports
 abbrev pub Begins : CarryFiles → Held → OneTable14 → List ℕ → Type 0
 Begins f files p ports = HasProgram f files p × (ports_end files f.ports ≡ Ok ports)
+
+-- The files that the command reads up to the program, up to the entries and up to the ports, in the order of the work.
+-- Behind them it reads the capture.
+abbrev pub program_read : CarryFiles → List (List ℕ)
+program_read f = f.program ∷ []
+
+abbrev pub entries_read : CarryFiles → List (List ℕ)
+entries_read f = f.program ∷ f.entries ∷ []
+
+abbrev pub ports_read : CarryFiles → List (List ℕ)
+ports_read f = f.program ∷ f.entries ∷ option_to_list f.ports
+
+-- what they hold is taken
+abbrev pub TakesProgram : CarryFiles → Held → Type 0
+TakesProgram f files = (p : OneTable14) × ProgramIs (files f.program) (Ok p)
+
+abbrev pub TakesEntries : CarryFiles → Held → Type 0
+TakesEntries f files = (p : OneTable14) × HasProgram f files p
+
+abbrev pub TakesPorts : CarryFiles → Held → Type 0
+TakesPorts f files = (p : OneTable14) × (ports : List ℕ) × Begins f files p ports
+
+-- the command stops at the program; at the program or at the entries
+abbrev pub StopsAtProgram : CarryFiles → Held → Stop → Type 0
+StopsAtProgram f files stop = ProgramIs (files f.program) (Err stop)
+
+abbrev pub StopsAtEntries : CarryFiles → Held → Stop → Type 0
+StopsAtEntries f files stop =
+    StopsAtProgram f files stop
+    ⊎ ((p : OneTable14) × ProgramIs (files f.program) (Ok p) × (entries_stop (files f.entries) ≡ Some stop))
+
+-- what stops the command at these files and nowhere behind them
+abbrev pub OfProgram : Stop → Type 0
+OfProgram stop = stop ≡ Program
+
+abbrev pub OfEntries : Stop → Type 0
+OfEntries stop = OfProgram stop ⊎ (stop ≡ Entries)
+
+abbrev pub OfPorts : Stop → Type 0
+OfPorts stop = OfEntries stop ⊎ (stop ≡ Limit limited.Ports)
+
+-- How the work ends by the files that it reads first, whatever the desk tells of the others: it stops at them, or they
+-- are taken and it goes on.
+pub record InOrder {A : Type 0} (f : CarryFiles) (old : DeskView) (end : Result A Stop) : Type 0 where
+  pub program : (files : Held) → Tells (program_read f) old files
+      → StopsOrGoesOn (StopsAtProgram f files) (TakesProgram f files) OfProgram end
+  pub entries : (files : Held) → Tells (entries_read f) old files
+      → StopsOrGoesOn (StopsAtEntries f files) (TakesEntries f files) OfEntries end
+  pub ports : (files : Held) → Tells (ports_read f) old files
+      → StopsOrGoesOn (StopsBefore f files) (TakesPorts f files) OfPorts end
 
 -- The text reads as this program of P4_16, and as no other; the program is well-typed, it is one on which the meaning is
 -- whole, and it carries the program of P4_14.

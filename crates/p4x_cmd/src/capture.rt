@@ -1,10 +1,11 @@
 // The run of the written program over the capture.
-ghost use Rattle.std.specs.Prelude.{◌≡◌, ◌⊎◌, ◌∷◌, [], ℕ, List, Some, None, Option, IfOk, OnOk, All};
+ghost use Rattle.std.specs.Prelude.{◌≡◌, ◌⊎◌, ◌∷◌, [], ℕ, List, Some, None, Option, IfOk, IfErr, OnOk, All};
 ghost use Rattle.state_store.specs.Ports.{IsPort};
 ghost use Rattle.p4x_io.specs.Desk.{Rose, Moves};
 ghost use Rattle.pcap_io.specs.Captures.{reading_of, IsRecord};
 ghost use Rattle.file_work.specs.Works.{Blames};
 ghost use Rattle.file_work.specs.Phases.{line_view};
+ghost use Rattle.run_stream.specs.Captured.{StopsRun};
 ghost use Rattle.p4x_cmd.specs.Carry.{capture_reports};
 ghost use Rattle.p4x_cmd.specs.Forms16.{program16};
 ghost use Rattle.p4x_cmd.specs.Reports.{carried_line_of};
@@ -50,6 +51,7 @@ pub(crate) fn run_capture<D: Desk>(
     ensures gives { (file : Option (List ℕ)) → (D.view desk.old).told names.now.capture.now ≡ Some file
         → Delivers (capture_reports (program16 program.now) ports.now file) (line_view result) ((D.view desk.old).told names.now.sent.now) ((D.view desk.new).told names.now.sent.now) ((D.view desk.old).told names.now.report.now) ((D.view desk.new).told names.now.report.now) }
     ensures known { OnOk result ((text : List ℕ) → (D.view desk.old).told names.now.capture.now ≡ Some (Some text) → All IsRecord (reading_of text).records) }
+    ensures stops { IfErr result (λ e. StopsRun e) }
     ensures cause { Blames result (Rose ((D.view desk.old).reads names.now.capture.now) ((D.view desk.new).reads names.now.capture.now)
         ⊎ Rose ((D.view desk.old).writes names.now.sent.now) ((D.view desk.new).writes names.now.sent.now)
         ⊎ Rose ((D.view desk.old).writes names.now.report.now) ((D.view desk.new).writes names.now.report.now)) }

@@ -4,10 +4,11 @@ ghost use Rattle.state_store.specs.Ports.{IsPort};
 ghost use Rattle.p4x_io.specs.Desk.{Rose, Moves, put, grown};
 ghost use Rattle.p4x_cmd.specs.declared.one_table.OneTable14.{OneTable14};
 ghost use Rattle.p4x_cmd.specs.Calls.{PacketsFit};
-ghost use Rattle.p4x_cmd.specs.Carry.{ProgramIs, entries_stop, ports_in, ports_end, StopsBefore, Begins, CarryDue};
+ghost use Rattle.p4x_cmd.specs.Carry.{ProgramIs, entries_stop, ports_in, ports_end, StopsBefore, Begins, CarryDue, InOrder};
 ghost use Rattle.p4x_cmd.specs.Forms14.{is_one_table};
 ghost use Rattle.p4x_cmd.specs.Forms16.{program16, Reads16};
 ghost use Rattle.p4x_cmd.specs.internal.Lowering.{lowered};
+ghost use Rattle.p4x_cmd.specs.internal.Phases.{IsPortsStop};
 ghost use Rattle.file_work.specs.Works.{Blames, DeskRose, ReadsRose, Tells, Leaves, Works, IsPart};
 ghost use Rattle.file_work.specs.Phases.{GrownByFront, Loosely, line_view};
 ghost use Rattle.p4x_cmd.specs.internal.Plain.{IsSized};
@@ -73,6 +74,7 @@ fn check_entries<D: Desk>(desk: &mut D, name: &str) -> Result<(), Stop>
     ensures moves { Moves [] (D.view desk.old) (D.view desk.new) }
     ensures gives { (file : Option (List ℕ)) → (D.view desk.old).told name.now ≡ Some file
         → MatchResult result (λ u. entries_stop file ≡ None) (λ e. Loosely e (entries_stop file ≡ Some e)) }
+    ensures only { IfErr result (λ e. (e ≡ Stop.Fault) ⊎ (e ≡ Stop.Entries)) }
     ensures cause { Blames result (Rose ((D.view desk.old).reads name.now) ((D.view desk.new).reads name.now)) }
 {
     match has_octet(desk, name, 0) {
@@ -104,6 +106,7 @@ fn prepare<D: Desk>(alloc: Global, desk: &mut D, names: &CarryNames<'_>) -> Resu
         → IfErr result (λ e. Loosely e (StopsBefore (files_of names.now) files e)) }
     ensures begins { (files : List ℕ → Option (List ℕ)) → Tells (carry_inputs (files_of names.now)) (D.view desk.old) files
         → IfOk result (λ w. (p : OneTable14) × Begins (files_of names.now) files p w.ports × (w.program ≡ lowered p)) }
+    ensures order { InOrder (files_of names.now) (D.view desk.old) result }
     ensures text { IfOk result (λ w. Reads16 w.text (program16 w.program)) }
     ensures sized { IfOk result (λ w. IsSized w.program) }
     ensures fits { IfOk result (λ w. All IsPort w.ports) }
@@ -150,6 +153,7 @@ fn read_ports<D: Desk>(alloc: Global, desk: &mut D, names: &CarryNames<'_>) -> R
     ensures gives { (files : List ℕ → Option (List ℕ)) → Tells (option_to_list (files_of names.now).ports) (D.view desk.old) files
         → MatchResult result (λ ports. ports_end files (files_of names.now).ports ≡ Ok ports) (λ e. Loosely e (ports_end files (files_of names.now).ports ≡ Err e)) }
     ensures fits { IfOk result (λ ports. All IsPort ports) }
+    ensures only { IfErr result (λ e. IsPortsStop e) }
     ensures cause { Blames result (ReadsRose (option_to_list (files_of names.now).ports) (D.view desk.old) (D.view desk.new)) }
 {
     match names.ports {
@@ -164,6 +168,7 @@ fn read_ports_file<D: Desk>(alloc: Global, desk: &mut D, name: &str) -> Result<N
     ensures gives { (file : Option (List ℕ)) → (D.view desk.old).told name.now ≡ Some file
         → MatchResult result (λ ports. ports_in file ≡ Ok ports) (λ e. Loosely e (ports_in file ≡ Err e)) }
     ensures fits { IfOk result (λ ports. All IsPort ports) }
+    ensures only { IfErr result (λ e. IsPortsStop e) }
     ensures cause { Blames result (Rose ((D.view desk.old).reads name.now) ((D.view desk.new).reads name.now)) }
 {
     let text = match read_file(alloc, desk, name, PORTS_LIMIT) {
@@ -186,6 +191,7 @@ fn work<D: Desk>(alloc: Global, desk: &mut D, names: &CarryNames<'_>) -> Result<
     ensures leaves { (files : List ℕ → Option (List ℕ)) → Tells (carry_inputs (files_of names.now)) (D.view desk.old) files
         → Leaves (carry_outputs (files_of names.now)) (CarryDue (files_of names.now) files) (line_view result) (D.view desk.old) (D.view desk.new) }
     ensures packets { PacketsFit (files_of names.now) (D.view desk.old) (line_view result) }
+    ensures order { InOrder (files_of names.now) (D.view desk.old) (line_view result) }
 {
     let beginning = prepare(alloc, desk, names)?;
     begin(desk, names, beginning.text.as_slice())?;
@@ -201,6 +207,7 @@ pub(crate) fn carry<D: Desk>(
 ) -> Result<Vec<u8>, Stop>
     ensures works { Works (carry_inputs (files_of names.now)) (carry_outputs (files_of names.now)) (CarryDue (files_of names.now)) (D.view desk.old) (D.view desk.new) (line_view result) }
     ensures packets { PacketsFit (files_of names.now) (D.view desk.old) (line_view result) }
+    ensures order { InOrder (files_of names.now) (D.view desk.old) (line_view result) }
 {
     work(alloc, desk, names)
 }

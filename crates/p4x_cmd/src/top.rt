@@ -3,7 +3,7 @@ ghost use Rattle.std.specs.Prelude.{◌≡◌, ◌⊎◌, map, string_bytes};
 ghost use Rattle.command_words.specs.Words.{form, outputs_of};
 ghost use Rattle.file_work.specs.Clauses.{Ended, OwnRose};
 ghost use Rattle.file_work.specs.Phases.{line_view};
-ghost use Rattle.p4x_cmd.specs.Calls.{OnTold, AreTold, Done, Statuses, AcceptsAll, Usages, FilesLeft, IsEnd, WorksFor, inputs_in, outputs_in};
+ghost use Rattle.p4x_cmd.specs.Calls.{OnTold, OnForm, AreTold, Done, Statuses, AcceptsAll, Usages, FilesLeft, IsEnd, WorksFor, inputs_in, outputs_in};
 
 use crate::carry::carry;
 use command_words::{Command, read_words};
@@ -41,8 +41,8 @@ pub fn p4x<D: Desk, K: Sink>(alloc: Global, words: &[String], desk: &mut D, out:
     // Status 0: the text reads as one program that carries the program of P4_14, and the files and the line are this run's.
     ensures carried { OnTold (form (map string_bytes words.now)) (D.view desk.old) (λ c files. AreTold (outputs_of c) (D.view desk.old)
         → result ≡ 0 → Done c files (D.view desk.new) (K.view out.old) (K.view out.new)) }
-    // Which cause gives 0, 3, 4, 5 and 6; 1 or 7 may come in their place.
-    ensures statuses { OnTold (form (map string_bytes words.now)) (D.view desk.old) (λ c files. Statuses c files result) }
+    // Which cause gives 0, 3, 4, 5 and 6, where the desk tells the files that are read until it is found; 1 or 7 may come in their place.
+    ensures statuses { OnForm (form (map string_bytes words.now)) (λ c files. Statuses c (D.view desk.old) files result) }
     // All input files are taken and no own count rose: 0, or 7.
     ensures complete { OnTold (form (map string_bytes words.now)) (D.view desk.old) (λ c files. AcceptsAll c files
         → (OwnRose (inputs_in (form (map string_bytes words.now))) (outputs_in (form (map string_bytes words.now))) (D.view desk.old)

@@ -61,6 +61,11 @@ reports_over run ports (Some octets) =
     if nat_lt capture_limit (length octets) then stopped (Limit limited.Capture)
     else reading_reports run ports (reading_of octets)
 
+-- what stops a run over a capture: a fault, want of memory, a rule that the capture breaks, or its limit
+abbrev pub StopsRun : Stop → Type 0
+StopsRun stop =
+    (stop ≡ Fault) ⊎ (stop ≡ Memory) ⊎ ((fault : Refusal) × (stop ≡ Refused fault)) ⊎ (stop ≡ Limit limited.Capture)
+
 -- a fault or want of memory, which may stand in the place of what is due
 abbrev pub IsLoose : Result Counts Stop → Type 0
 IsLoose end = (end ≡ Err Fault) ⊎ (end ≡ Err Memory)

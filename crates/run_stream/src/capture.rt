@@ -6,7 +6,7 @@ ghost use Rattle.p4x_io.specs.Desk.{Rose, Moves, grown};
 ghost use Rattle.pcap_io.specs.Captures.{reading_of, refusal_in, IsRecord};
 ghost use Rattle.file_work.specs.Works.{Blames};
 ghost use Rattle.file_work.specs.Phases.{GrownByFront};
-ghost use Rattle.run_stream.specs.Captured.{capture_limit, reports_over, Delivers};
+ghost use Rattle.run_stream.specs.Captured.{capture_limit, reports_over, Delivers, StopsRun};
 ghost use Rattle.run_stream.specs.Reports.{end_lines};
 ghost use Rattle.run_stream.specs.Runs.{run_of};
 ghost use Rattle.run_stream.specs.internal.Streams.{held_of, view_of, empty, start, cleared, nothing_read, Streamed, PieceEnds, PiecesEnd};
@@ -76,6 +76,7 @@ fn run_piece<D: Desk, R: Runner>(
         → Streamed (R.outcome (R.setting runner.old)) store ports octets sent report ((D.view desk.old).told names.now.sent.now) ((D.view desk.old).told names.now.report.now) reader.old (view_of stream.old (R.store runner.old) (R.done runner.old))
         → PieceEnds (R.outcome (R.setting runner.old)) store ports (octets ++ piece.now) sent report ((D.view desk.new).told names.now.sent.now) ((D.view desk.new).told names.now.report.now) reader.new (view_of stream.new (R.store runner.new) (R.done runner.new)) result }
     ensures ports { All IsPort stream.new.ports.now }
+    ensures stops { IfErr result (λ e. StopsRun e) }
     ensures cause { Blames result (Rose ((D.view desk.old).writes names.now.sent.now) ((D.view desk.new).writes names.now.sent.now)
         ⊎ Rose ((D.view desk.old).writes names.now.report.now) ((D.view desk.new).writes names.now.report.now)) }
 {
@@ -105,6 +106,7 @@ fn run_pieces<D: Desk, R: Runner>(
     ensures gives { (file : Option (List ℕ)) → (D.view desk.old).told names.now.capture.now ≡ Some file
         → PiecesEnd (R.outcome (R.setting runner.old)) (R.store runner.old) stream.old.ports.now file ((D.view desk.old).told names.now.sent.now) ((D.view desk.old).told names.now.report.now) ((D.view desk.new).told names.now.sent.now) ((D.view desk.new).told names.now.report.now) reader.new (view_of stream.new (R.store runner.new) (R.done runner.new)) result }
     ensures report_there { OnOk result ((D.view desk.new).told names.now.report.now ≡ Some None → ⊥) }
+    ensures stops { IfErr result (λ e. StopsRun e) }
     ensures cause { Blames result (Rose ((D.view desk.old).reads names.now.capture.now) ((D.view desk.new).reads names.now.capture.now)
         ⊎ Rose ((D.view desk.old).writes names.now.sent.now) ((D.view desk.new).writes names.now.sent.now)
         ⊎ Rose ((D.view desk.old).writes names.now.report.now) ((D.view desk.new).writes names.now.report.now)) }
@@ -175,6 +177,7 @@ pub fn run_capture<D: Desk, R: Runner>(
     ensures gives { (file : Option (List ℕ)) → (D.view desk.old).told names.now.capture.now ≡ Some file
         → Delivers (reports_over (run_of (R.outcome (R.setting runner.old)) (R.store runner.old)) ports.now file) result ((D.view desk.old).told names.now.sent.now) ((D.view desk.new).told names.now.sent.now) ((D.view desk.old).told names.now.report.now) ((D.view desk.new).told names.now.report.now) }
     ensures known { OnOk result ((text : List ℕ) → (D.view desk.old).told names.now.capture.now ≡ Some (Some text) → All IsRecord (reading_of text).records) }
+    ensures stops { IfErr result (λ e. StopsRun e) }
     ensures cause { Blames result (Rose ((D.view desk.old).reads names.now.capture.now) ((D.view desk.new).reads names.now.capture.now)
         ⊎ Rose ((D.view desk.old).writes names.now.sent.now) ((D.view desk.new).writes names.now.sent.now)
         ⊎ Rose ((D.view desk.old).writes names.now.report.now) ((D.view desk.new).writes names.now.report.now)) }

@@ -10,6 +10,7 @@ use Rattle.file_work.specs.Phases.{line_view}
 use Rattle.command_words.specs.Views.{files_of}
 use Rattle.p4x_cmd.proofs.Blaming.{run_blames}
 use Rattle.p4x_cmd.proofs.Left.{left_early, left_begin, left_run}
+use Rattle.p4x_cmd.proofs.Order.{order_stopped, order_run}
 use Rattle.p4x_cmd.proofs.Packets.{packets_of}
 use Rattle.p4x_cmd.proofs.Writing.{written_is}
 use Rattle.p4x_cmd.proofs.Named.{apart_of}
@@ -89,3 +90,12 @@ begin-requires-clause-sent_report g c = (apart_of c.args.names.now).2.1.0
 pub returns-clause-cause : goal.returns-clause-cause
 returns-clause-cause g c =
     run_blames (files_of c.args.names.now) _ _ _ _ _ _ c.prepare.ensures.moves c.begin.ensures.moves c.run_capture.ensures.cause
+
+pub returns-in_err-beginning-clause-order : goal.returns-in_err-beginning-clause-order
+returns-in_err-beginning-clause-order g c =
+    let p = err_from_is_err_and c.from_residual.result c.from_residual.ensures.1 in
+    rw (p.1, p.2) (order_stopped _ _ (files_of c.args.names.now) _ _ c.in_err-beginning.ensures.order)
+
+pub returns-clause-order : goal.returns-clause-order
+returns-clause-order g c =
+    order_run _ (files_of c.args.names.now) _ c.in_ok-beginning.beginning c.in_ok-beginning.ensures.order c.run_capture.result c.run_capture.ensures.stops

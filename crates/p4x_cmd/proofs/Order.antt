@@ -1,0 +1,102 @@
+-- How the work of `carry` ends by the files that it reads first, at each of its exits.
+use Rattle.std.proofs.Common.{◌≡◌, ◌⊎◌, inl, inr, ℕ, List, Option, Some, None, option_to_list, Result, Ok, Err, IfErr, Vec}
+use Rattle.std.specs.declared.alloc.Global.{Global}
+use Rattle.p4x_io.specs.Desk.{DeskView}
+use Rattle.command_words.specs.Words.{CarryFiles}
+use Rattle.file_work.specs.declared.stop.Stop.{Stop}
+use Rattle.file_work.specs.declared.stop.Stop.TheVariants.{Fault, Entries, Memory}
+use Rattle.file_work.specs.Phases.{Loosely, line_view}
+use Rattle.file_work.specs.Works.{Tells}
+use Rattle.file_work.proofs.Order.{loosely_as, loosely_loose}
+use Rattle.run_stream.specs.Captured.{StopsRun}
+use Rattle.p4x_cmd.specs.declared.one_table.OneTable14.{OneTable14}
+use Rattle.p4x_cmd.specs.Carry.{ProgramIs, HasProgram, Begins, entries_stop, ports_end, OfProgram, OfEntries, OfPorts, InOrder}
+use Rattle.p4x_cmd.specs.internal.Phases.{IsPortsStop}
+
+-- what comes behind the program, behind the entries and behind the ports
+entries_not_program : (stop : Stop) → (stop ≡ Fault) ⊎ (stop ≡ Entries) → OfProgram stop → ⊥
+entries_not_program stop (inl fault) is = cc (fault, is)
+entries_not_program stop (inr entries) is = cc (entries, is)
+
+ports_not_entries : (stop : Stop) → IsPortsStop stop → OfEntries stop → ⊥
+ports_not_entries stop (inl fault) (inl is) = cc (fault, is)
+ports_not_entries stop (inl fault) (inr is) = cc (fault, is)
+ports_not_entries stop (inr (inl memory)) (inl is) = cc (memory, is)
+ports_not_entries stop (inr (inl memory)) (inr is) = cc (memory, is)
+ports_not_entries stop (inr (inr (inl (fault, refused)))) (inl is) = cc (refused, is)
+ports_not_entries stop (inr (inr (inl (fault, refused)))) (inr is) = cc (refused, is)
+ports_not_entries stop (inr (inr (inr limit))) (inl is) = cc (limit, is)
+ports_not_entries stop (inr (inr (inr limit))) (inr is) = cc (limit, is)
+
+capture_not_ports : (stop : Stop) → StopsRun stop → OfPorts stop → ⊥
+capture_not_ports stop (inl fault) (inl (inl is)) = cc (fault, is)
+capture_not_ports stop (inl fault) (inl (inr is)) = cc (fault, is)
+capture_not_ports stop (inl fault) (inr is) = cc (fault, is)
+capture_not_ports stop (inr (inl memory)) (inl (inl is)) = cc (memory, is)
+capture_not_ports stop (inr (inl memory)) (inl (inr is)) = cc (memory, is)
+capture_not_ports stop (inr (inl memory)) (inr is) = cc (memory, is)
+capture_not_ports stop (inr (inr (inl (fault, refused)))) (inl (inl is)) = cc (refused, is)
+capture_not_ports stop (inr (inr (inl (fault, refused)))) (inl (inr is)) = cc (refused, is)
+capture_not_ports stop (inr (inr (inl (fault, refused)))) (inr is) = cc (refused, is)
+capture_not_ports stop (inr (inr (inr limit))) (inl (inl is)) = cc (limit, is)
+capture_not_ports stop (inr (inr (inr limit))) (inl (inr is)) = cc (limit, is)
+capture_not_ports stop (inr (inr (inr limit))) (inr is) = cc (limit, is)
+
+module _ (A : Type 0) (f : CarryFiles) (old : DeskView) where
+  -- a fault or want of memory may come anywhere
+  pub order_loose : (stop : Stop) → (stop ≡ Fault) ⊎ (stop ≡ Memory) → InOrder {A = A} f old (Err stop)
+  order_loose stop loose = record {
+    program = λ files told. loosely_loose stop _ loose;
+    entries = λ files told. loosely_loose stop _ loose;
+    ports = λ files told. loosely_loose stop _ loose;
+  }
+
+  -- the program stops the work
+  pub order_program : (stop : Stop) → ((file : Option (List ℕ)) → old.told f.program ≡ Some file → Loosely stop (ProgramIs file (Err stop))) → InOrder {A = A} f old (Err stop)
+  order_program stop gives = record {
+    program = λ files told. loosely_as stop _ _ (λ is. inl is) (gives (files f.program) told.0);
+    entries = λ files told. loosely_as stop _ _ (λ is. inl (inl is)) (gives (files f.program) told.0);
+    ports = λ files told. loosely_as stop _ _ (λ is. inl (inl is)) (gives (files f.program) told.0);
+  }
+
+  module _ (p : OneTable14) (taken : (file : Option (List ℕ)) → old.told f.program ≡ Some file → ProgramIs file (Ok p)) where
+    -- the entries stop it
+    pub order_entries : (stop : Stop) → (stop ≡ Fault) ⊎ (stop ≡ Entries) → ((file : Option (List ℕ)) → old.told f.entries ≡ Some file → Loosely stop (entries_stop file ≡ Some stop)) → InOrder {A = A} f old (Err stop)
+    order_entries stop only gives = record {
+      program = λ files told. inr (inr (inr ((p, taken (files f.program) told.0), entries_not_program stop only)));
+      entries = λ files told. loosely_as stop _ _ (λ is. inl (inr (p, taken (files f.program) told.0, is))) (gives (files f.entries) told.1.0);
+      ports = λ files told. loosely_as stop _ _ (λ is. inl (inr (inl (p, taken (files f.program) told.0, is)))) (gives (files f.entries) told.1.0);
+    }
+
+    module _ (empty : (file : Option (List ℕ)) → old.told f.entries ≡ Some file → entries_stop file ≡ None) where
+      has : (files : List ℕ → Option (List ℕ)) → old.told f.program ≡ Some (files f.program) → old.told f.entries ≡ Some (files f.entries) → HasProgram f files p
+      has files program entries = (taken (files f.program) program, empty (files f.entries) entries)
+
+      -- the ports stop it
+      pub order_ports : (stop : Stop) → IsPortsStop stop → ((files : List ℕ → Option (List ℕ)) → Tells (option_to_list f.ports) old files → Loosely stop (ports_end files f.ports ≡ Err stop)) → InOrder {A = A} f old (Err stop)
+      order_ports stop only gives = record {
+        program = λ files told. inr (inr (inr ((p, taken (files f.program) told.0), λ is. ports_not_entries stop only (inl is))));
+        entries = λ files told. inr (inr (inr ((p, has files told.0 told.1.0), ports_not_entries stop only)));
+        ports = λ files told. loosely_as stop _ _ (λ is. inl (inr (inr (p, has files told.0 told.1.0, is)))) (gives files told.1.1);
+      }
+
+      -- nothing stops it before it writes
+      pub order_begun : (done : A) (ports : List ℕ) → ((files : List ℕ → Option (List ℕ)) → Tells (option_to_list f.ports) old files → ports_end files f.ports ≡ Ok ports) → InOrder {A = A} f old (Ok done)
+      order_begun done ports gives = record {
+        program = λ files told. (p, taken (files f.program) told.0);
+        entries = λ files told. (p, has files told.0 told.1.0);
+        ports = λ files told. (p, ports, (has files told.0 told.1.0, gives files told.1.1));
+      }
+
+-- what stopped the first part of the work stops all of it
+pub order_stopped : (A B : Type 0) (f : CarryFiles) (old : DeskView) (stop : Stop) → InOrder {A = A} f old (Err stop) → InOrder {A = B} f old (Err stop)
+order_stopped A B f old stop order = record { program = order.program; entries = order.entries; ports = order.ports }
+
+-- the capture is run behind it
+pub order_run : (A : Type 0) (f : CarryFiles) (old : DeskView) (begun : A) → InOrder {A = A} f old (Ok begun) → (result : Result (Vec ℕ Global) Stop) → IfErr result (λ e. StopsRun e) → InOrder f old (line_view result)
+order_run A f old begun order (Ok line) stops = record { program = order.program; entries = order.entries; ports = order.ports }
+order_run A f old begun order (Err stop) stops = record {
+  program = λ files told. inr (inr (inr (order.program files told, λ is. capture_not_ports stop stops (inl (inl is)))));
+  entries = λ files told. inr (inr (inr (order.entries files told, λ is. capture_not_ports stop stops (inl is))));
+  ports = λ files told. inr (inr (inr (order.ports files told, capture_not_ports stop stops)));
+}
