@@ -1,22 +1,21 @@
 -- Which status comes of the files that `carry` reads first.
-use Rattle.std.proofs.Common.{◌≡◌, ◌⊎◌, inl, inr, ℕ, List, Option, Some, None, Result, Ok, Err, refl, subst, arith}
-use Rattle.p4x_io.specs.Desk.{DeskView, SinkView}
+use Rattle.std.proofs.Common.{◌≡◌, ◌⊎◌, inl, inr, ℕ, List, Option, Some, None, Result, Err, refl, subst, arith}
+use Rattle.p4x_io.specs.Desk.{SinkView}
 use Rattle.p4x_io.specs.Files.{Says}
 use Rattle.p4x_fault.specs.declared.Fault.{Fault as Refusal}
-use Rattle.command_words.specs.Words.{CarryFiles, carry_inputs}
+use Rattle.command_words.specs.Words.{CarryFiles}
 use Rattle.file_work.specs.declared.stop.Limited.{Limited}
 use Rattle.file_work.specs.declared.stop.Limited.TheVariants.{Ports, Capture}
 use Rattle.file_work.specs.declared.stop.Stop.{Stop}
-use Rattle.file_work.specs.declared.stop.Stop.TheVariants.{Fault, Program, Entries, Refused, Limit, Memory}
-use Rattle.file_work.specs.Clauses.{ComesWhere, ComesFirst}
-use Rattle.file_work.specs.Phases.{Loosely, StopsOrGoesOn}
+use Rattle.file_work.specs.declared.stop.Stop.TheVariants.{Fault, Program, Entries, Refused, Limit}
+use Rattle.file_work.specs.Clauses.{ComesWhere}
+use Rattle.file_work.specs.Phases.{StopsOrGoesOn}
 use Rattle.file_work.specs.Stops.{code_of, line_of, stop_code}
-use Rattle.file_work.specs.Works.{Tells}
 use Rattle.file_work.proofs.Ends.{is_program, is_entries, is_refused, is_limit}
 use Rattle.file_work.proofs.Order.{due_status, status_here, stops_or_on, stops_by_own}
-use Rattle.p4x_cmd.specs.Calls.{CarryStatuses, PortStatuses, Accepts, RefusesProgram, RefusesEntries, RefusesPorts, RefusesCapture, OverPorts, OverCapture}
-use Rattle.p4x_cmd.specs.Carry.{ProgramIs, StopsBefore, StopsAtProgram, StopsAtEntries, TakesProgram, TakesEntries, TakesPorts, OfProgram, OfEntries, OfPorts, InOrder, entries_stop, ports_end, program_read, entries_read, ports_read}
-use Rattle.p4x_cmd.proofs.Statuses.{program_stops, program_stop, taken_goes_on, stops_once, begins_not, entries_not_both, EntriesEnd, entries_ends, PortsEnd, ports_ends}
+use Rattle.p4x_cmd.specs.Calls.{PortStatuses, RefusesProgram, RefusesEntries, RefusesPorts, OverPorts}
+use Rattle.p4x_cmd.specs.Carry.{ProgramIs, StopsBefore, StopsAtProgram, StopsAtEntries, TakesProgram, TakesEntries, TakesPorts, OfProgram, OfEntries, OfPorts}
+use Rattle.p4x_cmd.proofs.Statuses.{program_stops, taken_goes_on, stops_once, begins_not, entries_not_both, EntriesEnd, entries_ends, PortsEnd, ports_ends}
 
 -- the program stops the command with a fault or as it is refused
 program_only : (o : Option (List ℕ)) (stop : Stop) → ProgramIs o (Err stop) → (stop ≡ Fault) ⊎ (stop ≡ Program)

@@ -10,7 +10,7 @@ use Rattle.file_work.specs.Works.{Tells}
 use Rattle.file_work.proofs.Order.{loosely_as, loosely_loose}
 use Rattle.run_stream.specs.Captured.{StopsRun}
 use Rattle.p4x_cmd.specs.declared.one_table.OneTable14.{OneTable14}
-use Rattle.p4x_cmd.specs.Carry.{ProgramIs, HasProgram, Begins, entries_stop, ports_end, OfProgram, OfEntries, OfPorts, InOrder}
+use Rattle.p4x_cmd.specs.Carry.{ProgramIs, HasProgram, entries_stop, ports_end, OfProgram, OfEntries, OfPorts, InOrder}
 use Rattle.p4x_cmd.specs.internal.Phases.{IsPortsStop}
 
 -- what comes behind the program, behind the entries and behind the ports
