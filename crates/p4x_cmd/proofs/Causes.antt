@@ -8,17 +8,18 @@ use Rattle.match_core.specs.declared.signatures.Signature.{Signature}
 use Rattle.match_core.specs.Signatures.{IsSignature}
 use Rattle.command_words.specs.Words.{CarryFiles, Command, carry, carry_inputs, carry_outputs, inputs_of, outputs_of}
 use Rattle.file_work.specs.declared.stop.Stop.{Stop}
-use Rattle.file_work.specs.declared.stop.Stop.TheVariants.{Fault}
+use Rattle.file_work.specs.declared.stop.Stop.TheVariants.{Fault, Program, Entries}
 use Rattle.file_work.specs.Clauses.{Ended, OwnRose, AsDue}
 use Rattle.file_work.specs.Stops.{code_of, line_of}
 use Rattle.file_work.specs.Works.{Due, Leaves, Tells, AllExact, AllPart, AllKept}
-use Rattle.file_work.proofs.Ends.{is_fault, is_usage, not_done}
+use Rattle.file_work.proofs.Ends.{is_fault, is_usage, is_program, is_entries, not_done}
 use Rattle.file_work.proofs.Files.{put_told}
 use Rattle.file_work.proofs.Laws.{all_part, IsDone, left_fronts, left_ends, left_as_due, left_done}
+use Rattle.file_work.proofs.Order.{due_status}
 use Rattle.p4x_cmd.specs.declared.one_table.OneTable14.{OneTable14}
-use Rattle.p4x_cmd.specs.Calls.{OnTold, OnForm, AreTold, Carried, Done, CarryStatuses, Statuses, AcceptsAll, Usages, CarryLeft, Left, FilesLeft, Translated, IsEnd, PacketsFit, WorksFor, inputs_in, outputs_in, RefusesCapture, OverCapture}
+use Rattle.p4x_cmd.specs.Calls.{OnTold, OnForm, AreTold, Carried, Done, CarryStatuses, Statuses, AcceptsAll, Usages, CarryKept, Kept, CarryLeft, Left, FilesLeft, Translated, IsEnd, PacketsFit, WorksFor, inputs_in, outputs_in, RefusesCapture, OverCapture}
 use Rattle.p4x_cmd.specs.Carries.{SameRuns}
-use Rattle.p4x_cmd.specs.Carry.{CarryDue, ProgramIs, Begins, InOrder, StopsBefore, Written, capture_reports, delivered}
+use Rattle.p4x_cmd.specs.Carry.{CarryDue, ProgramIs, Begins, InOrder, KeepsInOrder, StopsBefore, Written, capture_reports, delivered}
 use Rattle.p4x_cmd.specs.Entries.{no_entries}
 use Rattle.p4x_cmd.specs.Forms14.{Reads14}
 use Rattle.p4x_cmd.specs.Meaning14.{signature14}
@@ -165,6 +166,24 @@ module _ (f : CarryFiles) (files : List ℕ → Option (List ℕ)) (old new : De
           let leaves = e.is.0.leaves files told in
           statuses before after status e.end leaves (left_as_due (carry_outputs f) (CarryDue f files) old new e.end leaves before after status e.says)
 
+  -- the outputs are kept where the work stops before it writes
+  kept_first : (before after : SinkView) (status : ℕ) → Ended (WorksFor (Some (carry f)) old new) before after status → CarryKept f files old new status
+  kept_first before after status e = record {
+    refused = λ so. elim so [ inl three ↦ by_program three | inr four ↦ by_entries four ];
+    program = keeps.program files;
+    entries = keeps.entries files;
+    ports = keeps.ports files;
+  }
+    where
+      keeps : KeepsInOrder f old new e.end
+      keeps = e.is.3
+
+      by_program : status ≡ 3 → AllKept (carry_outputs f) old new
+      by_program three = keeps.own Program (is_program e.end (due_status (line_of e.end) (code_of e.end) status 3 before after e.says (λ one. omega arith) three)) (inl (inl refl))
+
+      by_entries : status ≡ 4 → AllKept (carry_outputs f) old new
+      by_entries four = keeps.own Entries (is_entries e.end (due_status (line_of e.end) (code_of e.end) status 4 before after e.says (λ one. omega arith) four)) (inl (inr refl))
+
 -- one of three where the second doesn't hold
 not_second : (A B C : Type 0) → (B → ⊥) → A ⊎ B ⊎ C → A ⊎ C
 not_second A B C never (inl a) = inl a
@@ -200,6 +219,9 @@ only (Some (carry f)) old new end works name none = works.0.moves.others name no
 
 statuses_of : (c : Command) (files : List ℕ → Option (List ℕ)) (old new : DeskView) (before after : SinkView) (status : ℕ) → Ended (WorksFor (Some c) old new) before after status → Statuses c old files status
 statuses_of (carry f) files old new before after status ended = each_status f files old new before after status ended
+
+kept_of : (c : Command) (files : List ℕ → Option (List ℕ)) (old new : DeskView) (before after : SinkView) (status : ℕ) → Ended (WorksFor (Some c) old new) before after status → Kept c files old new status
+kept_of (carry f) files old new before after status ended = kept_first f files old new before after status ended
 
 -- what holds of the work of a command
 module _ (c : Command) (files : List ℕ → Option (List ℕ)) (old new : DeskView) (before after : SinkView) (status : ℕ) (ended : Ended (WorksFor (Some c) old new) before after status) (told : Tells (inputs_of c) old files) where
@@ -253,5 +275,6 @@ module _ (found : Option Command) (old new : DeskView) (before after : SinkView)
   pub files_is : FilesLeft found old new status
   files_is = record {
     only = only found old new ended.end ended.is;
+    kept = λ c files is. kept_of c files old new before after status (of_some c is);
     outputs = λ c files is told. left_of c files old new before after status (of_some c is) told;
   }

@@ -28,7 +28,7 @@ module _ (f : CarryFiles) (files : List ℕ → Option (List ℕ)) where
   entries_before stop (inr entries) = inr (inl entries)
 
   -- the entries aren't taken where they stop the command
-  entries_not : TakesEntries f files → (stop : Stop) → StopsAtEntries f files stop → ⊥
+  pub entries_not : TakesEntries f files → (stop : Stop) → StopsAtEntries f files stop → ⊥
   entries_not taken stop (inl program) = taken_goes_on (files f.program) taken.0 stop taken.1.0 program
   entries_not taken stop (inr entries) = entries_not_both f files stop entries.2 taken.1.1
 

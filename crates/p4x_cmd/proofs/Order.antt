@@ -1,17 +1,19 @@
 -- How the work of `carry` ends by the files that it reads first, at each of its exits.
-use Rattle.std.proofs.Common.{◌≡◌, ◌⊎◌, inl, inr, ℕ, List, Option, Some, None, option_to_list, Result, Ok, Err, IfErr, Vec}
+use Rattle.std.proofs.Common.{◌≡◌, ◌⊎◌, inl, inr, ℕ, List, Option, Some, None, option_to_list, Result, Ok, Err, IfErr, Vec, subst}
 use Rattle.std.specs.declared.alloc.Global.{Global}
 use Rattle.p4x_io.specs.Desk.{DeskView}
-use Rattle.command_words.specs.Words.{CarryFiles}
+use Rattle.command_words.specs.Words.{CarryFiles, carry_outputs}
 use Rattle.file_work.specs.declared.stop.Stop.{Stop}
 use Rattle.file_work.specs.declared.stop.Stop.TheVariants.{Fault, Entries, Memory}
 use Rattle.file_work.specs.Phases.{Loosely, line_view}
-use Rattle.file_work.specs.Works.{Tells}
+use Rattle.file_work.specs.Works.{Tells, AllKept}
 use Rattle.file_work.proofs.Order.{loosely_as, loosely_loose}
 use Rattle.run_stream.specs.Captured.{StopsRun}
 use Rattle.p4x_cmd.specs.declared.one_table.OneTable14.{OneTable14}
-use Rattle.p4x_cmd.specs.Carry.{ProgramIs, HasProgram, entries_stop, ports_end, OfProgram, OfEntries, OfPorts, InOrder}
+use Rattle.p4x_cmd.specs.Carry.{ProgramIs, HasProgram, entries_stop, ports_end, OfProgram, OfEntries, OfPorts, InOrder, KeepsInOrder}
 use Rattle.p4x_cmd.specs.internal.Phases.{IsPortsStop}
+use Rattle.p4x_cmd.proofs.Judging.{entries_not}
+use Rattle.p4x_cmd.proofs.Statuses.{taken_goes_on, begins_not}
 
 -- what comes behind the program, behind the entries and behind the ports
 entries_not_program : (stop : Stop) → (stop ≡ Fault) ⊎ (stop ≡ Entries) → OfProgram stop → ⊥
@@ -100,3 +102,34 @@ order_run A f old begun order (Err stop) stops = record {
   entries = λ files told. inr (inr (inr (order.entries files told, λ is. capture_not_ports stop stops (inl is))));
   ports = λ files told. inr (inr (inr (order.ports files told, capture_not_ports stop stops)));
 }
+
+-- behind it the work stops at none of these files
+pub run_late : (result : Result (Vec ℕ Global) Stop) → IfErr result (λ e. StopsRun e) → (stop : Stop) → line_view result ≡ Err stop → OfPorts stop → ⊥
+run_late (Ok line) stops stop is own = cc is
+run_late (Err other) stops stop is own =
+    let same : other ≡ stop = cc is in
+    capture_not_ports stop (subst (λ (s : Stop). StopsRun s) same stops) own
+
+pub fault_late : (stop : Stop) → ◌≡◌ {A = Result (List ℕ) Stop} (Err Fault) (Err stop) → OfPorts stop → ⊥
+fault_late stop is own =
+    let same : stop ≡ Fault = cc is in
+    capture_not_ports stop (inl same) own
+
+module _ (f : CarryFiles) (old new : DeskView) where
+  -- nothing was written
+  pub keeps_all : (end : Result (List ℕ) Stop) → AllKept (carry_outputs f) old new → KeepsInOrder f old new end
+  keeps_all end kept = record {
+    own = λ stop is own. kept;
+    program = λ files told stop stops. kept;
+    entries = λ files told stop stops. kept;
+    ports = λ files told stop stops. kept;
+  }
+
+  -- the files that are read first were taken
+  pub keeps_begun : (A : Type 0) (begun : A) → InOrder {A = A} f old (Ok begun) → (end : Result (List ℕ) Stop) → ((stop : Stop) → end ≡ Err stop → OfPorts stop → ⊥) → KeepsInOrder f old new end
+  keeps_begun A begun order end late = record {
+    own = λ stop is own. absurd (late stop is own);
+    program = λ files told stop stops. let taken = order.program files told in absurd (taken_goes_on (files f.program) taken.0 stop taken.1 stops);
+    entries = λ files told stop stops. absurd (entries_not f files (order.entries files told) stop stops);
+    ports = λ files told stop stops. let taken = order.ports files told in absurd (begins_not f files taken.0 taken.1 stop taken.2 stops);
+  }

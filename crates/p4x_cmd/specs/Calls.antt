@@ -18,7 +18,7 @@ use Rattle.match_core.specs.Fits.{Fits}
 use Rattle.p4x_cmd.specs.declared.one_table.OneTable14.{OneTable14}
 use Rattle.p4x_cmd.specs.Carries.{SameRuns}
 use Rattle.run_stream.specs.Captured.{capture_limit}
-use Rattle.p4x_cmd.specs.Carry.{CarryDue, ProgramIs, HasProgram, Begins, StopsBefore, TakesPorts, InOrder, Written, entries_stop, ports_end, program_read, entries_read, ports_read, capture_reports}
+use Rattle.p4x_cmd.specs.Carry.{CarryDue, ProgramIs, HasProgram, Begins, StopsBefore, StopsAtProgram, StopsAtEntries, TakesPorts, InOrder, KeepsInOrder, Written, entries_stop, ports_end, program_read, entries_read, ports_read, capture_reports}
 use Rattle.p4x_cmd.specs.Entries.{no_entries}
 use Rattle.p4x_cmd.specs.Forms14.{Reads14}
 use Rattle.p4x_cmd.specs.Meaning16.{signature16}
@@ -187,6 +187,17 @@ pub record Translated (f : CarryFiles) (files : Held) (old new : DeskView) : Typ
   pub empty : GivesNothing (files f.capture)
       → (new.told f.sent ≡ put (old.told f.sent) []) × (new.told f.report ≡ put (old.told f.report) [])
 
+-- No output file of `carry` is made or changed with status 3 or 4; nor with any status where the program, the entries or
+-- the ports aren't taken. Each asks of the desk only that it tells the files that are read until then.
+pub record CarryKept (f : CarryFiles) (files : Held) (old new : DeskView) (status : ℕ) : Type 0 where
+  pub refused : (status ≡ 3) ⊎ (status ≡ 4) → AllKept (carry_outputs f) old new
+  pub program : Tells (program_read f) old files → (stop : Stop) → StopsAtProgram f files stop
+      → AllKept (carry_outputs f) old new
+  pub entries : Tells (entries_read f) old files → (stop : Stop) → StopsAtEntries f files stop
+      → AllKept (carry_outputs f) old new
+  pub ports : Tells (ports_read f) old files → (stop : Stop) → StopsBefore f files stop
+      → AllKept (carry_outputs f) old new
+
 -- What the output files of `carry` hold. Where the program, the entries or the ports aren't taken, none is made or
 -- changed, whatever the status. Where the capture isn't taken, the text is whole, and the others hold what the whole
 -- records in front give. With every status each is as it was, or holds a front of its content; but for 1 and 7 it is
@@ -202,9 +213,15 @@ pub record CarryLeft (f : CarryFiles) (files : Held) (old new : DeskView) (statu
 abbrev pub Left : Command → Held → DeskView → DeskView → ℕ → Type 0
 Left (carry f) files old new status = CarryLeft f files old new status
 
--- no file but the outputs changes, and where the inputs are told the outputs are these
+-- the output files of a command that are kept
+abbrev pub Kept : Command → Held → DeskView → DeskView → ℕ → Type 0
+Kept (carry f) files old new status = CarryKept f files old new status
+
+-- No file but the outputs changes. They are kept where the work stops before it writes, and where the inputs are told
+-- they are these.
 pub record FilesLeft (found : Option Command) (old new : DeskView) (status : ℕ) : Type 0 where
   pub only : OnlyThese (outputs_in found) old new
+  pub kept : OnForm found (λ c files. Kept c files old new status)
   pub outputs : OnTold found old (λ c files. Left c files old new status)
 
 -- The clauses `line` and `outcome`.
@@ -235,4 +252,4 @@ abbrev pub WorksFor : Option Command → DeskView → DeskView → Result (List 
 WorksFor None old new end = (end ≡ Err Usage) × (new ≡ old)
 WorksFor (Some (carry f)) old new end =
     Works (carry_inputs f) (carry_outputs f) (CarryDue f) old new end × PacketsFit f old end
-    × EndsInOrder (carry f) old end
+    × EndsInOrder (carry f) old end × KeepsInOrder f old new end

@@ -14,11 +14,11 @@ use Rattle.p4x_cmd.specs.FirstCut.{is_first_cut}
 use Rattle.p4x_cmd.specs.Forms14.{Reads14}
 use Rattle.p4x_cmd.specs.Forms16.{Reads16}
 use Rattle.file_work.specs.Phases.{StopsOrGoesOn}
-use Rattle.file_work.specs.Works.{Held, Due, Tells}
+use Rattle.file_work.specs.Works.{Held, Due, Tells, AllKept}
 use Rattle.run_stream.specs.Captured.{Reports, reports_over}
 use Rattle.p4x_cmd.specs.Reports.{lined}
 use Rattle.p4x_cmd.specs.Runs.{this_run}
-use Rattle.command_words.specs.Words.{CarryFiles}
+use Rattle.command_words.specs.Words.{CarryFiles, carry_outputs}
 
 -- the greatest length in octets of a program
 abbrev pub program_limit : ℕ
@@ -130,6 +130,17 @@ pub record InOrder {A : Type 0} (f : CarryFiles) (old : DeskView) (end : Result 
       → StopsOrGoesOn (StopsAtEntries f files) (TakesEntries f files) OfEntries end
   pub ports : (files : Held) → Tells (ports_read f) old files
       → StopsOrGoesOn (StopsBefore f files) (TakesPorts f files) OfPorts end
+
+-- No output is made or changed where the work stops before it writes: by how it ends, or by the files that it reads
+-- first, whatever the desk tells of the others.
+pub record KeepsInOrder (f : CarryFiles) (old new : DeskView) (end : Result (List ℕ) Stop) : Type 0 where
+  pub own : (stop : Stop) → end ≡ Err stop → OfPorts stop → AllKept (carry_outputs f) old new
+  pub program : (files : Held) → Tells (program_read f) old files → (stop : Stop) → StopsAtProgram f files stop
+      → AllKept (carry_outputs f) old new
+  pub entries : (files : Held) → Tells (entries_read f) old files → (stop : Stop) → StopsAtEntries f files stop
+      → AllKept (carry_outputs f) old new
+  pub ports : (files : Held) → Tells (ports_read f) old files → (stop : Stop) → StopsBefore f files stop
+      → AllKept (carry_outputs f) old new
 
 -- The text reads as this program of P4_16, and as no other; the program is well-typed, it is one on which the meaning is
 -- whole, and it carries the program of P4_14.

@@ -4,7 +4,7 @@ ghost use Rattle.state_store.specs.Ports.{IsPort};
 ghost use Rattle.p4x_io.specs.Desk.{Rose, Moves, put, grown};
 ghost use Rattle.p4x_cmd.specs.declared.one_table.OneTable14.{OneTable14};
 ghost use Rattle.p4x_cmd.specs.Calls.{PacketsFit};
-ghost use Rattle.p4x_cmd.specs.Carry.{ProgramIs, entries_stop, ports_in, ports_end, StopsBefore, Begins, CarryDue, InOrder};
+ghost use Rattle.p4x_cmd.specs.Carry.{ProgramIs, entries_stop, ports_in, ports_end, StopsBefore, Begins, CarryDue, InOrder, KeepsInOrder};
 ghost use Rattle.p4x_cmd.specs.Forms14.{is_one_table};
 ghost use Rattle.p4x_cmd.specs.Forms16.{program16, Reads16};
 ghost use Rattle.p4x_cmd.specs.internal.Lowering.{lowered};
@@ -192,6 +192,7 @@ fn work<D: Desk>(alloc: Global, desk: &mut D, names: &CarryNames<'_>) -> Result<
         → Leaves (carry_outputs (files_of names.now)) (CarryDue (files_of names.now) files) (line_view result) (D.view desk.old) (D.view desk.new) }
     ensures packets { PacketsFit (files_of names.now) (D.view desk.old) (line_view result) }
     ensures order { InOrder (files_of names.now) (D.view desk.old) (line_view result) }
+    ensures kept { KeepsInOrder (files_of names.now) (D.view desk.old) (D.view desk.new) (line_view result) }
 {
     let beginning = prepare(alloc, desk, names)?;
     begin(desk, names, beginning.text.as_slice())?;
@@ -208,6 +209,7 @@ pub(crate) fn carry<D: Desk>(
     ensures works { Works (carry_inputs (files_of names.now)) (carry_outputs (files_of names.now)) (CarryDue (files_of names.now)) (D.view desk.old) (D.view desk.new) (line_view result) }
     ensures packets { PacketsFit (files_of names.now) (D.view desk.old) (line_view result) }
     ensures order { InOrder (files_of names.now) (D.view desk.old) (line_view result) }
+    ensures kept { KeepsInOrder (files_of names.now) (D.view desk.old) (D.view desk.new) (line_view result) }
 {
     work(alloc, desk, names)
 }

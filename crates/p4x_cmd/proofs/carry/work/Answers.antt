@@ -10,7 +10,7 @@ use Rattle.file_work.specs.Phases.{line_view}
 use Rattle.command_words.specs.Views.{files_of}
 use Rattle.p4x_cmd.proofs.Blaming.{run_blames}
 use Rattle.p4x_cmd.proofs.Left.{left_early, left_begin, left_run}
-use Rattle.p4x_cmd.proofs.Order.{order_stopped, order_run}
+use Rattle.p4x_cmd.proofs.Order.{order_stopped, order_run, run_late, fault_late, keeps_all, keeps_begun}
 use Rattle.p4x_cmd.proofs.Packets.{packets_of}
 use Rattle.p4x_cmd.proofs.Writing.{written_is}
 use Rattle.p4x_cmd.proofs.Named.{apart_of}
@@ -99,3 +99,21 @@ returns-in_err-beginning-clause-order g c =
 pub returns-clause-order : goal.returns-clause-order
 returns-clause-order g c =
     order_run _ (files_of c.args.names.now) _ c.in_ok-beginning.beginning c.in_ok-beginning.ensures.order c.run_capture.result c.run_capture.ensures.stops
+
+pub returns-in_err-beginning-clause-kept : goal.returns-in_err-beginning-clause-kept
+returns-in_err-beginning-clause-kept g c =
+    let p = err_from_is_err_and c.from_residual.result c.from_residual.ensures.1 in
+    let n = c.args.names.now in
+    let kept = c.prepare.ensures.moves.others in
+    rw p.1 (keeps_all (files_of n) _ _ _ (kept n.text.now tt, (kept n.sent.now tt, (kept n.report.now tt, tt))))
+
+pub returns-in_err-begin-clause-kept : goal.returns-in_err-begin-clause-kept
+returns-in_err-begin-clause-kept g c =
+    let p = err_from_is_err_and c.from_residual-in_err-begin.result c.from_residual-in_err-begin.ensures.1 in
+    let is : p.0 ≡ Fault = p.2 ∙ c.in_err-begin.ensures.only in
+    rw (p.1, is) (keeps_begun (files_of c.args.names.now) _ _ _ c.in_ok-beginning.beginning c.in_ok-beginning.ensures.order _ fault_late)
+
+pub returns-clause-kept : goal.returns-clause-kept
+returns-clause-kept g c =
+    keeps_begun (files_of c.args.names.now) _ _ _ c.in_ok-beginning.beginning c.in_ok-beginning.ensures.order (line_view c.run_capture.result)
+    (run_late c.run_capture.result c.run_capture.ensures.stops)
