@@ -11,10 +11,10 @@ use Rattle.file_work.specs.declared.stop.Stop.{Stop}
 use Rattle.file_work.specs.declared.stop.Stop.TheVariants.{Fault, Program, Entries}
 use Rattle.file_work.specs.Clauses.{Ended, OwnRose, AsDue}
 use Rattle.file_work.specs.Stops.{code_of, line_of}
-use Rattle.file_work.specs.Works.{Due, Leaves, Tells, AllExact, AllPart, AllKept}
+use Rattle.file_work.specs.Works.{Due, Leaves, Tells, AllExact, AllKept}
 use Rattle.file_work.proofs.Ends.{is_fault, is_usage, is_program, is_entries, not_done}
 use Rattle.file_work.proofs.Files.{put_told}
-use Rattle.file_work.proofs.Laws.{all_part, IsDone, left_fronts, left_ends, left_as_due, left_done}
+use Rattle.file_work.proofs.Laws.{IsDone, left_fronts, left_ends, left_as_due, left_done}
 use Rattle.file_work.proofs.Order.{due_status}
 use Rattle.p4x_cmd.specs.declared.one_table.OneTable14.{OneTable14}
 use Rattle.p4x_cmd.specs.Calls.{OnTold, OnForm, AreTold, Carried, Done, CarryStatuses, Statuses, AcceptsAll, Usages, CarryKept, Kept, CarryLeft, Left, FilesLeft, Translated, IsEnd, PacketsFit, WorksFor, inputs_in, outputs_in, RefusesCapture, OverCapture}
@@ -95,16 +95,6 @@ module _ (f : CarryFiles) (files : List ℕ → Option (List ℕ)) (old new : De
             line_is = d.printed ∙ ap (λ (x : Result (List ℕ) Stop). said before.printed (line_of x)) (d.end_is ∙ ap (λ (x : Due). x.end) went.6 ∙ run.end);
           }
 
-  -- the outputs are as they were where the work stops before it writes
-  due_kept : (stop : Stop) → StopsBefore f files stop → (d : Due) → CarryDue f files d → AllPart d.outs old new → AllKept (carry_outputs f) old new
-  due_kept stop stops d (inl early) part = subst (λ (x : Due). AllPart x.outs old new) early.2 part
-  due_kept stop stops d (inr went) part = absurd (begins_not f files went.0 went.1 stop went.4 stops)
-
-  left_kept : (stop : Stop) → StopsBefore f files stop → (end : Result (List ℕ) Stop) → Leaves (carry_outputs f) (CarryDue f files) end old new → AllKept (carry_outputs f) old new
-  left_kept stop stops end (inl exact) = due_kept stop stops exact.0 exact.1 (all_part exact.0.outs old new exact.3)
-  left_kept stop stops end (inr (inl kept)) = kept.1
-  left_kept stop stops end (inr (inr part)) = due_kept stop stops part.1.0 part.1.1 part.1.2
-
   -- the outputs are as they are due where the work has begun
   due_translated : (p : OneTable14) (ports : List ℕ) → Begins f files p ports → (d : Due) → CarryDue f files d → AllExact d.outs old new → Translated f files old new
   due_translated p ports begins d (inl early) exact = absurd (begins_not f files p ports early.0 begins early.1)
@@ -141,7 +131,6 @@ module _ (f : CarryFiles) (files : List ℕ → Option (List ℕ)) (old new : De
 
     files_left : CarryLeft f files old new status
     files_left = record {
-      kept = λ stop stops. left_kept stop stops end leaves;
       translated = λ refuses five. of_due_translated refuses status five as_due;
       fronts = left_fronts (carry_outputs f) (CarryDue f files) old new end leaves;
       as_due = as_due;
@@ -165,6 +154,10 @@ module _ (f : CarryFiles) (files : List ℕ → Option (List ℕ)) (old new : De
       all told =
           let leaves = e.is.0.leaves files told in
           statuses before after status e.end leaves (left_as_due (carry_outputs f) (CarryDue f files) old new e.end leaves before after status e.says)
+
+  -- where the desk tells all inputs, the outputs are kept wherever the work stops before it writes
+  pub all_kept : (status : ℕ) → CarryKept f files old new status → Tells (carry_inputs f) old files → (stop : Stop) → StopsBefore f files stop → AllKept (carry_outputs f) old new
+  all_kept status kept told = kept.ports (told.0, (told.1.0, told.1.1.1))
 
   -- the outputs are kept where the work stops before it writes
   kept_first : (before after : SinkView) (status : ℕ) → Ended (WorksFor (Some (carry f)) old new) before after status → CarryKept f files old new status

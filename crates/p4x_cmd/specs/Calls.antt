@@ -198,12 +198,10 @@ pub record CarryKept (f : CarryFiles) (files : Held) (old new : DeskView) (statu
   pub ports : Tells (ports_read f) old files → (stop : Stop) → StopsBefore f files stop
       → AllKept (carry_outputs f) old new
 
--- What the output files of `carry` hold. Where the program, the entries or the ports aren't taken, none is made or
--- changed, whatever the status. Where the capture isn't taken, the text is whole, and the others hold what the whole
--- records in front give. With every status each is as it was, or holds a front of its content; but for 1 and 7 it is
--- exactly as it is due.
+-- What the output files of `carry` hold. Where the capture isn't taken, the text is whole, and the others hold what the
+-- whole records in front give. With every status each is as it was, or holds a front of its content; but for 1 and 7 it
+-- is exactly as it is due.
 pub record CarryLeft (f : CarryFiles) (files : Held) (old new : DeskView) (status : ℕ) : Type 0 where
-  pub kept : (stop : Stop) → StopsBefore f files stop → AllKept (carry_outputs f) old new
   pub translated : RefusesCapture f files ⊎ OverCapture f files → (status ≡ 5) ⊎ (status ≡ 6)
       → Translated f files old new
   pub fronts : Fronts (carry_outputs f) (CarryDue f files) old new
@@ -217,8 +215,8 @@ Left (carry f) files old new status = CarryLeft f files old new status
 abbrev pub Kept : Command → Held → DeskView → DeskView → ℕ → Type 0
 Kept (carry f) files old new status = CarryKept f files old new status
 
--- No file but the outputs changes. They are kept where the work stops before it writes, and where the inputs are told
--- they are these.
+-- No file but the outputs changes. These are kept where the work stops before it writes; and where the inputs are told,
+-- they hold this.
 pub record FilesLeft (found : Option Command) (old new : DeskView) (status : ℕ) : Type 0 where
   pub only : OnlyThese (outputs_in found) old new
   pub kept : OnForm found (λ c files. Kept c files old new status)
