@@ -1,0 +1,4 @@
+mod Adding
+mod Headers
+mod Judging
+mod Sums

@@ -1,0 +1,4 @@
+-- Read Answers first: what a check of declarations answers.
+pub mod Answers
+pub mod Shown
+pub mod internal

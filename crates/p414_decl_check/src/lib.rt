@@ -1,0 +1,24 @@
+//! The check of a P4_14 program's declarations: the names of a program that breaks none of the rules C1 to C7, and else the
+//! least of them that it breaks.
+#![tactic(auto)]
+
+mod collect;
+mod currents;
+mod fault;
+mod flat;
+mod name_set;
+mod names;
+mod primitives;
+mod scope;
+mod selects;
+mod stacks;
+mod totals;
+mod twice;
+mod types;
+mod unknown;
+mod uses;
+mod widths;
+
+pub use fault::DeclFault;
+pub use flat::flat_names;
+pub use names::Names14;
