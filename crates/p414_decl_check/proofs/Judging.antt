@@ -1,19 +1,21 @@
 -- From the first rule that a test finds broken to what is said of a program.
-use Rattle.std.proofs.Common.{◌≡◌, inl, inr, Bool, true, false, cond, MatchBool, List, [], ◌∷◌, Option, Some, None, MatchOption, Ok, Err, refl, sym, ap, subst, ◌∙◌}
+use Rattle.std.proofs.Common.{◌≡◌, inl, inr, Bool, true, false, cond, MatchBool, List, [], ◌∷◌, ◌++◌, Option, Some, None, MatchOption, Result, Ok, Err, refl, sym, ap, subst, ◌∙◌}
 use Rattle.p414_ast.specs.declared.syntax.Decl.{Decl}
+use Rattle.p414_ast.specs.declared.syntax.Syntax14.{Syntax14}
 use Rattle.p414_rules.specs.declared.rule.ProgramRule.{ProgramRule}
-use Rattle.p414_rules.specs.declared.rule.ProgramRule.TheVariants.{C1}
+use Rattle.p414_rules.specs.declared.rule.ProgramRule.TheVariants.{C1, C8, C9, C10}
 use Rattle.p414_rules.specs.Twice.{declares_twice}
 use Rattle.p414_rules.specs.Unknown.{has_unknown_name}
 use Rattle.p414_rules.specs.Widths.{has_bad_width, has_bad_layout}
 use Rattle.p414_rules.specs.Stacks.{has_bad_stack}
 use Rattle.p414_rules.specs.Selects.{has_bad_select}
 use Rattle.p414_rules.specs.Totals.{has_too_much}
-use Rattle.p414_rules.specs.Breaks.{IsBroken, IsFirstBroken, BreaksNone, rule_fault}
+use Rattle.p414_rules.specs.Lists.{HasBadList}
+use Rattle.p414_rules.specs.Breaks.{IsBroken, IsFirstBroken, BreaksNone, Breaks14, declaration_rules, rule_fault}
 use Rattle.p414_decl_check.specs.declared.fault.DeclFault.{DeclFault}
-use Rattle.p414_decl_check.specs.declared.fault.DeclFault.TheVariants.{Refused}
-use Rattle.p414_decl_check.specs.Answers.{flat_rules, Blames, IsAnswer}
-use Rattle.p414_decl_check.specs.internal.Judged.{is_flat_broken, first_broken, behind_c1}
+use Rattle.p414_decl_check.specs.declared.fault.DeclFault.TheVariants.{Memory, Refused}
+use Rattle.p414_decl_check.specs.Answers.{flat_rules, Blames, IsAnswer, BlamesLeast}
+use Rattle.p414_decl_check.specs.internal.Judged.{is_flat_broken, first_broken, behind_c1, IsExact}
 
 -- a rule is broken exactly where its test says so
 abbrev Judges : List Decl → ProgramRule → Type 0
@@ -94,3 +96,42 @@ answer_names ds found names behind h some e none =
     let once : (declares_twice ds ≡ false) × (names ≡ ds) = subst (λ (o : Option (List Decl)). AreNames ds o) some h in
     let first : first_broken ds behind_c1 ≡ None = ap (λ n. first_broken n behind_c1) (sym once.1) ∙ (sym e ∙ none) in
     (breaks_none ds once.0 first, once.1)
+
+-- further rules behind these
+
+further : (ds : List Decl) (rule : ProgramRule) (rules more : List ProgramRule) → IsFirstBroken ds rules rule → IsFirstBroken ds (rules ++ more) rule
+further ds rule [] more h = absurd h
+further ds rule (r ∷ rules) more (inl h) = inl h
+further ds rule (r ∷ rules) more (inr h) = inr (h.0, further ds rule rules more h.1)
+
+first_behind : (ds : List Decl) (rule : ProgramRule) (rules : List ProgramRule) → BreaksNone ds rules → IsBroken ds rule → IsFirstBroken ds (rules ++ rule ∷ []) rule
+first_behind ds rule [] h broken = inl (broken, refl)
+first_behind ds rule (r ∷ rules) h broken = inr (h.0, first_behind ds rule rules h.1 broken)
+
+none_behind : (ds : List Decl) (rule : ProgramRule) (rules : List ProgramRule) → BreaksNone ds rules → (IsBroken ds rule → ⊥) → BreaksNone ds (rules ++ rule ∷ [])
+none_behind ds rule [] h whole = (whole, _)
+none_behind ds rule (r ∷ rules) h whole = (h.0, none_behind ds rule rules h.1 whole)
+
+pub blames_lists : (ds : List Decl) → BreaksNone ds flat_rules → HasBadList ds → Blames ds declaration_rules (rule_fault C8)
+unfolding IsBroken
+blames_lists ds none bad = (C8, first_behind ds C8 flat_rules none bad, refl)
+
+pub breaks_no_rule : (ds : List Decl) → BreaksNone ds flat_rules → (HasBadList ds → ⊥) → BreaksNone ds declaration_rules
+unfolding IsBroken
+breaks_no_rule ds none whole = none_behind ds C8 flat_rules none whole
+
+-- what is blamed is the least rule of all that is broken
+pub least_of_all : (s : Syntax14) (names : Result (List Decl) DeclFault) → IsAnswer s.decls declaration_rules names → BlamesLeast s names
+unfolding Breaks14
+least_of_all s (Ok ds) h = _
+least_of_all s (Err Memory) h = _
+least_of_all s (Err (Refused f)) (rule, first, is) = (rule, further s.decls rule declaration_rules (C9 ∷ C10 ∷ []) first, is)
+
+-- the same as answers, by whether C8 is broken
+
+pub answer_lists : (ds : List Decl) (bad : Bool) (fault : DeclFault) → BreaksNone ds flat_rules → IsExact bad (HasBadList ds) → bad ≡ true → fault ≡ Refused (rule_fault C8) → IsAnswer ds declaration_rules (Err fault)
+answer_lists ds bad fault none exact e is =
+    subst (λ (f : DeclFault). IsAnswer ds declaration_rules (Err f)) (sym is) (blames_lists ds none (subst (λ (b : Bool). IsExact b (HasBadList ds)) e exact))
+
+pub answer_whole : (ds : List Decl) (bad : Bool) → BreaksNone ds flat_rules → IsExact bad (HasBadList ds) → bad ≡ false → IsAnswer ds declaration_rules (Ok ds)
+answer_whole ds bad none exact e = (breaks_no_rule ds none (subst (λ (b : Bool). IsExact b (HasBadList ds)) e exact), refl)

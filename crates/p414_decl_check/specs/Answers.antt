@@ -2,9 +2,10 @@
 use Rattle.std.specs.Prelude.{◌≡◌, List, [], ◌∷◌, Result, Ok, Err}
 use Rattle.p4x_fault.specs.declared.Fault.{Fault}
 use Rattle.p414_ast.specs.declared.syntax.Decl.{Decl}
+use Rattle.p414_ast.specs.declared.syntax.Syntax14.{Syntax14}
 use Rattle.p414_rules.specs.declared.rule.ProgramRule.{ProgramRule}
 use Rattle.p414_rules.specs.declared.rule.ProgramRule.TheVariants.{C1, C2, C3, C4, C5, C6, C7}
-use Rattle.p414_rules.specs.Breaks.{IsFirstBroken, BreaksNone, rule_fault}
+use Rattle.p414_rules.specs.Breaks.{IsFirstBroken, BreaksNone, Breaks14, rule_fault}
 use Rattle.p414_decl_check.specs.declared.fault.DeclFault.{DeclFault}
 use Rattle.p414_decl_check.specs.declared.fault.DeclFault.TheVariants.{Memory, Refused}
 
@@ -22,3 +23,9 @@ abbrev pub IsAnswer : List Decl → List ProgramRule → Result (List Decl) Decl
 IsAnswer ds rules (Ok names) = BreaksNone ds rules × (names ≡ ds)
 IsAnswer ds rules (Err Memory) = Unit {0}
 IsAnswer ds rules (Err (Refused fault)) = Blames ds rules fault
+
+-- A fault tells of the least of all rules of P4_14 that the syntax breaks.
+abbrev pub BlamesLeast : Syntax14 → Result (List Decl) DeclFault → Type 0
+BlamesLeast s (Ok names) = Unit {0}
+BlamesLeast s (Err Memory) = Unit {0}
+BlamesLeast s (Err (Refused fault)) = (rule : ProgramRule) × Breaks14 s rule × (fault ≡ rule_fault rule)

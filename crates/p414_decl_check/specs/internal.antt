@@ -5,3 +5,5 @@ pub mod Collected
 pub mod Parameters
 pub mod Parts
 pub mod Judged
+pub mod Expanded
+pub mod Measures

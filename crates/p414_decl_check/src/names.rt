@@ -1,5 +1,5 @@
 // The names of a program, sort by sort.
-ghost use Rattle.std.specs.Prelude.{◌≡◌, true, false, map, take, option_copied, slice_get, length, IfOk, MatchOption};
+ghost use Rattle.std.specs.Prelude.{◌≡◌, true, false, map, take, option_copied, slice_get, length, ◌<◌, ◌≤◌, IfOk, IfSome, MatchOption};
 ghost use Rattle.std.specs.List.{list_any};
 ghost use Rattle.p414_ast.specs.References.{referred};
 ghost use Rattle.p414_rules.specs.Names.{names_in, number_of, declaration_of, is_declared};
@@ -31,6 +31,9 @@ const SORTS: [Sort; 8] = [
     Sort::Calculation,
     Sort::Object,
 ];
+
+/// How many declarations a program has at most: their numbers have 32 bits.
+const MOST_DECLS: usize = 0xffff_ffff;
 
 /// The names of a program, sort by sort, with what they are declared by. Contracts see the declarations of the program.
 #[derive(Drop)]
@@ -142,10 +145,14 @@ fn is_header_in(decl: &Decl) -> bool
     matches!(decl, Decl::Header(_))
 }
 
-/// The names of a program; none where a name is declared twice in its sort (C1).
+/// The names of a program; none where a name is declared twice in its sort (C1). More declarations than numbers of 32
+/// bits can tell apart are want of memory.
 pub fn names_of(alloc: Global, decls: &[Decl]) -> Result<Option<Names14<'_>>, OutOfMemory>
     ensures { IfOk result (λ found. MatchOption found (declares_twice decls.now ≡ true) (λ names. (declares_twice decls.now ≡ false) × (names ≡ decls.now))) }
 {
+    if decls.len() > MOST_DECLS {
+        return Err(OutOfMemory);
+    }
     if some_repeat_within(alloc, decls)? {
         return Ok(None);
     }
@@ -172,7 +179,8 @@ impl<'a> Names14<'a> {
 
     /// The names of a sort.
     fn scope(&self, sort: Sort) -> &Scope<'a>
-        ensures { result.now ≡ (sort, self.now) }
+        ensures is { result.now ≡ (sort, self.now) }
+        ensures few { length self.now ≤ 4294967295 }
     {
         match sort {
             Sort::HeaderType => &self.scopes[0],
@@ -187,10 +195,23 @@ impl<'a> Names14<'a> {
     }
 
     /// The number of a name in a sort, from 0 in the order of the text; none where the sort doesn't have it.
+    #[tactic(auto, using(crate::proofs::Numbers::number_below))]
     pub fn number_of(&self, sort: Sort, name: &[u8]) -> Option<usize>
-        ensures { result ≡ number_of sort self.now name.now }
+        ensures is { result ≡ number_of sort self.now name.now }
+        ensures fits { IfSome result (λ number. number < 4294967296) }
     {
         self.scope(sort).find(name)
+    }
+
+    /// The number of a name in a sort, from 0 in the order of declaration; none exactly where no declaration of the sort
+    /// has the name.
+    pub fn find(&self, sort: Sort, name: &[u8]) -> Option<u32>
+        ensures { result ≡ number_of sort self.now name.now }
+    {
+        match self.number_of(sort, name) {
+            Some(number) => Some(number as u32),
+            None => None,
+        }
     }
 
     /// The declaration of a name in a sort; none where the sort doesn't have it.

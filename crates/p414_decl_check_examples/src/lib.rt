@@ -7,6 +7,8 @@ mod broken;
 #[cfg(test)]
 mod kept;
 #[cfg(test)]
+mod lists;
+#[cfg(test)]
 mod setting;
 #[cfg(test)]
 mod totals;

@@ -1,6 +1,6 @@
 // What the examples have in common: a program that breaks no rule, and what is expected of a program.
 use p4x_fault::{Fault, Rule};
-use p414_decl_check::{DeclFault, flat_names};
+use p414_decl_check::{DeclFault, decls};
 use p414_reader::read14;
 use std::process::Abort;
 use std::test::Fail;
@@ -36,10 +36,7 @@ pub fn expect_rule(
         })),
         None => None,
     };
-    assert_eq!(rt;
-        flat_names(rt.alloc(), syntax.decls.as_slice()).err(),
-        expected
-    );
+    assert_eq!(rt; decls(rt.alloc(), &syntax).err(), expected);
     Ok(())
 }
 
@@ -69,4 +66,17 @@ pub fn expect_kept(rt: &(impl Abort + AllocGlobal), cases: &[&[u8]]) -> Result<(
         expect_behind(rt, case, None)?;
     }
     Ok(())
+}
+
+/// The frame with these behind one another breaks this rule, and no lower one; or none.
+pub fn expect_lists(
+    rt: &(impl Abort + AllocGlobal),
+    parts: &[&[u8]],
+    rule: Option<u8>,
+) -> Result<(), Fail> {
+    let mut text = Vec::new(rt.alloc());
+    for part in parts {
+        text.extend_from_slice(part)?;
+    }
+    expect_behind(rt, &text, rule)
 }

@@ -1,5 +1,5 @@
 -- The tables of names.
-use Rattle.std.specs.Prelude.{◌≡◌, ℕ, List, map, slice_get, Option, option_and_then}
+use Rattle.std.specs.Prelude.{◌≡◌, ℕ, ◌≤◌, List, length, map, slice_get, Option, option_and_then}
 use Rattle.p414_ast.specs.declared.syntax.Decl.{Decl}
 use Rattle.p414_ast.specs.declared.syntax.Sort.{Sort}
 use Rattle.p414_ast.specs.Views.{HeaderTypeTree}
@@ -17,6 +17,7 @@ scopes ds ss = map (scope_in ds) ss
 pub record AreTables (ds : List Decl) (tables : List (Sort × List Decl)) (ts : List HeaderTypeTree) : Type 0 where
   pub scopes_are : tables ≡ scopes ds sorts
   pub types_are : ts ≡ types ds
+  pub few : length ds ≤ 4294967295
 
 -- the bits of a field of the header type with this number, if it has one
 abbrev pub width_at : List HeaderTypeTree → ℕ → Name → Option ℕ
