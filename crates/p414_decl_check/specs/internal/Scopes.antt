@@ -15,7 +15,8 @@ pub record IsGathered (sort : Sort) (ds : List Decl) (s : Gathered) : Type 0 whe
 -- a declaration and the name that it declares, if it declares one, are put behind these, unless the name is there
 abbrev pub IsPutAs : Option Name → Gathered → Gathered → Decl → Bool → Type 0
 IsPutAs None old new d fresh = (new ≡ old) × (fresh ≡ true)
-IsPutAs (Some name) old new d true = (has_name old.names name ≡ false) × (new.names ≡ old.names ++ name ∷ []) × (new.declared ≡ old.declared ++ d ∷ [])
+IsPutAs (Some name) old new d true =
+    (has_name old.names name ≡ false) × (new.names ≡ old.names ++ name ∷ []) × (new.declared ≡ old.declared ++ d ∷ [])
 IsPutAs (Some name) old new d false = has_name old.names name ≡ true
 
 abbrev pub IsPut : Sort → Gathered → Gathered → Decl → Bool → Type 0
