@@ -90,6 +90,24 @@ impl Built {
         mem::replace(&mut self.decls, Rows::new(alloc))
     }
 
+    /// Lets all parts go, one group after another.
+    pub fn let_go(self)
+    {
+        let Built {
+            parts,
+            headers,
+            calculations,
+            states,
+            bodies,
+            ..
+        } = self;
+        drop(parts);
+        drop(headers);
+        drop(calculations);
+        drop(states);
+        drop(bodies);
+    }
+
     /// Whether the token is of the class.
     pub fn accepts(&self, class: Class, token: TokenView<'_>) -> bool
         ensures { result ≡ accepts class (lexeme_of token.entry) self.now }

@@ -62,7 +62,9 @@ fn parse_tokens(alloc: Global, text: &[u8], tokens: &[Token14]) -> Result<Syntax
         tokens,
         built: Built::new(alloc),
     };
-    parse_decls(alloc, &mut reading, text, tokens)
+    let syntax = parse_decls(alloc, &mut reading, text, tokens);
+    reading.built.let_go();
+    syntax
 }
 
 /// The same, where nothing is built yet.
