@@ -3,11 +3,13 @@ ghost use Rattle.std.specs.Prelude.{◌≡◌, [], ◌∷◌, OnOk};
 ghost use Rattle.predictive_parser.specs.Values.{newest, extended};
 ghost use Rattle.p414_reader.specs.declared.symbols.BodyAction.TheVariants as BodyAction;
 ghost use Rattle.p414_reader.specs.internal.Classes.{may_follow};
-ghost use Rattle.p414_reader.specs.internal.Actions.{put_body, label_of, with_no_else};
+ghost use Rattle.p414_reader.specs.internal.Actions.{put_body, label_of, with_no_else, with_bodies};
+ghost use Rattle.p414_reader.specs.declared.parts.Parts.{Parts};
+ghost use Rattle.p414_reader.specs.internal.Built.{Built, flat};
 
-use crate::built::Built;
 use crate::forest::Forest;
 use crate::labels::Labels;
+use crate::parts::Parts;
 use crate::symbols::BodyAction;
 use p4x_bits::{OutOfMemory, Text};
 use p414_ast::{ExprNode, Label, StmtNode};
@@ -64,35 +66,52 @@ impl Bodies {
         let labels = labels.with(alloc, text)?;
         self.labels.push(labels)
     }
-}
 
-impl Built {
-    /// Does the action.
-    pub fn put_body(&mut self, alloc: Global, action: BodyAction) -> Result<(), OutOfMemory>
-        ensures { OnOk result (self.new ≡ put_body action self.old) }
+    /// Does the action, on these parts.
+    pub fn put(
+        &mut self,
+        alloc: Global,
+        parts: &mut Parts,
+        action: BodyAction,
+    ) -> Result<(), OutOfMemory>
+        ensures { OnOk result ((b : Built) → put_body action (with_bodies parts.old (flat self.old) b) ≡ with_bodies parts.new (flat self.new) b) }
     {
-        let Built { parts, bodies, .. } = self;
-        let forest = &mut bodies.forest;
         match action {
-            BodyAction::Number => forest.expression(ExprNode::Number(parts.take_literal())),
-            BodyAction::Truth(value) => forest.expression(ExprNode::Truth(value)),
-            BodyAction::Valid => forest.expression(ExprNode::Valid(parts.take_instance(alloc))),
-            BodyAction::Field => forest.expression(ExprNode::Field(parts.take_field(alloc))),
-            BodyAction::Parenthesized => forest.parenthesized(),
-            BodyAction::Unary(operator) => forest.unary(operator),
-            BodyAction::Binary(operator) => forest.binary(operator),
-            BodyAction::NoTails => forest.open_tails(alloc),
-            BodyAction::AddLength => forest.add_length(alloc),
-            BodyAction::AddMaxLength => forest.add_max_length(alloc),
-            BodyAction::NoStatements => forest.statement(StmtNode::NoStatements),
-            BodyAction::AddCall => forest.add_statement(StmtNode::Call(parts.take_name(alloc))),
-            BodyAction::AddCallOf(word) => {
-                forest.add_statement(StmtNode::Call(word.to_text(alloc)?))
+            BodyAction::Number => {
+                let node = ExprNode::Number(parts.take_literal());
+                self.forest.expression(node)
             }
-            BodyAction::AddApply => forest.add_statement(StmtNode::Apply(parts.take_name(alloc))),
+            BodyAction::Truth(value) => self.forest.expression(ExprNode::Truth(value)),
+            BodyAction::Valid => {
+                let node = ExprNode::Valid(parts.take_instance(alloc));
+                self.forest.expression(node)
+            }
+            BodyAction::Field => {
+                let node = ExprNode::Field(parts.take_field(alloc));
+                self.forest.expression(node)
+            }
+            BodyAction::Parenthesized => self.forest.parenthesized(),
+            BodyAction::Unary(operator) => self.forest.unary(operator),
+            BodyAction::Binary(operator) => self.forest.binary(operator),
+            BodyAction::NoTails => self.forest.open_tails(alloc),
+            BodyAction::AddLength => self.forest.add_length(alloc),
+            BodyAction::AddMaxLength => self.forest.add_max_length(alloc),
+            BodyAction::NoStatements => self.forest.statement(StmtNode::NoStatements),
+            BodyAction::AddCall => {
+                let node = StmtNode::Call(parts.take_name(alloc));
+                self.forest.add_statement(node)
+            }
+            BodyAction::AddCallOf(word) => {
+                let node = StmtNode::Call(word.to_text(alloc)?);
+                self.forest.add_statement(node)
+            }
+            BodyAction::AddApply => {
+                let node = StmtNode::Apply(parts.take_name(alloc));
+                self.forest.add_statement(node)
+            }
             BodyAction::NoBranches => self.no_branches(alloc),
-            BodyAction::AddBranch => forest.branch(label_of(parts.take_name(alloc))),
-            BodyAction::AddApplyBranches => self.add_apply_branches(alloc),
+            BodyAction::AddBranch => self.forest.branch(label_of(parts.take_name(alloc))),
+            BodyAction::AddApplyBranches => self.add_apply_branches(alloc, parts),
             BodyAction::NoElse => self.no_else(false),
             BodyAction::NoElseThenCall => self.no_else(true),
             BodyAction::ElseBlock => self.else_block(),
@@ -103,55 +122,55 @@ impl Built {
 
     /// Begins a list of branches.
     fn no_branches(&mut self, alloc: Global) -> Result<(), OutOfMemory>
-        ensures { OnOk result (self.new ≡ put_body BodyAction.NoBranches self.old) }
+        ensures { OnOk result ((p : Parts) (b : Built) → put_body BodyAction.NoBranches (with_bodies p (flat self.old) b) ≡ with_bodies p (flat self.new) b) }
     {
-        self.bodies.forest.statement(StmtNode::NoBranches)?;
-        self.bodies.labels.push(Labels::new(alloc))
+        self.forest.statement(StmtNode::NoBranches)?;
+        self.labels.push(Labels::new(alloc))
     }
 
     /// Puts `apply` of the newest name, with the newest branches, into the newest list of statements.
-    fn add_apply_branches(&mut self, alloc: Global) -> Result<(), OutOfMemory>
-        ensures { OnOk result (self.new ≡ put_body BodyAction.AddApplyBranches self.old) }
+    fn add_apply_branches(&mut self, alloc: Global, parts: &mut Parts) -> Result<(), OutOfMemory>
+        ensures { OnOk result ((b : Built) → put_body BodyAction.AddApplyBranches (with_bodies parts.old (flat self.old) b) ≡ with_bodies parts.new (flat self.new) b) }
     {
-        let _ = self.bodies.labels.pop_or(Labels::new(alloc));
-        let table = self.parts.take_name(alloc);
-        self.bodies.forest.apply_branches(table)?;
-        self.bodies.forest.then()
+        let _ = self.labels.pop_or(Labels::new(alloc));
+        let table = parts.take_name(alloc);
+        self.forest.apply_branches(table)?;
+        self.forest.then()
     }
 
     /// Nothing stands behind the block, and then a control `else` is called or not.
     fn no_else(&mut self, is_called: bool) -> Result<(), OutOfMemory>
-        ensures { OnOk result (self.new ≡ with_no_else is_called self.old) }
+        ensures { OnOk result ((p : Parts) (b : Built) → with_no_else is_called (with_bodies p (flat self.old) b) ≡ with_bodies p (flat self.new) b) }
     {
-        self.bodies.forest.statement(StmtNode::NoElse)?;
-        self.bodies.else_calls.push(is_called)
+        self.forest.statement(StmtNode::NoElse)?;
+        self.else_calls.push(is_called)
     }
 
     /// `else` before the newest list of statements, with no call of a control `else` behind it.
     fn else_block(&mut self) -> Result<(), OutOfMemory>
-        ensures { OnOk result (self.new ≡ put_body BodyAction.ElseBlock self.old) }
+        ensures { OnOk result ((p : Parts) (b : Built) → put_body BodyAction.ElseBlock (with_bodies p (flat self.old) b) ≡ with_bodies p (flat self.new) b) }
     {
-        self.bodies.forest.else_block()?;
-        self.bodies.else_calls.push(false)
+        self.forest.else_block()?;
+        self.else_calls.push(false)
     }
 
     /// `else` before an `if` statement of the newest condition, block and what stands behind the block.
     fn else_if(&mut self) -> Result<(), OutOfMemory>
-        ensures { OnOk result (self.new ≡ put_body BodyAction.ElseIf self.old) }
+        ensures { OnOk result ((p : Parts) (b : Built) → put_body BodyAction.ElseIf (with_bodies p (flat self.old) b) ≡ with_bodies p (flat self.new) b) }
     {
-        self.bodies.forest.if_then()?;
-        self.bodies.forest.else_if()
+        self.forest.if_then()?;
+        self.forest.else_if()
     }
 
     /// Puts the `if` statement into the newest list of statements, and behind it the call of a control `else` where
     /// one is called.
     fn add_if(&mut self, alloc: Global) -> Result<(), OutOfMemory>
-        ensures { OnOk result (self.new ≡ put_body BodyAction.AddIf self.old) }
+        ensures { OnOk result ((p : Parts) (b : Built) → put_body BodyAction.AddIf (with_bodies p (flat self.old) b) ≡ with_bodies p (flat self.new) b) }
     {
-        self.bodies.forest.if_then()?;
-        self.bodies.forest.then()?;
-        let is_called = self.bodies.else_calls.pop_or(false);
-        self.bodies.forest.else_call(alloc, is_called)
+        self.forest.if_then()?;
+        self.forest.then()?;
+        let is_called = self.else_calls.pop_or(false);
+        self.forest.else_call(alloc, is_called)
     }
 }
 

@@ -12,6 +12,7 @@ use crate::bodies::Bodies;
 use crate::calculations::Calculations;
 use crate::calls::Calls;
 use crate::headers::Headers;
+use crate::objects::put_object;
 use crate::operators::{is_infix, is_prefix};
 use crate::parts::Parts;
 use crate::states::States;
@@ -91,8 +92,7 @@ impl Built {
     }
 
     /// Lets all parts go, one group after another.
-    pub fn let_go(self)
-    {
+    pub fn let_go(self) {
         let Built {
             parts,
             headers,
@@ -182,13 +182,13 @@ impl Built {
     {
         match action {
             Action::Part(action) => self.parts.put(alloc, action),
-            Action::Header(action) => self.put_header(alloc, action),
-            Action::Calculation(action) => self.put_calculation(alloc, action),
-            Action::State(action) => self.put_state(alloc, action),
-            Action::Call(action) => self.put_call(alloc, action),
-            Action::Table(action) => self.put_table(alloc, action),
-            Action::Object(action) => self.put_object(alloc, action),
-            Action::Body(action) => self.put_body(alloc, action),
+            Action::Header(action) => self.headers.put(alloc, &mut self.parts, action),
+            Action::Calculation(action) => self.calculations.put(alloc, &mut self.parts, action),
+            Action::State(action) => self.states.put(alloc, &mut self.parts, action),
+            Action::Call(action) => self.calls.put(alloc, &mut self.parts, action),
+            Action::Table(action) => self.tables.put(alloc, &mut self.parts, action),
+            Action::Object(action) => put_object(alloc, &mut self.parts, &mut self.objects, action),
+            Action::Body(action) => self.bodies.put(alloc, &mut self.parts, action),
             Action::NoGroup => self.groups.push(None),
             Action::EmptyGroup => self.groups.push(Some(Rows::new(alloc))),
             Action::AddDecl(kind) => self.add_decl(alloc, kind),

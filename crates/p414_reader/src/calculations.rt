@@ -1,13 +1,13 @@
 // Field lists and calculated fields, as they are put together.
-ghost use Rattle.std.specs.Prelude.{◌≡◌, OnOk};
+ghost use Rattle.std.specs.Prelude.{◌≡◌, OnOk, [], ◌∷◌, None};
 ghost use Rattle.p414_ast.specs.Conditions.{is_bare};
 ghost use Rattle.p414_lexemes.specs.declared.keyword.Keyword.TheVariants as key;
 ghost use Rattle.p414_lexemes.specs.Keywords.{keyword_text};
-ghost use Rattle.p414_reader.specs.declared.symbols.CalculationAction.TheVariants as CalculationAction;
-ghost use Rattle.p414_reader.specs.internal.Built.{no_calculations};
-ghost use Rattle.p414_reader.specs.internal.Actions.{put_calculation, item_of};
+ghost use Rattle.predictive_parser.specs.Values.{newest, older, extended};
+ghost use Rattle.p414_reader.specs.internal.Built.{Built, no_calculations};
+ghost use Rattle.p414_reader.specs.internal.Actions.{put_calculation, last_name, item_of, with_calculations};
 
-use crate::built::Built;
+use crate::parts::Parts;
 use crate::symbols::CalculationAction;
 use p4x_bits::{OutOfMemory, Rows, Text};
 use p414_ast::{Calc, CalcCond, CalcUse, Inst, Item, Ref};
@@ -34,60 +34,58 @@ impl Calculations {
             entries: ValueStack::new(alloc),
         }
     }
-}
 
-impl Built {
-    /// Does the action.
-    pub fn put_calculation(
+    /// Does the action, on these parts.
+    pub fn put(
         &mut self,
         alloc: Global,
+        parts: &mut Parts,
         action: CalculationAction,
     ) -> Result<(), OutOfMemory>
-        ensures { OnOk result (self.new ≡ put_calculation action self.old) }
+        ensures { OnOk result ((b : Built) → put_calculation action (with_calculations parts.old self.old b) ≡ with_calculations parts.new self.new b) }
     {
-        let Built {
-            parts,
-            calculations,
-            ..
-        } = self;
         match action {
-            CalculationAction::NoItems => calculations.items.push(Rows::new(alloc)),
+            CalculationAction::NoItems => self.items.push(Rows::new(alloc)),
             CalculationAction::AddItemNumber => {
-                calculations
-                    .items
-                    .extend(alloc, Item::Number(parts.take_literal()))
+                self.items.extend(alloc, Item::Number(parts.take_literal()))
             }
             CalculationAction::AddItem => {
                 let instance = parts.take_instance(alloc);
                 let field = parts.field_options.pop_or(None);
-                calculations.items.extend(alloc, item_of(instance, field))
+                self.items.extend(alloc, item_of(instance, field))
             }
-            CalculationAction::NoCond => calculations.conditions.push(None),
+            CalculationAction::NoCond => self.conditions.push(None),
             CalculationAction::CondValid => {
                 let condition = CalcCond::Valid(parts.take_instance(alloc));
-                calculations.conditions.push(Some(condition))
+                self.conditions.push(Some(condition))
             }
             CalculationAction::CondEqual => {
                 let field = parts.take_field(alloc);
                 let literal = parts.take_literal();
                 let condition = CalcCond::Equal(field, literal);
-                calculations.conditions.push(Some(condition))
+                self.conditions.push(Some(condition))
             }
-            CalculationAction::NoCalcs => calculations.entries.push(Rows::new(alloc)),
-            CalculationAction::AddCalc(used_to) => self.add_calc(alloc, used_to),
+            CalculationAction::NoCalcs => self.entries.push(Rows::new(alloc)),
+            CalculationAction::AddCalc(used_to) => self.add_calc(alloc, parts, used_to),
         }
     }
 
     /// Puts a line of the newest name and condition into the newest list.
-    fn add_calc(&mut self, alloc: Global, used_to: CalcUse) -> Result<(), OutOfMemory>
-        ensures { OnOk result (self.new ≡ put_calculation (CalculationAction.AddCalc used_to) self.old) }
+    fn add_calc(
+        &mut self,
+        alloc: Global,
+        parts: &mut Parts,
+        used_to: CalcUse,
+    ) -> Result<(), OutOfMemory>
+        ensures parts { parts.new ≡ record parts.old { names = older parts.old.names } }
+        ensures entries { OnOk result (self.new ≡ record self.old { conditions = older self.old.conditions; entries = extended (record { used_to = used_to; calculation = last_name parts.old; condition = newest None self.old.conditions } ∷ []) self.old.entries }) }
     {
         let calc = Calc {
             used_to,
-            calculation: self.parts.take_name(alloc),
-            condition: self.calculations.conditions.pop_or(None),
+            calculation: parts.take_name(alloc),
+            condition: self.conditions.pop_or(None),
         };
-        self.calculations.entries.extend(alloc, calc)
+        self.entries.extend(alloc, calc)
     }
 }
 

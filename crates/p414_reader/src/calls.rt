@@ -1,9 +1,9 @@
 // Actions, as they are put together.
 ghost use Rattle.std.specs.Prelude.{◌≡◌, OnOk};
-ghost use Rattle.p414_reader.specs.internal.Built.{no_calls};
-ghost use Rattle.p414_reader.specs.internal.Actions.{put_call, arg_of};
+ghost use Rattle.p414_reader.specs.internal.Built.{Built, no_calls};
+ghost use Rattle.p414_reader.specs.internal.Actions.{put_call, arg_of, with_calls};
 
-use crate::built::Built;
+use crate::parts::Parts;
 use crate::symbols::CallAction;
 use p4x_bits::{OutOfMemory, Rows, Text};
 use p414_ast::{Arg, Call, Inst, Ref};
@@ -27,30 +27,32 @@ impl Calls {
             calls: ValueStack::new(alloc),
         }
     }
-}
 
-impl Built {
-    /// Does the action.
-    pub fn put_call(&mut self, alloc: Global, action: CallAction) -> Result<(), OutOfMemory>
-        ensures { OnOk result (self.new ≡ put_call action self.old) }
+    /// Does the action, on these parts.
+    pub fn put(
+        &mut self,
+        alloc: Global,
+        parts: &mut Parts,
+        action: CallAction,
+    ) -> Result<(), OutOfMemory>
+        ensures { OnOk result ((b : Built) → put_call action (with_calls parts.old self.old b) ≡ with_calls parts.new self.new b) }
     {
-        let Built { parts, calls, .. } = self;
         match action {
-            CallAction::NoArgs => calls.arguments.push(Rows::new(alloc)),
+            CallAction::NoArgs => self.arguments.push(Rows::new(alloc)),
             CallAction::AddArgNumber => {
                 let number = parts.take_number();
-                calls.arguments.extend(alloc, Arg::Number(number))
+                self.arguments.extend(alloc, Arg::Number(number))
             }
             CallAction::AddArg => {
                 let instance = parts.take_instance(alloc);
                 let field = parts.field_options.pop_or(None);
-                calls.arguments.extend(alloc, arg_of(instance, field))
+                self.arguments.extend(alloc, arg_of(instance, field))
             }
-            CallAction::NoCalls => calls.calls.push(Rows::new(alloc)),
+            CallAction::NoCalls => self.calls.push(Rows::new(alloc)),
             CallAction::AddCall => {
                 let name = parts.take_name(alloc);
-                let arguments = calls.arguments.pop_list(alloc);
-                calls.calls.extend(alloc, Call { name, arguments })
+                let arguments = self.arguments.pop_list(alloc);
+                self.calls.extend(alloc, Call { name, arguments })
             }
         }
     }

@@ -1,9 +1,9 @@
 // Header types and metadata, as they are put together.
 ghost use Rattle.std.specs.Prelude.{◌≡◌, OnOk};
-ghost use Rattle.p414_reader.specs.internal.Built.{no_headers};
-ghost use Rattle.p414_reader.specs.internal.Actions.{put_header};
+ghost use Rattle.p414_reader.specs.internal.Built.{Built, no_headers};
+ghost use Rattle.p414_reader.specs.internal.Actions.{put_header, with_headers};
 
-use crate::built::Built;
+use crate::parts::Parts;
 use crate::symbols::HeaderAction;
 use p4x_bits::{OutOfMemory, Rows};
 use p414_ast::{Field, FieldWidth, Initial, Initials};
@@ -31,39 +31,39 @@ impl Headers {
             initials_options: ValueStack::new(alloc),
         }
     }
-}
 
-impl Built {
-    /// Does the action.
-    pub fn put_header(&mut self, alloc: Global, action: HeaderAction) -> Result<(), OutOfMemory>
-        ensures { OnOk result (self.new ≡ put_header action self.old) }
+    /// Does the action, on these parts.
+    pub fn put(
+        &mut self,
+        alloc: Global,
+        parts: &mut Parts,
+        action: HeaderAction,
+    ) -> Result<(), OutOfMemory>
+        ensures { OnOk result ((b : Built) → put_header action (with_headers parts.old self.old b) ≡ with_headers parts.new self.new b) }
     {
-        let Built { parts, headers, .. } = self;
         match action {
-            HeaderAction::WidthBits => {
-                headers.widths.push(FieldWidth::Bits(parts.take_literal()))
-            }
-            HeaderAction::WidthRest => headers.widths.push(FieldWidth::Rest),
-            HeaderAction::NoFields => headers.fields.push(Rows::new(alloc)),
+            HeaderAction::WidthBits => { self.widths.push(FieldWidth::Bits(parts.take_literal())) }
+            HeaderAction::WidthRest => self.widths.push(FieldWidth::Rest),
+            HeaderAction::NoFields => self.fields.push(Rows::new(alloc)),
             HeaderAction::AddField => {
                 let field = Field {
                     name: parts.take_name(alloc),
-                    width: headers.widths.pop_or(FieldWidth::Rest),
+                    width: self.widths.pop_or(FieldWidth::Rest),
                     attributes: parts.name_lists.pop_list(alloc),
                 };
-                headers.fields.extend(alloc, field)
+                self.fields.extend(alloc, field)
             }
-            HeaderAction::NoInitials => headers.initials_options.push(None),
-            HeaderAction::EmptyInitials => headers.initials.push(Rows::new(alloc)),
+            HeaderAction::NoInitials => self.initials_options.push(None),
+            HeaderAction::EmptyInitials => self.initials.push(Rows::new(alloc)),
             HeaderAction::AddInitial => {
                 let field = parts.take_name(alloc);
                 let value = parts.take_number();
-                headers.initials.extend(alloc, Initial { field, value })
+                self.initials.extend(alloc, Initial { field, value })
             }
             HeaderAction::SomeInitials(semicolon) => {
-                let values = headers.initials.pop_list(alloc);
+                let values = self.initials.pop_list(alloc);
                 let initials = Initials { values, semicolon };
-                headers.initials_options.push(Some(initials))
+                self.initials_options.push(Some(initials))
             }
         }
     }

@@ -1,10 +1,10 @@
 // Tables, as they are put together.
-ghost use Rattle.std.specs.Prelude.{◌≡◌, OnOk};
-ghost use Rattle.p414_reader.specs.declared.symbols.TableAction.TheVariants as TableAction;
-ghost use Rattle.p414_reader.specs.internal.Built.{no_tables};
-ghost use Rattle.p414_reader.specs.internal.Actions.{put_table, key_of};
+ghost use Rattle.std.specs.Prelude.{◌≡◌, OnOk, [], ◌∷◌, None};
+ghost use Rattle.predictive_parser.specs.Values.{newest, older, extended};
+ghost use Rattle.p414_reader.specs.internal.Built.{Built, no_tables};
+ghost use Rattle.p414_reader.specs.internal.Actions.{put_table, last_name, last_instance, key_of, with_tables};
 
-use crate::built::Built;
+use crate::parts::Parts;
 use crate::symbols::TableAction;
 use p4x_bits::{OutOfMemory, Rows, Text};
 use p414_ast::{Inst, Read, ReadKey, Ref, TableAttr};
@@ -28,56 +28,67 @@ impl Tables {
             attributes: ValueStack::new(alloc),
         }
     }
-}
 
-impl Built {
-    /// Does the action.
-    pub fn put_table(&mut self, alloc: Global, action: TableAction) -> Result<(), OutOfMemory>
-        ensures { OnOk result (self.new ≡ put_table action self.old) }
+    /// Does the action, on these parts.
+    pub fn put(
+        &mut self,
+        alloc: Global,
+        parts: &mut Parts,
+        action: TableAction,
+    ) -> Result<(), OutOfMemory>
+        ensures { OnOk result ((b : Built) → put_table action (with_tables parts.old self.old b) ≡ with_tables parts.new self.new b) }
     {
-        let Built { parts, tables, .. } = self;
-        let attributes = &mut tables.attributes;
         match action {
-            TableAction::NoReads => tables.reads.push(Rows::new(alloc)),
-            TableAction::AddRead => self.add_read(alloc),
-            TableAction::NoAttrs => attributes.push(Rows::new(alloc)),
+            TableAction::NoReads => self.reads.push(Rows::new(alloc)),
+            TableAction::AddRead => self.add_read(alloc, parts),
+            TableAction::NoAttrs => self.attributes.push(Rows::new(alloc)),
             TableAction::AddReads => {
-                attributes.extend(alloc, TableAttr::Reads(tables.reads.pop_list(alloc)))
+                self.attributes
+                    .extend(alloc, TableAttr::Reads(self.reads.pop_list(alloc)))
             }
             TableAction::AddActions => {
-                attributes.extend(alloc, TableAttr::Actions(parts.name_lists.pop_list(alloc)))
+                self.attributes.extend(alloc, TableAttr::Actions(parts.name_lists.pop_list(alloc)))
             }
             TableAction::AddMinSize => {
-                attributes.extend(alloc, TableAttr::MinSize(parts.take_literal()))
+                self.attributes
+                    .extend(alloc, TableAttr::MinSize(parts.take_literal()))
             }
             TableAction::AddMaxSize => {
-                attributes.extend(alloc, TableAttr::MaxSize(parts.take_literal()))
+                self.attributes
+                    .extend(alloc, TableAttr::MaxSize(parts.take_literal()))
             }
-            TableAction::AddSize => attributes.extend(alloc, TableAttr::Size(parts.take_literal())),
-            TableAction::AddTimeout(on) => attributes.extend(alloc, TableAttr::SupportTimeout(on)),
+            TableAction::AddSize => self
+                .attributes
+                .extend(alloc, TableAttr::Size(parts.take_literal())),
+            TableAction::AddTimeout(on) => self
+                .attributes
+                .extend(alloc, TableAttr::SupportTimeout(on)),
             TableAction::AddDefaultAction => {
                 let name = parts.take_name(alloc);
                 let arguments = parts.arguments.pop_or(None);
-                attributes.extend(alloc, TableAttr::DefaultAction(name, arguments))
+                self.attributes
+                    .extend(alloc, TableAttr::DefaultAction(name, arguments))
             }
             TableAction::AddProfile => {
-                attributes.extend(alloc, TableAttr::ActionProfile(parts.take_name(alloc)))
+                self.attributes
+                    .extend(alloc, TableAttr::ActionProfile(parts.take_name(alloc)))
             }
         }
     }
 
     /// Puts a line of `reads` into the newest list.
-    fn add_read(&mut self, alloc: Global) -> Result<(), OutOfMemory>
-        ensures { OnOk result (self.new ≡ put_table TableAction.AddRead self.old) }
+    fn add_read(&mut self, alloc: Global, parts: &mut Parts) -> Result<(), OutOfMemory>
+        ensures parts { parts.new ≡ record parts.old { names = older parts.old.names; instances = older parts.old.instances; field_options = older parts.old.field_options; literal_options = older parts.old.literal_options } }
+        ensures reads { OnOk result (self.new ≡ record self.old { reads = extended (record { key = key_of (last_instance parts.old) (newest None parts.old.field_options); mask = newest None parts.old.literal_options; kind = last_name parts.old } ∷ []) self.old.reads }) }
     {
-        let instance = self.parts.take_instance(alloc);
-        let field = self.parts.field_options.pop_or(None);
+        let instance = parts.take_instance(alloc);
+        let field = parts.field_options.pop_or(None);
         let read = Read {
             key: key_of(instance, field),
-            mask: self.parts.literal_options.pop_or(None),
-            kind: self.parts.take_name(alloc),
+            mask: parts.literal_options.pop_or(None),
+            kind: parts.take_name(alloc),
         };
-        self.tables.reads.extend(alloc, read)
+        self.reads.extend(alloc, read)
     }
 }
 

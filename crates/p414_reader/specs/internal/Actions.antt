@@ -58,6 +58,11 @@ use Rattle.p414_reader.specs.declared.symbols.Action.TheVariants as action
 use Rattle.predictive_parser.specs.Values.{newest, older, extended, extended_option}
 use Rattle.p414_reader.specs.internal.Built.{Bodies, Built, no_bodies}
 use Rattle.p414_reader.specs.declared.parts.Parts.{Parts}
+use Rattle.p414_reader.specs.declared.headers.Headers.{Headers}
+use Rattle.p414_reader.specs.declared.calculations.Calculations.{Calculations}
+use Rattle.p414_reader.specs.declared.states.States.{States}
+use Rattle.p414_reader.specs.declared.calls.Calls.{Calls}
+use Rattle.p414_reader.specs.declared.tables.Tables.{Tables}
 use Rattle.p414_lexemes.specs.declared.keyword.Keyword.TheVariants as key
 use Rattle.p414_lexemes.specs.Keywords.{keyword_text}
 
@@ -116,6 +121,29 @@ put_part (part.RefOf k) p =
     record p { names = older p.names; fields = record { instance = record { name = keyword_text k; index = None }; field = last_name p } ∷ p.fields }
 put_part part.NoField p = record p { field_options = None ∷ p.field_options }
 put_part part.SomeField p = record p { names = older p.names; field_options = Some (last_name p) ∷ p.field_options }
+
+-- with these names, numbers, instances and fields, and these parts of one kind of declarations
+
+abbrev pub with_headers : Parts → Headers → Built → Built
+with_headers p h b = record b { parts = p; headers = h }
+
+abbrev pub with_calculations : Parts → Calculations → Built → Built
+with_calculations p c b = record b { parts = p; calculations = c }
+
+abbrev pub with_states : Parts → States → Built → Built
+with_states p s b = record b { parts = p; states = s }
+
+abbrev pub with_calls : Parts → Calls → Built → Built
+with_calls p c b = record b { parts = p; calls = c }
+
+abbrev pub with_tables : Parts → Tables → Built → Built
+with_tables p t b = record b { parts = p; tables = t }
+
+abbrev pub with_objects : Parts → List (List StateAttr) → Built → Built
+with_objects p o b = record b { parts = p; objects = o }
+
+abbrev pub with_bodies : Parts → Bodies → Built → Built
+with_bodies p bs b = record b { parts = p; bodies = bs }
 
 abbrev pub without_name : Built → Built
 without_name b = record b { parts = record b.parts { names = older b.parts.names } }
