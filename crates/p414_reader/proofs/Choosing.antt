@@ -18,7 +18,7 @@ use Rattle.p414_reader.specs.declared.symbols.PartAction.TheVariants as part
 use Rattle.p414_reader.specs.declared.symbols.BodyAction.TheVariants as body
 use Rattle.p414_reader.specs.declared.symbols.PartWord.TheVariants.{IndexOption}
 use Rattle.p414_reader.specs.declared.symbols.BodyWord.TheVariants.{Expr, Operators, ExprInst}
-use Rattle.p414_reader.specs.internal.Built.{Built}
+use Rattle.p414_reader.specs.declared.built.Built.{Built}
 use Rattle.p414_reader.specs.internal.Classes.{prefix_of, infix_of}
 use Rattle.p414_reader.specs.internal.Rows.{Sym, Rows, grammar14, prefix_rest, infix_rest, operand_rest, body_sym, part_sym, paren_open, paren_close, dot}
 use Rattle.p414_reader.specs.internal.Coded.{ChoosesLine, body_coded}

@@ -36,7 +36,7 @@ use Rattle.p414_reader.specs.declared.symbols.ObjectWord.{ObjectWord}
 use Rattle.p414_reader.specs.declared.symbols.ObjectWord.TheVariants as object
 use Rattle.p414_reader.specs.declared.symbols.BodyWord.{BodyWord}
 use Rattle.p414_reader.specs.declared.symbols.BodyWord.TheVariants as body
-use Rattle.p414_reader.specs.internal.Built.{Built}
+use Rattle.p414_reader.specs.declared.built.Built.{Built}
 use Rattle.p414_reader.specs.internal.Classes.{is_mark, is_named, is_number, prefix_of, infix_of, is_prefix, is_infix, is_neither, accepts}
 use Rattle.p414_reader.specs.internal.Rows as rows
 use Rattle.p414_reader.specs.internal.Rows.{Sym, grammar14, prefix_rest, infix_rest, body_sym, block_sym}

@@ -12,7 +12,7 @@ use Rattle.p414_ast.specs.Words.{keyword}
 use Rattle.p414_ast.specs.Conditions.{is_among}
 use Rattle.p414_reader.specs.declared.symbols.Class.{Class}
 use Rattle.p414_reader.specs.declared.symbols.Class.TheVariants as class
-use Rattle.p414_reader.specs.internal.Built.{Built}
+use Rattle.p414_reader.specs.declared.built.Built.{Built}
 use Rattle.p414_reader.specs.internal.Classes.{mark_number, is_mark, is_named, is_number, is_new, accepts}
 use Rattle.p414_reader.specs.internal.Rows.{grammar14}
 use Rattle.p414_lexemes.specs.Keywords.{keyword_text}

@@ -10,7 +10,8 @@ use Rattle.p414_ast.specs.Written.{written}
 use Rattle.p414_ast.specs.Spells.{Spells}
 use Rattle.p414_reader.specs.declared.symbols.Word.TheVariants as word
 use Rattle.predictive_parser.specs.declared.symbol.Symbol.TheVariants as symbol
-use Rattle.p414_reader.specs.internal.Built.{Built, nothing}
+use Rattle.p414_reader.specs.declared.built.Built.{Built}
+use Rattle.p414_reader.specs.internal.Built.{nothing}
 use Rattle.p414_reader.specs.internal.Rows.{grammar14}
 use Rattle.p414_reader.proofs.Closing.{closing14, closed14}
 use Rattle.p414_reader.proofs.Sound.Grammar.{sound14}

@@ -58,7 +58,8 @@ use Rattle.p414_reader.specs.declared.symbols.ObjectWord.TheVariants as object
 use Rattle.p414_reader.specs.declared.symbols.BodyWord.{BodyWord}
 use Rattle.p414_reader.specs.declared.symbols.BodyWord.TheVariants as body
 use Rattle.predictive_parser.specs.Values.{newest, older, extended, extended_option}
-use Rattle.p414_reader.specs.internal.Built.{Built, no_bodies}
+use Rattle.p414_reader.specs.declared.built.Built.{Built}
+use Rattle.p414_reader.specs.internal.Built.{no_bodies}
 use Rattle.p414_reader.specs.declared.parts.Parts.{Parts}
 use Rattle.p414_reader.specs.internal.Actions.{no_expr, without_name, with_value, with_table_attr, with_state_attr, with_stmt, on_stmts}
 

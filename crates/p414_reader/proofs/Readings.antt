@@ -21,7 +21,7 @@ use Rattle.p414_reader.specs.declared.symbols.Word.{Word}
 use Rattle.predictive_parser.specs.Values.{newest, extended}
 use Rattle.p414_reader.specs.internal.Classes.{accepts, shift}
 use Rattle.p414_reader.specs.internal.Rows.{Sym, Rows, grammar14}
-use Rattle.p414_reader.specs.internal.Built.{Built}
+use Rattle.p414_reader.specs.declared.built.Built.{Built}
 use Rattle.p414_reader.proofs.Meaning.{Value, after_word, extended_by}
 use Rattle.p414_reader.proofs.Closing.{stands, ends, closing14, closed14}
 

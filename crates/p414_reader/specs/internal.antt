@@ -1,5 +1,6 @@
 -- What only private functions and proofs name: nothing here needs to be believed.
 pub mod Actions
+pub mod Bodies
 pub mod Built
 pub mod Classes
 pub mod Coded

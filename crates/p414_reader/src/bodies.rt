@@ -5,7 +5,8 @@ ghost use Rattle.p414_reader.specs.declared.symbols.BodyAction.TheVariants as Bo
 ghost use Rattle.p414_reader.specs.internal.Classes.{may_follow};
 ghost use Rattle.p414_reader.specs.internal.Actions.{put_body, label_of, with_no_else, with_bodies};
 ghost use Rattle.p414_reader.specs.declared.parts.Parts.{Parts};
-ghost use Rattle.p414_reader.specs.internal.Built.{Built, flat};
+ghost use Rattle.p414_reader.specs.declared.built.Built.{Built};
+ghost use Rattle.p414_reader.specs.internal.Built.{no_bodies};
 
 use crate::forest::Forest;
 use crate::labels::Labels;
@@ -16,6 +17,7 @@ use p414_ast::{ExprNode, Label, StmtNode};
 use p414_lexemes::Keyword;
 use predictive_parser::ValueStack;
 use std::alloc::Global;
+use std::marker::Model;
 
 /// Stacks of the parts of expressions and controls, of the declaration that is read.
 #[derive(Drop)]
@@ -25,12 +27,28 @@ pub struct Bodies {
     pub else_calls: ValueStack<bool>,
 }
 
+impl Model for Bodies {
+    ghost use Rattle.p414_reader.specs.internal.Bodies as bodies;
+    ghost use Rattle.std.specs.Coded.{codes};
+    ghost use Rattle.p414_ast.specs.Code.{coded_expr, coded_stmt, coded_tail};
+
+    ghost Value = { bodies.Bodies };
+
+    ghost coded = { Prim.hlevel (codes, coded_expr, coded_stmt, coded_tail) };
+
+    ghost view = { λ b. record {
+      exprs = b.forest.trees.exprs;
+      tails = b.forest.trees.tails;
+      stmts = b.forest.trees.stmts;
+      labels = b.labels;
+      else_calls = b.else_calls;
+    } };
+}
+
 impl Bodies {
     /// No parts. It takes no memory until the first part.
     pub fn new(alloc: Global) -> Self
-        ensures trees { result.forest.trees ≡ record { exprs = []; tails = []; stmts = [] } }
-        ensures labels { result.labels ≡ [] }
-        ensures else_calls { result.else_calls ≡ [] }
+        ensures { result ≡ no_bodies }
     {
         Bodies {
             forest: Forest::new(alloc),
@@ -41,9 +59,7 @@ impl Bodies {
 
     /// Lets all parts go.
     pub fn clear(&mut self, alloc: Global)
-        ensures trees { self.new.forest.trees ≡ record { exprs = []; tails = []; stmts = [] } }
-        ensures labels { self.new.labels ≡ [] }
-        ensures else_calls { self.new.else_calls ≡ [] }
+        ensures { self.new ≡ no_bodies }
     {
         *self = Bodies::new(alloc);
     }
@@ -74,7 +90,7 @@ impl Bodies {
         parts: &mut Parts,
         action: BodyAction,
     ) -> Result<(), OutOfMemory>
-        ensures { OnOk result ((b : Built) → put_body action (with_bodies parts.old (flat self.old) b) ≡ with_bodies parts.new (flat self.new) b) }
+        ensures { OnOk result ((b : Built) → put_body action (with_bodies parts.old self.old b) ≡ with_bodies parts.new self.new b) }
     {
         match action {
             BodyAction::Number => {
@@ -122,7 +138,7 @@ impl Bodies {
 
     /// Begins a list of branches.
     fn no_branches(&mut self, alloc: Global) -> Result<(), OutOfMemory>
-        ensures { OnOk result ((p : Parts) (b : Built) → put_body BodyAction.NoBranches (with_bodies p (flat self.old) b) ≡ with_bodies p (flat self.new) b) }
+        ensures { OnOk result ((p : Parts) (b : Built) → put_body BodyAction.NoBranches (with_bodies p self.old b) ≡ with_bodies p self.new b) }
     {
         self.forest.statement(StmtNode::NoBranches)?;
         self.labels.push(Labels::new(alloc))
@@ -130,7 +146,7 @@ impl Bodies {
 
     /// Puts `apply` of the newest name, with the newest branches, into the newest list of statements.
     fn add_apply_branches(&mut self, alloc: Global, parts: &mut Parts) -> Result<(), OutOfMemory>
-        ensures { OnOk result ((b : Built) → put_body BodyAction.AddApplyBranches (with_bodies parts.old (flat self.old) b) ≡ with_bodies parts.new (flat self.new) b) }
+        ensures { OnOk result ((b : Built) → put_body BodyAction.AddApplyBranches (with_bodies parts.old self.old b) ≡ with_bodies parts.new self.new b) }
     {
         let _ = self.labels.pop_or(Labels::new(alloc));
         let table = parts.take_name(alloc);
@@ -140,7 +156,7 @@ impl Bodies {
 
     /// Nothing stands behind the block, and then a control `else` is called or not.
     fn no_else(&mut self, is_called: bool) -> Result<(), OutOfMemory>
-        ensures { OnOk result ((p : Parts) (b : Built) → with_no_else is_called (with_bodies p (flat self.old) b) ≡ with_bodies p (flat self.new) b) }
+        ensures { OnOk result ((p : Parts) (b : Built) → with_no_else is_called (with_bodies p self.old b) ≡ with_bodies p self.new b) }
     {
         self.forest.statement(StmtNode::NoElse)?;
         self.else_calls.push(is_called)
@@ -148,7 +164,7 @@ impl Bodies {
 
     /// `else` before the newest list of statements, with no call of a control `else` behind it.
     fn else_block(&mut self) -> Result<(), OutOfMemory>
-        ensures { OnOk result ((p : Parts) (b : Built) → put_body BodyAction.ElseBlock (with_bodies p (flat self.old) b) ≡ with_bodies p (flat self.new) b) }
+        ensures { OnOk result ((p : Parts) (b : Built) → put_body BodyAction.ElseBlock (with_bodies p self.old b) ≡ with_bodies p self.new b) }
     {
         self.forest.else_block()?;
         self.else_calls.push(false)
@@ -156,7 +172,7 @@ impl Bodies {
 
     /// `else` before an `if` statement of the newest condition, block and what stands behind the block.
     fn else_if(&mut self) -> Result<(), OutOfMemory>
-        ensures { OnOk result ((p : Parts) (b : Built) → put_body BodyAction.ElseIf (with_bodies p (flat self.old) b) ≡ with_bodies p (flat self.new) b) }
+        ensures { OnOk result ((p : Parts) (b : Built) → put_body BodyAction.ElseIf (with_bodies p self.old b) ≡ with_bodies p self.new b) }
     {
         self.forest.if_then()?;
         self.forest.else_if()
@@ -165,7 +181,7 @@ impl Bodies {
     /// Puts the `if` statement into the newest list of statements, and behind it the call of a control `else` where
     /// one is called.
     fn add_if(&mut self, alloc: Global) -> Result<(), OutOfMemory>
-        ensures { OnOk result ((p : Parts) (b : Built) → put_body BodyAction.AddIf (with_bodies p (flat self.old) b) ≡ with_bodies p (flat self.new) b) }
+        ensures { OnOk result ((p : Parts) (b : Built) → put_body BodyAction.AddIf (with_bodies p self.old b) ≡ with_bodies p self.new b) }
     {
         self.forest.if_then()?;
         self.forest.then()?;

@@ -1,6 +1,5 @@
 // What is built while a text is read.
 ghost use Rattle.std.specs.Prelude.{◌≡◌, None, OnOk, IfOk};
-ghost use Rattle.p414_reader.specs.internal.Built as built;
 ghost use Rattle.p414_reader.specs.internal.Built.{nothing};
 ghost use Rattle.predictive_parser.specs.Values.{extended_option};
 ghost use Rattle.p414_reader.specs.internal.Classes.{accepts, shift, with_name, with_label};
@@ -23,7 +22,6 @@ use p4x_bits::{OutOfMemory, Rows};
 use p414_ast::{Decl, Lexeme, Mark, StateAttr};
 use predictive_parser::ValueStack;
 use std::alloc::Global;
-use std::marker::Model;
 use std::mem;
 
 /// Stacks of the parts that aren't part of a declaration yet, and the declarations.
@@ -39,30 +37,6 @@ pub struct Built {
     pub bodies: Bodies,
     pub groups: ValueStack<Option<Rows<Lexeme>>>,
     pub decls: Rows<Decl>,
-}
-
-impl Model for Built {
-    ghost use Rattle.p414_reader.specs.internal.Built as built;
-    ghost use Rattle.p414_reader.specs.internal.Built.{flat};
-    ghost use Rattle.std.specs.Coded.{codes};
-    ghost use Rattle.p414_ast.specs.Code.{coded_expr, coded_stmt, coded_tail};
-
-    ghost Value = { built.Built };
-
-    ghost coded = { Prim.hlevel (codes, coded_expr, coded_stmt, coded_tail) };
-
-    ghost view = { λ b. record {
-      parts = b.parts;
-      headers = b.headers;
-      calculations = b.calculations;
-      states = b.states;
-      calls = b.calls;
-      tables = b.tables;
-      objects = b.objects;
-      bodies = flat b.bodies;
-      groups = b.groups;
-      decls = b.decls;
-    } };
 }
 
 impl Built {

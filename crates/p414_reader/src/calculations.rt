@@ -4,7 +4,8 @@ ghost use Rattle.p414_ast.specs.Conditions.{is_bare};
 ghost use Rattle.p414_lexemes.specs.declared.keyword.Keyword.TheVariants as key;
 ghost use Rattle.p414_lexemes.specs.Keywords.{keyword_text};
 ghost use Rattle.predictive_parser.specs.Values.{newest, older, extended};
-ghost use Rattle.p414_reader.specs.internal.Built.{Built, no_calculations};
+ghost use Rattle.p414_reader.specs.declared.built.Built.{Built};
+ghost use Rattle.p414_reader.specs.internal.Built.{no_calculations};
 ghost use Rattle.p414_reader.specs.internal.Actions.{put_calculation, last_name, item_of, with_calculations};
 
 use crate::parts::Parts;

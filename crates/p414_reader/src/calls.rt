@@ -1,6 +1,7 @@
 // Actions, as they are put together.
 ghost use Rattle.std.specs.Prelude.{◌≡◌, OnOk};
-ghost use Rattle.p414_reader.specs.internal.Built.{Built, no_calls};
+ghost use Rattle.p414_reader.specs.declared.built.Built.{Built};
+ghost use Rattle.p414_reader.specs.internal.Built.{no_calls};
 ghost use Rattle.p414_reader.specs.internal.Actions.{put_call, arg_of, with_calls};
 
 use crate::parts::Parts;

@@ -1,6 +1,7 @@
 // Header types and metadata, as they are put together.
 ghost use Rattle.std.specs.Prelude.{◌≡◌, OnOk};
-ghost use Rattle.p414_reader.specs.internal.Built.{Built, no_headers};
+ghost use Rattle.p414_reader.specs.declared.built.Built.{Built};
+ghost use Rattle.p414_reader.specs.internal.Built.{no_headers};
 ghost use Rattle.p414_reader.specs.internal.Actions.{put_header, with_headers};
 
 use crate::parts::Parts;

@@ -1,7 +1,7 @@
 // Counters, meters and registers, as they are put together.
 ghost use Rattle.std.specs.Prelude.{◌≡◌, OnOk};
 ghost use Rattle.p414_reader.specs.internal.Actions.{put_object, with_objects};
-ghost use Rattle.p414_reader.specs.internal.Built.{Built};
+ghost use Rattle.p414_reader.specs.declared.built.Built.{Built};
 
 use crate::parts::Parts;
 use crate::symbols::ObjectAction;

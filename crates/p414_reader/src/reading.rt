@@ -1,5 +1,5 @@
 // Tokens that are read in the grammar of P4_14, and what is built of them.
-ghost use Rattle.p414_reader.specs.internal.Built as built;
+ghost use Rattle.p414_reader.specs.declared.built.Built as built;
 ghost use Rattle.p414_reader.specs.internal.Rows.{grammar14};
 ghost use Rattle.p414_reader.specs.internal.Coded.{coded};
 ghost use Rattle.std.specs.Prelude.{◌≡◌, ◌<◌, length, None, IfOk};

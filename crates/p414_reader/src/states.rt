@@ -9,7 +9,8 @@ ghost use Rattle.p414_ast.specs.declared.parsers.Return.TheVariants as end_of;
 ghost use Rattle.p414_lexemes.specs.declared.keyword.Keyword.TheVariants as key;
 ghost use Rattle.p414_lexemes.specs.Keywords.{keyword_text};
 ghost use Rattle.predictive_parser.specs.Values.{newest, older, extended};
-ghost use Rattle.p414_reader.specs.internal.Built.{Built, no_states};
+ghost use Rattle.p414_reader.specs.declared.built.Built.{Built};
+ghost use Rattle.p414_reader.specs.internal.Built.{no_states};
 ghost use Rattle.p414_reader.specs.internal.Actions.{put_state, no_literal, last_literal, last_field, no_value, value_of, with_states};
 
 use crate::parts::Parts;

@@ -1,7 +1,8 @@
 // Tables, as they are put together.
 ghost use Rattle.std.specs.Prelude.{◌≡◌, OnOk, [], ◌∷◌, None};
 ghost use Rattle.predictive_parser.specs.Values.{newest, older, extended};
-ghost use Rattle.p414_reader.specs.internal.Built.{Built, no_tables};
+ghost use Rattle.p414_reader.specs.declared.built.Built.{Built};
+ghost use Rattle.p414_reader.specs.internal.Built.{no_tables};
 ghost use Rattle.p414_reader.specs.internal.Actions.{put_table, last_name, last_instance, key_of, with_tables};
 
 use crate::parts::Parts;

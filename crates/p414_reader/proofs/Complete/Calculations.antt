@@ -20,7 +20,7 @@ use Rattle.p414_ast.specs.Conditions.{is_bare, is_item}
 use Rattle.p414_reader.specs.declared.symbols.Class.TheVariants as class
 use Rattle.p414_reader.specs.declared.symbols.Word.TheVariants as word
 use Rattle.p414_reader.specs.declared.symbols.CalculationWord.TheVariants as calculation
-use Rattle.p414_reader.specs.internal.Built.{Built}
+use Rattle.p414_reader.specs.declared.built.Built.{Built}
 use Rattle.p414_reader.specs.internal.Actions.{with_item}
 use Rattle.p414_reader.specs.internal.Rows.{Sym, calculation_sym}
 use Rattle.p414_reader.proofs.Readings.{Goes, Reads, ReadsCalm, ◌▷◌, reads, does, from, giving, skips, builds, first_of, both, not_true, is_word, takes_past, like}

@@ -14,7 +14,7 @@ use Rattle.p414_ast.specs.Written.{after_commas, by_commas, written_name, writte
 use Rattle.p414_reader.specs.declared.symbols.Word.TheVariants as word
 use Rattle.p414_reader.specs.declared.symbols.PartWord.TheVariants as part
 use Rattle.p414_reader.specs.declared.symbols.CallWord.TheVariants as called
-use Rattle.p414_reader.specs.internal.Built.{Built}
+use Rattle.p414_reader.specs.declared.built.Built.{Built}
 use Rattle.p414_reader.specs.internal.Rows.{Sym, call_sym}
 use Rattle.p414_reader.proofs.Readings.{Goes, ReadsCalm, ◌▷◌, reads, does, from, giving, skips, calmer, first_of, extended_is, like, calm_commas}
 use Rattle.p414_reader.proofs.Complete.Parts.{reads_more_names, reads_index_option, reads_field_option, ref_tokens}

@@ -24,7 +24,7 @@ use Rattle.p414_reader.specs.declared.symbols.Action.TheVariants as action
 use Rattle.p414_reader.specs.declared.symbols.BodyAction.TheVariants as body
 use Rattle.p414_reader.specs.declared.symbols.Word.TheVariants as word
 use Rattle.p414_reader.specs.declared.symbols.BodyWord.TheVariants as body_word
-use Rattle.p414_reader.specs.internal.Built.{Built}
+use Rattle.p414_reader.specs.declared.built.Built.{Built}
 use Rattle.p414_reader.specs.internal.Classes.{is_mark, is_named, may_follow, with_name, with_label}
 use Rattle.p414_reader.specs.internal.Actions.{with_expr, label_of}
 use Rattle.p414_reader.specs.internal.Rows as rows

@@ -37,7 +37,8 @@ use Rattle.p414_reader.specs.declared.symbols.Word.TheVariants as word
 use Rattle.p414_reader.specs.declared.symbols.HeaderWord.TheVariants as header
 use Rattle.p414_reader.specs.declared.symbols.StateWord.TheVariants as state
 use Rattle.p414_reader.specs.declared.symbols.BodyWord.TheVariants as body
-use Rattle.p414_reader.specs.internal.Built.{Built, no_bodies}
+use Rattle.p414_reader.specs.declared.built.Built.{Built}
+use Rattle.p414_reader.specs.internal.Built.{no_bodies}
 use Rattle.p414_reader.specs.internal.Classes.{infix_of}
 use Rattle.p414_reader.specs.internal.Rows as rows
 use Rattle.p414_reader.specs.internal.Rows.{Sym}

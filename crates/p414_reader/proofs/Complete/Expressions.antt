@@ -30,7 +30,7 @@ use Rattle.p414_reader.specs.declared.symbols.BodyAction.TheVariants as body
 use Rattle.p414_reader.specs.declared.symbols.Word.TheVariants as word
 use Rattle.p414_reader.specs.declared.symbols.PartWord.TheVariants as part_word
 use Rattle.p414_reader.specs.declared.symbols.BodyWord.TheVariants as body_word
-use Rattle.p414_reader.specs.internal.Built.{Built}
+use Rattle.p414_reader.specs.declared.built.Built.{Built}
 use Rattle.p414_reader.specs.internal.Classes.{infix_of, with_name}
 use Rattle.p414_reader.specs.internal.Actions.{with_expr}
 use Rattle.p414_reader.specs.internal.Rows as rows

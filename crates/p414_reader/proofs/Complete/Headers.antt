@@ -21,7 +21,7 @@ use Rattle.p414_reader.specs.declared.symbols.HeaderWord.TheVariants as header
 use Rattle.p414_reader.specs.declared.symbols.BodyWord.TheVariants as body
 use Rattle.predictive_parser.specs.Values.{newest}
 use Rattle.p414_reader.specs.internal.Rows.{Sym, header_sym}
-use Rattle.p414_reader.specs.internal.Built.{Built}
+use Rattle.p414_reader.specs.declared.built.Built.{Built}
 use Rattle.p414_reader.proofs.Meaning.{after_word}
 use Rattle.p414_reader.proofs.Readings.{Goes, Calm, Reads, ReadsCalm, ◌▷◌, reads, does, from, giving, skips, builds, extended_is, both, takes_row, is_new_text, next_words}
 use Rattle.p414_reader.proofs.Complete.Parts.{reads_more_names, reads_number}

@@ -15,7 +15,7 @@ use Rattle.p414_lexemes.specs.declared.keyword.Keyword.TheVariants as key
 use Rattle.p414_reader.specs.declared.symbols.Class.TheVariants as class
 use Rattle.p414_reader.specs.declared.symbols.Word.TheVariants as word
 use Rattle.p414_reader.specs.declared.symbols.ObjectWord.TheVariants as object
-use Rattle.p414_reader.specs.internal.Built.{Built}
+use Rattle.p414_reader.specs.declared.built.Built.{Built}
 use Rattle.p414_reader.specs.internal.Actions.{with_state_attr}
 use Rattle.p414_reader.specs.internal.Rows.{Sym, Rows, object_sym, type_rest, width_rest, layout_rest}
 use Rattle.p414_reader.proofs.Meaning.{after_word, object_words, object_needs}

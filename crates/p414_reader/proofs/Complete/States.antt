@@ -32,7 +32,7 @@ use Rattle.p414_reader.specs.declared.symbols.StateAction.TheVariants as state_a
 use Rattle.p414_reader.specs.declared.symbols.Word.TheVariants as word
 use Rattle.p414_reader.specs.declared.symbols.PartWord.TheVariants as part
 use Rattle.p414_reader.specs.declared.symbols.StateWord.TheVariants as state
-use Rattle.p414_reader.specs.internal.Built.{Built}
+use Rattle.p414_reader.specs.declared.built.Built.{Built}
 use Rattle.p414_reader.specs.internal.Rows.{Sym, state_sym}
 use Rattle.p414_reader.specs.internal.Actions.{with_value}
 use Rattle.p414_reader.proofs.Readings.{Goes, Reads, ReadsCalm, ◌▷◌, reads, does, from, giving, skips, builds, calmer, first_of, extended_is, both, is_word, takes_past, takes_past_two, like, like_end, calm_commas, not_true}

@@ -19,7 +19,7 @@ use Rattle.p414_reader.specs.declared.symbols.Word.{Word}
 use Rattle.p414_reader.specs.declared.symbols.Word.TheVariants as word
 use Rattle.p414_reader.specs.declared.symbols.PartWord.TheVariants as part
 use Rattle.p414_reader.specs.declared.symbols.TableWord.TheVariants as table
-use Rattle.p414_reader.specs.internal.Built.{Built}
+use Rattle.p414_reader.specs.declared.built.Built.{Built}
 use Rattle.p414_reader.specs.internal.Actions.{with_table_attr}
 use Rattle.p414_reader.specs.internal.Rows.{Sym, Rows, table_sym, actions_rest, profile_rest}
 use Rattle.p414_reader.proofs.Meaning.{after_word, table_words}

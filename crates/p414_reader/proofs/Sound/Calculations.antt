@@ -15,7 +15,7 @@ use Rattle.p414_ast.specs.Conditions.{is_bare, is_item}
 use Rattle.p414_reader.specs.declared.symbols.Word.TheVariants as word
 use Rattle.p414_reader.specs.declared.symbols.CalculationWord.{CalculationWord}
 use Rattle.p414_reader.specs.declared.symbols.CalculationWord.TheVariants as calculation
-use Rattle.p414_reader.specs.internal.Built.{Built}
+use Rattle.p414_reader.specs.declared.built.Built.{Built}
 use Rattle.p414_reader.specs.internal.Actions.{item_of}
 use Rattle.p414_reader.specs.internal.Rows.{grammar14}
 use Rattle.p414_reader.proofs.Meaning.{written_dot, meaning14}

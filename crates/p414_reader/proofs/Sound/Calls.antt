@@ -15,7 +15,7 @@ use Rattle.p414_reader.specs.declared.symbols.CallWord.TheVariants as call
 use Rattle.predictive_parser.specs.Values.{newest, older, extended}
 use Rattle.p414_reader.specs.internal.Actions.{arg_of}
 use Rattle.p414_reader.specs.internal.Rows.{grammar14}
-use Rattle.p414_reader.specs.internal.Built.{Built}
+use Rattle.p414_reader.specs.declared.built.Built.{Built}
 use Rattle.p414_reader.proofs.Meaning.{extended_by, written_dot, meaning14}
 use Rattle.p414_reader.proofs.Lists.{by_value, ends_joined, extended_by_list}
 use Rattle.p414_reader.proofs.Fixed.{fixed14, by_name, by_number}

@@ -17,7 +17,7 @@ use Rattle.predictive_parser.specs.Values.{newest}
 use Rattle.p414_reader.specs.internal.Classes.{may_follow}
 use Rattle.p414_reader.specs.internal.Actions.{label_of, with_else_call}
 use Rattle.p414_reader.specs.internal.Rows.{grammar14}
-use Rattle.p414_reader.specs.internal.Built.{Built}
+use Rattle.p414_reader.specs.declared.built.Built.{Built}
 use Rattle.p414_reader.proofs.Meaning.{meaning14, else_call, written_branch, is_branch, branch_text, last_labels, with_stmts}
 use Rattle.p414_reader.proofs.Lists.{both, extended_by_list}
 use Rattle.p414_reader.proofs.Fixed.{fixed14, by_name, by_named}

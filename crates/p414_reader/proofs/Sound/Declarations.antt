@@ -12,7 +12,7 @@ use Rattle.p414_ast.specs.Words.{name, keyword, brace_open, brace_close, paren_o
 use Rattle.p414_ast.specs.Written.{written_option, in_braces, attribute, written_literal, name_line, by_commas, written_name, written_field, tail_word, written_tail, written_size, written_item, written_ref, written_calc, written_pstmt, written_return, written_call, table_word, written_table_attr, state_word, written_state_attr, written_stmt, written_decl}
 use Rattle.p414_ast.specs.Conditions.{Brace, opens, closes, neither, brace_of, behind_brace, is_balanced, all_different, is_tail, is_pstmt, is_return, is_table_attr, has_word, table_needs, counter_needs, register_needs, is_decl}
 use Rattle.p414_reader.specs.declared.symbols.Word.TheVariants as word
-use Rattle.p414_reader.specs.internal.Built.{Built}
+use Rattle.p414_reader.specs.declared.built.Built.{Built}
 use Rattle.p414_reader.specs.internal.Classes.{is_neither}
 use Rattle.p414_reader.specs.internal.Rows.{grammar14}
 use Rattle.p414_reader.proofs.Meaning.{meaning14, with_tokens}

@@ -20,7 +20,7 @@ use Rattle.p414_reader.specs.declared.symbols.BodyWord.TheVariants as body
 use Rattle.predictive_parser.specs.Values.{older}
 use Rattle.p414_reader.specs.internal.Classes.{prefix_of, infix_of, is_prefix, is_infix}
 use Rattle.p414_reader.specs.internal.Rows.{grammar14, prefix_rest, infix_rest}
-use Rattle.p414_reader.specs.internal.Built.{Built}
+use Rattle.p414_reader.specs.declared.built.Built.{Built}
 use Rattle.p414_reader.proofs.Meaning.{meaning14, with_operators, last_expr}
 use Rattle.p414_reader.proofs.Lists.{both, left_true, right_true, text_is}
 use Rattle.p414_reader.proofs.Fixed.{fixed14, by_named, by_number}

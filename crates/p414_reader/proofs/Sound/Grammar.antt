@@ -7,7 +7,8 @@ use Rattle.p414_ast.specs.declared.syntax.Syntax14.{Syntax14}
 use Rattle.p414_ast.specs.Spells.{Spells}
 use Rattle.p414_reader.specs.declared.symbols.Word.{Word}
 use Rattle.p414_reader.specs.declared.symbols.Word.TheVariants as word
-use Rattle.p414_reader.specs.internal.Built.{Built, nothing}
+use Rattle.p414_reader.specs.declared.built.Built.{Built}
+use Rattle.p414_reader.specs.internal.Built.{nothing}
 use Rattle.p414_reader.specs.internal.Rows.{grammar14}
 use Rattle.p414_reader.proofs.Meaning.{meaning14}
 use Rattle.p414_reader.proofs.Fixed.{fixed14}

@@ -14,7 +14,7 @@ use Rattle.p414_reader.specs.declared.symbols.HeaderWord.{HeaderWord}
 use Rattle.p414_reader.specs.declared.symbols.HeaderWord.TheVariants as header
 use Rattle.predictive_parser.specs.Values.{newest, older}
 use Rattle.p414_reader.specs.internal.Rows.{grammar14}
-use Rattle.p414_reader.specs.internal.Built.{Built}
+use Rattle.p414_reader.specs.declared.built.Built.{Built}
 use Rattle.p414_reader.proofs.Meaning.{meaning14}
 use Rattle.p414_reader.proofs.Lists.{by_value, by_kept, by_kept_two, both, end_joined, end_joined_two, extended_by_list, stay_none, stay_extended}
 use Rattle.p414_reader.proofs.Fixed.{fixed14, by_name, by_number, by_new}

@@ -10,7 +10,7 @@ use Rattle.p414_ast.specs.Conditions.{is_among, has_word, counter_needs, registe
 use Rattle.p414_reader.specs.declared.symbols.Word.TheVariants as word
 use Rattle.p414_reader.specs.declared.symbols.ObjectWord.{ObjectWord}
 use Rattle.p414_reader.specs.declared.symbols.ObjectWord.TheVariants as object
-use Rattle.p414_reader.specs.internal.Built.{Built}
+use Rattle.p414_reader.specs.declared.built.Built.{Built}
 use Rattle.p414_reader.specs.internal.Rows.{grammar14}
 use Rattle.p414_reader.proofs.Meaning.{meaning14, object_words, object_needs}
 use Rattle.p414_reader.proofs.Lists.{neither_left, neither_right, neither_of, stay_extended, stay_none}

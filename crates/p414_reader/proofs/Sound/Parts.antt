@@ -7,7 +7,7 @@ use Rattle.p414_ast.specs.declared.parts.Index.TheVariants as index
 use Rattle.p414_reader.specs.declared.symbols.Word.TheVariants as word
 use Rattle.p414_reader.specs.declared.symbols.PartWord.{PartWord}
 use Rattle.p414_reader.specs.declared.symbols.PartWord.TheVariants as part
-use Rattle.p414_reader.specs.internal.Built.{Built}
+use Rattle.p414_reader.specs.declared.built.Built.{Built}
 use Rattle.p414_reader.specs.internal.Rows.{grammar14}
 use Rattle.p414_reader.proofs.Meaning.{with_arguments, meaning14}
 use Rattle.p414_reader.proofs.Lists.{by_value, with_arguments_list}

@@ -24,7 +24,7 @@ use Rattle.p414_reader.specs.declared.symbols.StateWord.TheVariants as state
 use Rattle.predictive_parser.specs.Values.{newest, older, extended}
 use Rattle.p414_reader.specs.internal.Actions.{value_of}
 use Rattle.p414_reader.specs.internal.Rows.{grammar14}
-use Rattle.p414_reader.specs.internal.Built.{Built}
+use Rattle.p414_reader.specs.declared.built.Built.{Built}
 use Rattle.p414_reader.proofs.Meaning.{meaning14}
 use Rattle.p414_reader.proofs.Lists.{by_value, by_kept, both, not_false, bare_spelled, end_joined, ends_joined, extended_by_list}
 use Rattle.p414_reader.proofs.Fixed.{fixed14, by_name, by_number}

@@ -17,7 +17,7 @@ use Rattle.p414_reader.specs.declared.symbols.TableWord.TheVariants as table
 use Rattle.predictive_parser.specs.Values.{newest}
 use Rattle.p414_reader.specs.internal.Actions.{key_of}
 use Rattle.p414_reader.specs.internal.Rows.{grammar14}
-use Rattle.p414_reader.specs.internal.Built.{Built}
+use Rattle.p414_reader.specs.declared.built.Built.{Built}
 use Rattle.p414_reader.proofs.Meaning.{meaning14, written_dot, extended_by, table_words}
 use Rattle.p414_reader.proofs.Needs.{not_needed, still_needed}
 use Rattle.p414_reader.proofs.Lists.{both, extended_by_list, stay_extended, stay_none}

@@ -56,7 +56,9 @@ use Rattle.p414_reader.specs.declared.symbols.DeclKind.TheVariants as kind
 use Rattle.p414_reader.specs.declared.symbols.Action.{Action}
 use Rattle.p414_reader.specs.declared.symbols.Action.TheVariants as action
 use Rattle.predictive_parser.specs.Values.{newest, older, extended, extended_option}
-use Rattle.p414_reader.specs.internal.Built.{Bodies, Built, no_bodies}
+use Rattle.p414_reader.specs.declared.built.Built.{Built}
+use Rattle.p414_reader.specs.internal.Bodies.{Bodies}
+use Rattle.p414_reader.specs.internal.Built.{no_bodies}
 use Rattle.p414_reader.specs.declared.parts.Parts.{Parts}
 use Rattle.p414_reader.specs.declared.headers.Headers.{Headers}
 use Rattle.p414_reader.specs.declared.calculations.Calculations.{Calculations}

@@ -19,7 +19,7 @@ use Rattle.p414_reader.specs.declared.symbols.Class.TheVariants as class
 use Rattle.predictive_parser.specs.Values.{newest, extended, extended_option}
 use Rattle.p414_lexemes.specs.declared.keyword.Keyword.TheVariants as key
 use Rattle.p414_lexemes.specs.Keywords.{keyword_text}
-use Rattle.p414_reader.specs.internal.Built.{Built}
+use Rattle.p414_reader.specs.declared.built.Built.{Built}
 
 abbrev pub mark_number : Mark → ℕ
 mark_number mark.BraceOpen = 0

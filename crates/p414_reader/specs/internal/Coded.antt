@@ -11,7 +11,7 @@ use Rattle.p414_reader.specs.declared.symbols.Word.TheVariants as word
 use Rattle.p414_reader.specs.declared.symbols.BodyWord.{BodyWord}
 use Rattle.p414_reader.specs.declared.symbols.BodyWord.TheVariants.{Expr, Operators, ExprInst, AfterApply, ApplyEnd, AfterIf, ElseOption, AfterElse, Branches}
 use Rattle.p414_reader.specs.declared.symbols.BodyWord.TheVariants as body_word
-use Rattle.p414_reader.specs.internal.Built.{Built}
+use Rattle.p414_reader.specs.declared.built.Built.{Built}
 use Rattle.p414_reader.specs.internal.Rows.{Sym, body_rows, grammar14}
 
 abbrev pub Lines : Type 0

@@ -9,7 +9,8 @@ use Rattle.p414_tok.specs.Front.{front}
 use Rattle.p414_ast.specs.declared.syntax.Syntax14.{Syntax14}
 use Rattle.p414_reader.specs.declared.symbols.Word.TheVariants as word
 use Rattle.p414_tok.specs.Lexemes.{lexemes}
-use Rattle.p414_reader.specs.internal.Built.{Built, nothing}
+use Rattle.p414_reader.specs.declared.built.Built.{Built}
+use Rattle.p414_reader.specs.internal.Built.{nothing}
 use Rattle.p414_reader.specs.internal.Rows.{grammar14}
 
 -- what the machine answers for the tokens of a text

@@ -56,7 +56,7 @@ use Rattle.p414_reader.specs.declared.symbols.ObjectWord.TheVariants as object_w
 use Rattle.p414_reader.specs.declared.symbols.BodyWord.{BodyWord}
 use Rattle.p414_reader.specs.declared.symbols.BodyWord.TheVariants.{Expr, Operators, ExprInst, AfterApply, ApplyEnd, AfterIf, ElseOption, AfterElse, Branches}
 use Rattle.p414_reader.specs.declared.symbols.BodyWord.TheVariants as body_word
-use Rattle.p414_reader.specs.internal.Built.{Built}
+use Rattle.p414_reader.specs.declared.built.Built.{Built}
 use Rattle.p414_reader.specs.internal.Classes.{accepts, shift, prefix_of, infix_of}
 use Rattle.p414_reader.specs.internal.Actions.{put}
 
