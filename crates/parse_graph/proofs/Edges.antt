@@ -1,5 +1,5 @@
 -- Laws of edges that are added from the last node of a graph.
-use Rattle.std.proofs.Common.{◌≡◌, ℕ, zero, suc, List, [], ◌∷◌, ◌++◌, fold, Result, Ok, Err, OnOk, refl, sym, ◌∙◌, ap}
+use Rattle.std.proofs.Common.{◌≡◌, ℕ, List, [], ◌∷◌, ◌++◌, Result, Ok, Err, OnOk, refl, sym, ◌∙◌, ap}
 use Rattle.std.proofs.lemmas.List.{append-nil, append_assoc}
 use Rattle.digraph.specs.Graphs.{with_edge}
 use Rattle.parse_graph.specs.internal.IdleEdges.{with_edges}

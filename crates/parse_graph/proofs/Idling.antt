@@ -1,12 +1,12 @@
 -- Cycles of states that extract nothing are the cycles of the graph of these states.
-use Rattle.std.proofs.Common.{◌≡◌, ◌⊎◌, ℕ, zero, suc, ◌<◌, ◌≤◌, ◌==◌, Bool, true, false, cond, inl, inr, List, [], ◌∷◌, ◌++◌, length, map, filter, flat_map, get_or, Contains, All, take, refl, sym, ◌∙◌, ap, subst, arith}
+use Rattle.std.proofs.Common.{◌≡◌, ℕ, zero, suc, ◌<◌, ◌≤◌, ◌==◌, Bool, true, false, cond, inl, inr, List, [], ◌∷◌, ◌++◌, length, map, filter, flat_map, get_or, Contains, All, take, refl, sym, ◌∙◌, ap, subst, arith}
 use Rattle.std.proofs.lemmas.Bool.{eqb-true}
 use Rattle.std.proofs.lemmas.List.{length-map, take_all}
 use Rattle.std.proofs.lemmas.List.Concat.{flat_map-cons}
 use Rattle.digraph.specs.Graphs.{Among, successors, IsEdge, WalkTo, OnCycle, IsLeastOnCycle, IsClosed}
 use Rattle.digraph.specs.Graphs.WalkTo.{Edge, Onward}
 use Rattle.digraph.proofs.Members.{among_place, place_among}
-use Rattle.p414_rules.specs.Walks.{IsWalk, IsCycle}
+use Rattle.p414_rules.specs.Walks.{IsWalk}
 use Rattle.parse_graph.specs.declared.nodes.StateNode.{StateNode}
 use Rattle.parse_graph.specs.Graphs.{extracts_at, next_at, IsWhole, IsIdle, IsLeastIdle}
 use Rattle.parse_graph.specs.internal.IdleEdges.{is_none, extracts_none, idle_next, idle_graph}

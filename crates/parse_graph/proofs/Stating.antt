@@ -1,6 +1,6 @@
 -- What the graph of a program says of the program: its returns name states of the graph, and its idle cycles are those
 -- of the program.
-use Rattle.std.proofs.Common.{◌≡◌, ◌↔◌, inl, inr, ℕ, zero, suc, ◌<◌, List, [], ◌∷◌, ◌++◌, length, map, filter_map, flat_map, slice_get, Contains, Option, Some, None, refl, sym, ◌∙◌, ap, subst, arith}
+use Rattle.std.proofs.Common.{◌≡◌, ◌↔◌, inl, inr, ℕ, zero, suc, ◌<◌, List, [], ◌∷◌, ◌++◌, length, map, filter_map, flat_map, slice_get, Contains, Option, Some, None, refl, sym, ◌∙◌, subst}
 use Rattle.std.specs.Option.{option_map_or}
 use Rattle.std.specs.List.{cons_option}
 use Rattle.std.specs.Str.{bytes_eq}
@@ -8,12 +8,12 @@ use Rattle.std.proofs.lemmas.List.{length-map}
 use Rattle.std.proofs.lemmas.List.Concat.{flat_map-cons}
 use Rattle.std.proofs.lemmas.List.Quantifiers.{position-Some}
 use Rattle.digraph.specs.Graphs.{Among}
-use Rattle.digraph.proofs.Members.{among_place, place_among}
+use Rattle.digraph.proofs.Members.{among_place}
 use Rattle.p414_ast.specs.declared.parsers.Parser.{Parser}
 use Rattle.p414_ast.specs.declared.syntax.Decl.{Decl}
 use Rattle.p414_rules.specs.Names.{Name, find_name}
-use Rattle.p414_rules.specs.Walks.{IsWalk, IsCycle}
-use Rattle.p414_rules.specs.ParserGraph.{states, state_name, state_number, targets_of, extracts_in, next_in, extracts_of, next_of, walk_extracts, HasIdleCycle}
+use Rattle.p414_rules.specs.Walks.{IsWalk}
+use Rattle.p414_rules.specs.ParserGraph.{states, state_name, targets_of, extracts_in, next_in, extracts_of, next_of, HasIdleCycle}
 use Rattle.parse_graph.specs.declared.nodes.StateNode.{StateNode}
 use Rattle.parse_graph.specs.Graphs.{extracts_at, next_at, IsWhole, IsIdle}
 use Rattle.parse_graph.specs.Programs.{node_of}

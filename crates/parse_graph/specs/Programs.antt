@@ -1,5 +1,5 @@
 -- The graph of a program's parser states (P4_14 1.0.5, "Parser Specification").
-use Rattle.std.specs.Prelude.{◌≡◌, ℕ, List, map, codes, unwrap_or}
+use Rattle.std.specs.Prelude.{◌≡◌, List, map, codes, unwrap_or}
 use Rattle.p414_ast.specs.declared.parsers.Parser.{Parser}
 use Rattle.p414_ast.specs.declared.syntax.Decl.{Decl}
 use Rattle.p414_rules.specs.ParserGraph.{states, state_number, extracts_in, next_in}

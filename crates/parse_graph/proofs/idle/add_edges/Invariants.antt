@@ -1,4 +1,4 @@
-use Rattle.std.proofs.Common.{◌≡◌, ℕ, filter, take}
+use Rattle.std.proofs.Common.{◌≡◌, filter, take}
 use Rattle.parse_graph.specs.internal.IdleEdges.{extracts_none, with_edges}
 use Rattle.parse_graph.proofs.idle.add_edges.Given as goal
 

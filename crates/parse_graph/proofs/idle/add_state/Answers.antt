@@ -1,4 +1,4 @@
-use Rattle.std.proofs.Common.{◌∙◌, sym, filter}
+use Rattle.std.proofs.Common.{sym, filter}
 use Rattle.parse_graph.specs.internal.IdleEdges.{extracts_none, idle_next}
 use Rattle.parse_graph.proofs.Edges.{state_added}
 use Rattle.parse_graph.proofs.Idling.{idle_state}

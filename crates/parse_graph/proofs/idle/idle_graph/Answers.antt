@@ -1,4 +1,3 @@
-use Rattle.std.proofs.Common.{◌∙◌, sym}
 use Rattle.parse_graph.proofs.Idling.{whole_at, whole_closed}
 use Rattle.parse_graph.proofs.idle.idle_graph.Goals as goal
 

@@ -1,4 +1,4 @@
-use Rattle.std.proofs.Common.{◌≡◌, ℕ, map, take}
+use Rattle.std.proofs.Common.{◌≡◌, map, take}
 use Rattle.parse_graph.specs.internal.IdleEdges.{idle_next}
 use Rattle.parse_graph.proofs.idle.idle_graph.Given as goal
 
