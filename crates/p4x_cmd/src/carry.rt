@@ -9,7 +9,7 @@ ghost use Rattle.p4x_cmd.specs.Forms14.{is_one_table};
 ghost use Rattle.p4x_cmd.specs.Forms16.{program16, Reads16};
 ghost use Rattle.p4x_cmd.specs.internal.Lowering.{lowered};
 ghost use Rattle.p4x_cmd.specs.internal.Phases.{IsPortsStop};
-ghost use Rattle.file_work.specs.Works.{Blames, DeskRose, ReadsRose, Tells, Leaves, Works, IsPart};
+ghost use Rattle.file_work.specs.Works.{Blames, DeskRose, ReadsRose, Tells, Works, IsPart};
 ghost use Rattle.file_work.specs.Phases.{GrownByFront, Loosely, line_view};
 ghost use Rattle.p4x_cmd.specs.internal.Plain.{IsSized};
 ghost use Rattle.command_words.specs.Words.{carry_inputs, carry_outputs};
@@ -184,23 +184,7 @@ fn read_ports_file<D: Desk>(alloc: Global, desk: &mut D, name: &str) -> Result<N
     }
 }
 
-// All the work of the command, with its parts one after another.
-fn work<D: Desk>(alloc: Global, desk: &mut D, names: &CarryNames<'_>) -> Result<Vec<u8>, Stop>
-    ensures moves { Moves (carry_outputs (files_of names.now)) (D.view desk.old) (D.view desk.new) }
-    ensures cause { Blames result (DeskRose (carry_inputs (files_of names.now)) (carry_outputs (files_of names.now)) (D.view desk.old) (D.view desk.new)) }
-    ensures leaves { (files : List ℕ → Option (List ℕ)) → Tells (carry_inputs (files_of names.now)) (D.view desk.old) files
-        → Leaves (carry_outputs (files_of names.now)) (CarryDue (files_of names.now) files) (line_view result) (D.view desk.old) (D.view desk.new) }
-    ensures packets { PacketsFit (files_of names.now) (D.view desk.old) (line_view result) }
-    ensures order { InOrder (files_of names.now) (D.view desk.old) (line_view result) }
-    ensures kept { KeepsInOrder (files_of names.now) (D.view desk.old) (D.view desk.new) (line_view result) }
-{
-    let beginning = prepare(alloc, desk, names)?;
-    begin(desk, names, beginning.text.as_slice())?;
-    let ports = beginning.ports.as_slice();
-    run_capture(alloc, desk, names, &beginning.program, ports)
-}
-
-/// The command `carry`: the line that it prints, or why it stops.
+/// The command `carry`, with its parts one after another: the line that it prints, or why it stops.
 pub(crate) fn carry<D: Desk>(
     alloc: Global,
     desk: &mut D,
@@ -211,5 +195,8 @@ pub(crate) fn carry<D: Desk>(
     ensures order { InOrder (files_of names.now) (D.view desk.old) (line_view result) }
     ensures kept { KeepsInOrder (files_of names.now) (D.view desk.old) (D.view desk.new) (line_view result) }
 {
-    work(alloc, desk, names)
+    let beginning = prepare(alloc, desk, names)?;
+    begin(desk, names, beginning.text.as_slice())?;
+    let ports = beginning.ports.as_slice();
+    run_capture(alloc, desk, names, &beginning.program, ports)
 }
