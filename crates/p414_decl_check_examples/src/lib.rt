@@ -9,6 +9,8 @@ mod kept;
 #[cfg(test)]
 mod lists;
 #[cfg(test)]
+mod messages;
+#[cfg(test)]
 mod setting;
 #[cfg(test)]
 mod totals;
