@@ -1,0 +1,4 @@
+pub mod Splitting
+pub mod Walks
+pub mod ListLaws
+pub mod Stating
