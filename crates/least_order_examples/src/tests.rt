@@ -53,7 +53,11 @@ fn is_chain_ordered(alloc: Global, len: usize) -> Result<bool, OutOfMemory> {
     let Some(order) = least_order(alloc, &graph, &labels, 0)? else {
         return Ok(false);
     };
-    Ok(order.len() == len && order.first() == Some(&(len - 1)) && order.last() == Some(&0))
+    Ok(
+        order.len() == len
+            && order.first() == Some(&len.saturating_sub(1))
+            && order.last() == Some(&0),
+    )
 }
 
 fn is_ordered(
