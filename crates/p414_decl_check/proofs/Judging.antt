@@ -3,7 +3,7 @@ use Rattle.std.proofs.Common.{◌≡◌, inl, inr, Bool, true, false, cond, Matc
 use Rattle.p414_ast.specs.declared.syntax.Decl.{Decl}
 use Rattle.p414_ast.specs.declared.syntax.Syntax14.{Syntax14}
 use Rattle.p414_rules.specs.declared.rule.ProgramRule.{ProgramRule}
-use Rattle.p414_rules.specs.declared.rule.ProgramRule.TheVariants.{C1, C8, C9, C10}
+use Rattle.p414_rules.specs.declared.rule.ProgramRule.TheVariants.{C1, C8}
 use Rattle.p414_rules.specs.Twice.{declares_twice}
 use Rattle.p414_rules.specs.Unknown.{has_unknown_name}
 use Rattle.p414_rules.specs.Widths.{has_bad_width, has_bad_layout}
@@ -11,7 +11,7 @@ use Rattle.p414_rules.specs.Stacks.{has_bad_stack}
 use Rattle.p414_rules.specs.Selects.{has_bad_select}
 use Rattle.p414_rules.specs.Totals.{has_too_much}
 use Rattle.p414_rules.specs.Lists.{HasBadList}
-use Rattle.p414_rules.specs.Breaks.{IsBroken, IsFirstBroken, BreaksNone, Breaks14, declaration_rules, rule_fault}
+use Rattle.p414_rules.specs.Breaks.{IsBroken, IsFirstBroken, BreaksNone, Breaks14, declaration_rules, body_rules, rule_fault}
 use Rattle.p414_decl_check.specs.declared.fault.DeclFault.{DeclFault}
 use Rattle.p414_decl_check.specs.declared.fault.DeclFault.TheVariants.{Memory, Refused}
 use Rattle.p414_decl_check.specs.Answers.{flat_rules, Blames, IsAnswer, BlamesLeast}
@@ -125,7 +125,7 @@ pub least_of_all : (s : Syntax14) (names : Result (List Decl) DeclFault) → IsA
 unfolding Breaks14
 least_of_all s (Ok ds) h = _
 least_of_all s (Err Memory) h = _
-least_of_all s (Err (Refused f)) (rule, first, is) = (rule, further s.decls rule declaration_rules (C9 ∷ C10 ∷ []) first, is)
+least_of_all s (Err (Refused f)) (rule, first, is) = (rule, further s.decls rule declaration_rules body_rules first, is)
 
 -- the same as answers, by whether C8 is broken
 

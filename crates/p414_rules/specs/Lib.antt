@@ -7,8 +7,22 @@
 --   Totals       C7: how many fields and octets there are
 --   Lists        C8: field lists and calculated fields, on Expansion: what a list has in it when expanded
 --   ParserGraph  C9 and C10: parser states as a graph, and Order: the order in which headers leave
--- They stand on Walks (walks and cycles in a graph), Names (sorts, and what a name stands for), Fields (instances,
--- fields and their widths) and Primitives (primitive actions, standard metadata).
+--   Tables       C11, C12 and C24: keys and default actions
+--   Calls        C13: the arguments of calls, on Expressions, which also has C26: the minus sign
+--   Targets      C14: what is extracted and what is written
+--   Actions      C15: actions that call themselves or are too long, on ActionExpansion: what an action comes to
+--   Controls     C16: the same of controls, on ControlExpansion: what a control comes to
+--   Pipelines    C17 and C22: what the pipelines apply and reach
+--   Preserved    C18 and C19: field lists that are preserved
+--   Payloads     C20: where `payload` stands
+--   CalculatedFields  C21: the conditions of calculated fields
+--   Cells        C23: counters, meters and registers
+--   Unsupported  C25: what is left out
+--   Parameters   C27: where a parameter stands
+--   Nesting      C28: how deep blocks and expressions nest
+-- They stand on Walks (walks and cycles in a graph), Names (sorts, and what a name stands for), Distinct (names, each
+-- once), Fields (instances, fields and their widths), Primitives (primitive actions, standard metadata) and Arguments
+-- (what the arguments of calls stand for, and what is wanted of each).
 pub mod Walks
 pub mod Names
 pub mod Primitives
@@ -23,4 +37,22 @@ pub mod Totals
 pub mod Expansion
 pub mod Lists
 pub mod ParserGraph
+pub mod Distinct
+pub mod Arguments
+pub mod ActionExpansion
+pub mod Tables
+pub mod Expressions
+pub mod Actions
+pub mod Calls
+pub mod Targets
+pub mod ControlExpansion
+pub mod Controls
+pub mod Pipelines
+pub mod Preserved
+pub mod Payloads
+pub mod CalculatedFields
+pub mod Cells
+pub mod Unsupported
+pub mod Parameters
+pub mod Nesting
 pub mod Breaks
