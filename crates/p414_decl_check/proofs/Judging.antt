@@ -15,7 +15,8 @@ use Rattle.p414_rules.specs.Breaks.{IsBroken, IsFirstBroken, BreaksNone, Breaks1
 use Rattle.p414_decl_check.specs.declared.fault.DeclFault.{DeclFault}
 use Rattle.p414_decl_check.specs.declared.fault.DeclFault.TheVariants.{Memory, Refused}
 use Rattle.p414_decl_check.specs.Answers.{flat_rules, Blames, IsAnswer, BlamesLeast}
-use Rattle.p414_decl_check.specs.internal.Judged.{is_flat_broken, first_broken, behind_c1, IsExact}
+use Rattle.p414_rules.specs.Exact.{IsExact}
+use Rattle.p414_decl_check.specs.internal.Judged.{is_flat_broken, first_broken, behind_c1}
 
 -- a rule is broken exactly where its test says so
 abbrev Judges : List Decl → ProgramRule → Type 0

@@ -1,13 +1,2 @@
-mod Adding
-mod Answering
-mod Counting
-mod Deciding
-mod Expanding
 mod Headers
-mod Holding
 mod Judging
-mod ListNames
-mod Loops
-mod Numbers
-mod Sized
-mod Sums

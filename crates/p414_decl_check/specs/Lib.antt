@@ -1,4 +1,3 @@
 -- Read Answers first: what a check of declarations answers.
 pub mod Answers
-pub mod Shown
 pub mod internal

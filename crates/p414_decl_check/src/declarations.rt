@@ -4,8 +4,8 @@ ghost use Rattle.p414_decl_check.specs.Answers.{IsAnswer, BlamesLeast, flat_rule
 
 use crate::fault::{DeclFault, refusal};
 use crate::flat::flat_names;
-use crate::lists::has_bad_list;
-use crate::names::Names14;
+use p414_list_check::has_bad_list;
+use p414_names::Names14;
 use p414_ast::{Decl, Syntax14};
 use p414_rules::ProgramRule;
 use std::alloc::Global;

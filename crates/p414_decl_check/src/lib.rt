@@ -2,29 +2,16 @@
 //! least of them that it breaks.
 #![tactic(auto)]
 
-mod calculated;
-mod collect;
 mod currents;
 mod declarations;
-mod expanded;
 mod fault;
 mod flat;
-mod inputs;
-mod list_graph;
-mod lists;
-mod name_set;
-mod names;
-mod primitives;
-mod scope;
 mod selects;
 mod stacks;
 mod totals;
-mod twice;
-mod types;
 mod unknown;
-mod uses;
 mod widths;
 
 pub use declarations::decls;
 pub use fault::DeclFault;
-pub use names::Names14;
+pub use p414_names::Names14;

@@ -2,12 +2,12 @@
 ghost use Rattle.std.specs.Prelude.{◌≡◌, map, sum_by, nat_lt, option_copied};
 ghost use Rattle.std.specs.List.{list_any};
 ghost use Rattle.p414_rules.specs.Selects.{is_early, latest_bits, value_bits, joins_too_much, state_joins_too_much, has_bad_select};
-ghost use Rattle.p414_decl_check.specs.Shown.{shown_use};
-ghost use Rattle.p414_decl_check.specs.internal.Collected.{AreUses};
+ghost use Rattle.p414_uses.specs.Shown.{shown_use};
+ghost use Rattle.p414_uses.specs.internal.Collected.{AreUses};
 
-use crate::collect::last_extracted;
-use crate::names::Names14;
-use crate::uses::Use;
+use p414_uses::last_extracted;
+use p414_names::Names14;
+use p414_uses::Use;
 use p414_ast::{Decl, Inst, PValue, Return};
 
 /// How many bits a select joins at most.
@@ -55,7 +55,7 @@ fn value_bits(names: &Names14<'_>, last: Option<&Inst>, value: &PValue) -> u128
 }
 
 /// Whether these values together have over 128 bits.
-#[tactic(auto, using(crate::proofs::Sums::over_now, crate::proofs::Sums::add_now))]
+#[tactic(auto, using(p414_names::proofs::Sums::over_now, crate::proofs::Sums::add_now))]
 fn are_too_wide(names: &Names14<'_>, last: Option<&Inst>, values: &[PValue]) -> bool
     ensures { result ≡ nat_lt 128 (sum_by (value_bits names.now (option_copied last.entry)) values.now) }
 {

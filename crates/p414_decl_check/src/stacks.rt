@@ -2,11 +2,11 @@
 ghost use Rattle.std.specs.Prelude.{◌≡◌, map};
 ghost use Rattle.std.specs.List.{list_any};
 ghost use Rattle.p414_rules.specs.Stacks.{is_bad_size, declares_bad_size, is_bad_index, is_bad_extract, is_bad_instance, is_bad_extracted, is_misplaced, has_bad_stack};
-ghost use Rattle.p414_decl_check.specs.Shown.{shown_use};
-ghost use Rattle.p414_decl_check.specs.internal.Collected.{AreUses};
+ghost use Rattle.p414_uses.specs.Shown.{shown_use};
+ghost use Rattle.p414_uses.specs.internal.Collected.{AreUses};
 
-use crate::names::{Names14, size_in};
-use crate::uses::Use;
+use p414_names::{Names14, size_in};
+use p414_uses::Use;
 use p414_ast::{Decl, Index, Inst, Literal};
 
 /// Whether a size of a stack is outside 1 to 256.

@@ -3,11 +3,11 @@ ghost use Rattle.std.specs.Prelude.{◌≡◌, ◌*◌, sum_by, nat_lt, option_c
 ghost use Rattle.std.specs.List.{list_any};
 ghost use Rattle.p414_rules.specs.Widths.{is_unaligned_header, has_bad_layout};
 ghost use Rattle.p414_rules.specs.Totals.{elements_of, fields_of_type, bits_of_type, instance_fields, header_bits, has_too_much};
-ghost use Rattle.p414_decl_check.specs.internal.Types.{IsUpTo};
+ghost use Rattle.p414_names.specs.internal.Types.{IsUpTo};
 
 use crate::currents::some_state_looks_too_far;
-use crate::names::Names14;
-use crate::types::MOST_HEADER_BITS;
+use p414_names::Names14;
+use p414_names::MOST_HEADER_BITS;
 use p414_ast::{Decl, Literal};
 
 /// How many fields all instances have at most.
@@ -92,7 +92,7 @@ fn instance_fields(names: &Names14<'_>, decl: &Decl) -> Option<u128>
 }
 
 /// Whether all instances have over 65,536 fields.
-#[tactic(auto, using(crate::proofs::Sums::over_now, crate::proofs::Sums::add_now))]
+#[tactic(auto, using(p414_names::proofs::Sums::over_now, crate::proofs::Sums::add_now))]
 fn has_too_many_fields(names: &Names14<'_>, decls: &[Decl]) -> bool
     ensures { result ≡ nat_lt 65536 (sum_by (instance_fields names.now) decls.now) }
 {
@@ -135,7 +135,7 @@ fn header_bits(names: &Names14<'_>, decl: &Decl) -> Option<u128>
 }
 
 /// Whether all headers have over 32,768 octets.
-#[tactic(auto, using(crate::proofs::Sums::over_now, crate::proofs::Sums::add_now))]
+#[tactic(auto, using(p414_names::proofs::Sums::over_now, crate::proofs::Sums::add_now))]
 fn has_too_many_bits(names: &Names14<'_>, decls: &[Decl]) -> bool
     ensures { result ≡ nat_lt 262144 (sum_by (header_bits names.now) decls.now) }
 {

@@ -3,13 +3,13 @@ ghost use Rattle.std.specs.Prelude.{◌≡◌, map, option_copied};
 ghost use Rattle.std.specs.List.{list_any};
 ghost use Rattle.p414_rules.specs.Names.{is_state, is_control};
 ghost use Rattle.p414_rules.specs.Unknown.{parse_of, is_next_state, is_list_item, is_unknown, lacks_start, lacks_ingress, has_unknown_name};
-ghost use Rattle.p414_decl_check.specs.Shown.{shown_use};
-ghost use Rattle.p414_decl_check.specs.internal.Collected.{AreUses};
+ghost use Rattle.p414_uses.specs.Shown.{shown_use};
+ghost use Rattle.p414_uses.specs.internal.Collected.{AreUses};
 ghost use Rattle.p414_decl_check.specs.internal.Parts.{lacks_field};
 
-use crate::names::Names14;
-use crate::primitives::is_any_primitive;
-use crate::uses::Use;
+use p414_names::Names14;
+use p414_names::is_any_primitive;
+use p414_uses::Use;
 use p414_ast::{Decl, Inst, Sort};
 
 /// Whether a parser state has the name.

@@ -55,4 +55,5 @@ pub mod Cells
 pub mod Unsupported
 pub mod Parameters
 pub mod Nesting
+pub mod Exact
 pub mod Breaks

@@ -1,6 +1,5 @@
 -- The rules that are truth values, behind C1: without C1 there are no names to ask the others with.
-use Rattle.std.specs.Prelude.{◌⊎◌, Bool, false, if◌then◌else◌, List, [], ◌∷◌, Option, Some, None}
-use Rattle.std.specs.Bool.{MatchBool}
+use Rattle.std.specs.Prelude.{Bool, false, if◌then◌else◌, List, [], ◌∷◌, Option, Some, None}
 use Rattle.p414_ast.specs.declared.syntax.Decl.{Decl}
 use Rattle.p414_rules.specs.declared.rule.ProgramRule.{ProgramRule}
 use Rattle.p414_rules.specs.declared.rule.ProgramRule.TheVariants.{C2, C3, C4, C5, C6, C7}
@@ -9,7 +8,6 @@ use Rattle.p414_rules.specs.Widths.{has_bad_width, has_bad_layout}
 use Rattle.p414_rules.specs.Stacks.{has_bad_stack}
 use Rattle.p414_rules.specs.Selects.{has_bad_select}
 use Rattle.p414_rules.specs.Totals.{has_too_much}
-use Rattle.p414_rules.specs.Lists.{HoldsItself, ListTooLong, InputsAreBad}
 
 abbrev pub behind_c1 : List ProgramRule
 behind_c1 = C2 ∷ C3 ∷ C4 ∷ C5 ∷ C6 ∷ C7 ∷ []
@@ -27,11 +25,3 @@ is_flat_broken ds _ = false
 abbrev pub first_broken : List Decl → List ProgramRule → Option ProgramRule
 first_broken ds [] = None
 first_broken ds (rule ∷ rules) = if is_flat_broken ds rule then Some rule else first_broken ds rules
-
--- the answer says exactly whether this holds
-abbrev pub IsExact : Bool → Type 0 → Type 0
-IsExact answer P = MatchBool answer P (P → ⊥)
-
--- what C8 asks of lists that are expanded
-abbrev pub IsExpandedBadly : List Decl → Type 0
-IsExpandedBadly ds = HoldsItself ds ⊎ ListTooLong ds ⊎ InputsAreBad ds

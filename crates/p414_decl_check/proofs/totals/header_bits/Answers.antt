@@ -1,5 +1,5 @@
 use Rattle.std.proofs.Common.{ℕ, subst}
-use Rattle.p414_decl_check.specs.internal.Types.{IsUpTo}
+use Rattle.p414_names.specs.internal.Types.{IsUpTo}
 use Rattle.p414_decl_check.proofs.Headers.{header_bits_is}
 use Rattle.p414_decl_check.proofs.totals.header_bits.Goals as goal
 

@@ -1,9 +1,0 @@
-use Rattle.std.proofs.Common.{◌≡◌, ◌+◌, ◌≤◌, drop, count_by}
-use Rattle.p414_rules.specs.Lists.{is_update}
-use Rattle.p414_decl_check.proofs.calculated.has_many_updates.Given as goal
-
-abbrev pub invariant-loop-entry : goal.invariant-loop-entry
-invariant-loop-entry l = record {
-  within : l.total ≤ 16;
-  same : l.total + count_by is_update (drop l.entry-index l.entries) ≡ count_by is_update l.entries;
-}

@@ -1,7 +1,0 @@
-use Rattle.std.proofs.Common.{◌≡◌, drop}
-use Rattle.std.specs.List.{list_any}
-use Rattle.p414_rules.specs.Lists.{has_bare_number}
-use Rattle.p414_decl_check.proofs.calculated.some_bare_number.Given as goal
-
-abbrev pub invariant-loop-decl : goal.invariant-loop-decl
-invariant-loop-decl l = list_any has_bare_number (drop l.decl-index l.decls) ≡ list_any has_bare_number l.decls

@@ -1,8 +1,0 @@
-use Rattle.std.proofs.Common.{◌≡◌, ◌++◌, map, drop}
-use Rattle.p414_rules.specs.Names.{has_name}
-use Rattle.p414_rules.specs.Uses.{uses_of_args}
-use Rattle.p414_decl_check.specs.Shown.{shown_use}
-use Rattle.p414_decl_check.proofs.collect.actions.add_placed.Given as goal
-
-abbrev pub invariant-loop-argument : goal.invariant-loop-argument
-invariant-loop-argument l = map shown_use l.found.items ++ uses_of_args (has_name l.parameters) l.left (drop l.argument-index l.arguments) ≡ map shown_use l.fn.found.items ++ uses_of_args (has_name l.parameters) l.places l.arguments

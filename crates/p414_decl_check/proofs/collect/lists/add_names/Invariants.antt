@@ -1,7 +1,0 @@
-use Rattle.std.proofs.Common.{◌≡◌, ◌++◌, map, drop}
-use Rattle.p414_rules.specs.Uses.{of_sort}
-use Rattle.p414_decl_check.specs.Shown.{shown_use}
-use Rattle.p414_decl_check.proofs.collect.lists.add_names.Given as goal
-
-abbrev pub invariant-loop-name : goal.invariant-loop-name
-invariant-loop-name l = map shown_use l.found.items ++ map (of_sort l.sort) (drop l.name-index l.names) ≡ map shown_use l.fn.found.items ++ map (of_sort l.sort) l.names

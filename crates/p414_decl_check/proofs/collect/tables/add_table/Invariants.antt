@@ -1,8 +1,0 @@
-use Rattle.std.proofs.Common.{◌≡◌, ◌++◌, map, drop}
-use Rattle.std.specs.List.{flat_map}
-use Rattle.p414_rules.specs.Uses.{uses_of_table_attr}
-use Rattle.p414_decl_check.specs.Shown.{shown_use}
-use Rattle.p414_decl_check.proofs.collect.tables.add_table.Given as goal
-
-abbrev pub invariant-loop-attribute : goal.invariant-loop-attribute
-invariant-loop-attribute l = map shown_use l.found.items ++ flat_map uses_of_table_attr (drop l.attribute-index l.attributes) ≡ map shown_use l.fn.found.items ++ flat_map uses_of_table_attr l.attributes

@@ -1,7 +1,0 @@
-use Rattle.std.proofs.Common.{◌≡◌, ◌++◌, map, drop}
-use Rattle.p414_rules.specs.Uses.{uses}
-use Rattle.p414_decl_check.specs.Shown.{shown_use}
-use Rattle.p414_decl_check.proofs.collect.uses_of.Given as goal
-
-abbrev pub invariant-loop-decl : goal.invariant-loop-decl
-invariant-loop-decl l = map shown_use l.found.items ++ uses (drop l.decl-index l.decls) ≡ uses l.decls

@@ -1,7 +1,0 @@
-use Rattle.std.proofs.Common.{◌≡◌, ◌++◌, drop, flat_map}
-use Rattle.p414_rules.specs.Lists.{calculated_fields}
-use Rattle.p414_decl_check.specs.internal.Expanded.{field_numbers, input_numbers}
-use Rattle.p414_decl_check.proofs.inputs.input_numbers.Given as goal
-
-abbrev pub invariant-loop-decl : goal.invariant-loop-decl
-invariant-loop-decl l = l.found.items ++ flat_map (field_numbers l.names) (calculated_fields (drop l.decl-index l.names)) ≡ input_numbers l.names

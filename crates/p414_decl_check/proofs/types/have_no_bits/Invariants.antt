@@ -1,6 +1,0 @@
-use Rattle.std.proofs.Common.{◌≡◌, drop, sum_by}
-use Rattle.p414_rules.specs.Fields.{field_bits}
-use Rattle.p414_decl_check.proofs.types.have_no_bits.Given as goal
-
-abbrev pub invariant-loop-field : goal.invariant-loop-field
-invariant-loop-field l = sum_by field_bits (drop l.field-index l.fields) ≡ sum_by field_bits l.fields

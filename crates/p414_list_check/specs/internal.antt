@@ -1,0 +1,3 @@
+pub mod Expanded
+pub mod Measures
+pub mod Judged

@@ -1,0 +1,13 @@
+//! The rule C8 of P4_14 programs: their field lists, what these come to when they are expanded, and calculated fields.
+#![tactic(auto)]
+
+mod calculated;
+mod expanded;
+mod inputs;
+mod list_graph;
+mod lists;
+
+pub use calculated::calculation_of;
+pub use expanded::{inner_number, list_number};
+pub use list_graph::list_graph;
+pub use lists::has_bad_list;

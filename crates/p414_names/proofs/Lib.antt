@@ -1,0 +1,3 @@
+mod Sets
+pub mod Numbers
+pub mod Sums

@@ -1,0 +1,9 @@
+use Rattle.std.proofs.Common.{◌≡◌, ◌+◌, ◌≤◌, drop, sum_by}
+use Rattle.p414_rules.specs.Fields.{field_bits}
+use Rattle.p414_names.proofs.types.bits_up_to.Given as goal
+
+abbrev pub invariant-loop-field : goal.invariant-loop-field
+invariant-loop-field l = record {
+  within : l.total ≤ 262144;
+  same : l.total + sum_by field_bits (drop l.field-index l.fields) ≡ sum_by field_bits l.fields;
+}
