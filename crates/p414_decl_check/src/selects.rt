@@ -55,7 +55,7 @@ fn value_bits(names: &Names14<'_>, last: Option<&Inst>, value: &PValue) -> u128
 }
 
 /// Whether these values together have over 128 bits.
-#[tactic(auto, using(p414_names::proofs::Sums::over_now, crate::proofs::Sums::add_now))]
+#[tactic(auto, using(p414_names::proofs::Sums::over_now, p414_names::proofs::Sums::add_now))]
 fn are_too_wide(names: &Names14<'_>, last: Option<&Inst>, values: &[PValue]) -> bool
     ensures { result ≡ nat_lt 128 (sum_by (value_bits names.now (option_copied last.entry)) values.now) }
 {

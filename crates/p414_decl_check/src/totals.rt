@@ -92,7 +92,7 @@ fn instance_fields(names: &Names14<'_>, decl: &Decl) -> Option<u128>
 }
 
 /// Whether all instances have over 65,536 fields.
-#[tactic(auto, using(p414_names::proofs::Sums::over_now, crate::proofs::Sums::add_now))]
+#[tactic(auto, using(p414_names::proofs::Sums::over_now, p414_names::proofs::Sums::add_now))]
 fn has_too_many_fields(names: &Names14<'_>, decls: &[Decl]) -> bool
     ensures { result ≡ nat_lt 65536 (sum_by (instance_fields names.now) decls.now) }
 {
@@ -135,7 +135,7 @@ fn header_bits(names: &Names14<'_>, decl: &Decl) -> Option<u128>
 }
 
 /// Whether all headers have over 32,768 octets.
-#[tactic(auto, using(p414_names::proofs::Sums::over_now, crate::proofs::Sums::add_now))]
+#[tactic(auto, using(p414_names::proofs::Sums::over_now, p414_names::proofs::Sums::add_now))]
 fn has_too_many_bits(names: &Names14<'_>, decls: &[Decl]) -> bool
     ensures { result ≡ nat_lt 262144 (sum_by (header_bits names.now) decls.now) }
 {

@@ -145,7 +145,7 @@ fn one_if(is_so: bool) -> u32
 }
 
 /// Whether over 16 entries update the field.
-#[tactic(auto, using(p414_names::proofs::Sums::over_now, crate::proofs::Sums::add_now))]
+#[tactic(auto, using(p414_names::proofs::Sums::over_now, p414_names::proofs::Sums::add_now))]
 fn has_many_updates(entries: &[Calc]) -> bool
     ensures { result ≡ nat_lt 16 (count_by is_update entries.now) }
 {
@@ -161,7 +161,7 @@ fn has_many_updates(entries: &[Calc]) -> bool
 }
 
 /// Whether over 16 entries verify the field.
-#[tactic(auto, using(p414_names::proofs::Sums::over_now, crate::proofs::Sums::add_now))]
+#[tactic(auto, using(p414_names::proofs::Sums::over_now, p414_names::proofs::Sums::add_now))]
 fn has_many_verifies(entries: &[Calc]) -> bool
     ensures { result ≡ nat_lt 16 (count_by is_verify entries.now) }
 {

@@ -13,7 +13,7 @@ ghost use Rattle.p414_list_check.specs.declared.expanded.Measure.TheVariants.{It
 use crate::calculated::has_flat_fault;
 use crate::expanded::{LIMIT, Measure, own_counts};
 use crate::inputs::{input_numbers, total};
-use crate::list_graph::list_graph;
+use crate::graph::list_graph;
 use p414_names::Names14;
 use digraph::{Components, Digraph};
 use p4x_bits::OutOfMemory;

@@ -1,3 +1,4 @@
 pub mod Edges
 pub mod Idling
 pub mod Stating
+mod Starts

@@ -1,5 +1,5 @@
 -- The graph of a program's parser states (P4_14 1.0.5, "Parser Specification").
-use Rattle.std.specs.Prelude.{◌≡◌, List, map, codes, unwrap_or}
+use Rattle.std.specs.Prelude.{◌≡◌, ◌<◌, List, length, map, codes, Some, unwrap_or}
 use Rattle.p414_ast.specs.declared.parsers.Parser.{Parser}
 use Rattle.p414_ast.specs.declared.syntax.Decl.{Decl}
 use Rattle.p414_rules.specs.ParserGraph.{states, state_number, extracts_in, next_in}
@@ -15,3 +15,8 @@ node_of ds state = record { extracts = extracts_in ds state; next = next_in ds s
 pub record IsGraph (ds : List Decl) (g : Graph) : Type 0 where
   pub states_are : g.states ≡ map (node_of ds) (states ds)
   pub start_is : g.start ≡ unwrap_or (state_number ds (codes "start")) 0
+
+-- a graph of these declarations begins in their state `start`, which is there
+pub record BeginsInStart (ds : List Decl) (g : Graph) : Type 0 where
+  pub named : state_number ds (codes "start") ≡ Some g.start
+  pub within : g.start < length g.states

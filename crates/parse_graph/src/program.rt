@@ -1,8 +1,9 @@
 // The graph of a program's parser states (P4_14 1.0.5, "Parser Specification").
-ghost use Rattle.std.specs.Prelude.{◌≡◌, ◌↔◌, ℕ, filter_map, map, IfOk};
+ghost use Rattle.std.specs.Prelude.{◌≡◌, ◌↔◌, ℕ, false, filter_map, map, IfOk};
 ghost use Rattle.p414_rules.specs.ParserGraph.{state_number, extracts_in, next_in, case_target_of, states, HasIdleCycle};
 ghost use Rattle.parse_graph.specs.Graphs.{IsWhole, IsIdle};
-ghost use Rattle.parse_graph.specs.Programs.{IsGraph, node_of};
+ghost use Rattle.p414_rules.specs.Unknown.{lacks_start};
+ghost use Rattle.parse_graph.specs.Programs.{IsGraph, BeginsInStart, node_of};
 
 use crate::names::Names;
 use crate::nodes::{Graph, StateNode};
@@ -82,13 +83,14 @@ fn nodes_of(
     Ok(nodes)
 }
 
-/// The parser states of a program as a graph. A name that no state has leads to none, and where no state is named `start`,
-/// which C2 refuses, the graph begins in state 0. In time linear in the syntax but for the search of names; the one error
+/// The parser states of a program as a graph, which begins in the state `start`. A name that no state has leads to none, and
+/// where no state is named `start`, which C2 refuses, the graph begins in state 0. In time linear in the syntax but for the search of names; the one error
 /// is want of memory.
 pub fn graph(alloc: Global, syntax: &Syntax14) -> Result<Graph, OutOfMemory>
     ensures graph { IfOk result (IsGraph syntax.now.decls) }
     ensures whole { IfOk result (λ g. IsWhole g.states) }
     ensures idle { IfOk result (λ g. HasIdleCycle syntax.now.decls ↔ ((s : ℕ) × IsIdle g.states s)) }
+    ensures start { IfOk result (λ g. lacks_start syntax.now.decls ≡ false → BeginsInStart syntax.now.decls g) }
 {
     let decls = syntax.decls.as_slice();
     let names = Names::of(alloc, decls)?;
