@@ -1,5 +1,5 @@
 -- From what the calls on a graph of lists answer to what is said of the lists.
-use Rattle.std.proofs.Common.{◌≡◌, ℕ, ◌||◌, Bool, true, false, nat_lt, List, length, inl, inr, Option, None, MatchOption, Result, sym, ap, ◌∙◌, subst}
+use Rattle.std.proofs.Common.{◌≡◌, ℕ, ◌||◌, Bool, true, false, nat_lt, min, List, length, inl, inr, Option, Some, None, MatchOption, Result, sym, ap, ◌∙◌, subst}
 use Rattle.std.specs.Global.{Vec}
 use Rattle.std.specs.Prelude.{IfOk}
 use Rattle.std.specs.List.{list_any}
@@ -10,13 +10,16 @@ use Rattle.digraph.specs.Expansions.{AreSizes, HasCycle}
 use Rattle.p414_ast.specs.declared.calculations.Item.{Item}
 use Rattle.p414_ast.specs.declared.syntax.Decl.{Decl}
 use Rattle.p414_rules.specs.Expansion.{lists}
-use Rattle.p414_rules.specs.Lists.{InputsAreBad}
+use Rattle.p414_rules.specs.Lists.{HoldsItself, InputsAreBad}
 use Rattle.p414_list_check.specs.internal.Expanded.{list_row, list_graph, capped_count, own_counts, total_from, input_numbers}
-use Rattle.p414_list_check.specs.internal.Measures.{own_length, own_standard, exceeds}
+use Rattle.p414_list_check.specs.internal.Measures.{one, own_length, own_standard, exceeds}
 use Rattle.p414_rules.specs.Exact.{IsExact}
 use Rattle.p414_list_check.specs.internal.Judged.{IsExpandedBadly}
-use Rattle.p414_list_check.proofs.Holding.{closed, holds_none}
-use Rattle.p414_list_check.proofs.Deciding.{long_is, none_long, inputs_are, acyclic_is}
+use Rattle.p414_list_check.specs.Lengths.{AreLengths}
+use Rattle.p414_list_check.proofs.Holding.{closed, holds_none, holds_itself}
+use Rattle.p414_list_check.proofs.Sized.{size_is, some_items}
+use Rattle.p414_list_check.proofs.Counting.{counts_lengths}
+use Rattle.p414_list_check.proofs.Deciding.{ones, long_is, none_long, inputs_are, acyclic_is}
 use Rattle.p414_list_check.proofs.Loops.{numbers_are}
 
 pub closed_by : (ds : List Decl) (g : List (List ℕ)) → g ≡ list_graph ds → IsClosed g
@@ -49,3 +52,13 @@ too_long_is ds lengths known long = inr (inl (long_is ds lengths known long))
 pub expanded_on : {E : Type 0} (ds : List Decl) (lengths : List ℕ) → AreSizes (list_graph ds) (own_counts 65537 (own_length ds) ds) 65537 lengths → list_any (nat_lt 4096) lengths ≡ false → (result : Result Bool E) → IfOk result (λ bad. IsExact bad (InputsAreBad ds)) → IfOk result (λ bad. IsExact bad (IsExpandedBadly ds))
 expanded_on ds lengths known short result h =
     IfOk-weaker result (λ bad. IsExact bad (InputsAreBad ds)) (λ bad. IsExact bad (IsExpandedBadly ds)) (λ bad inputs. acyclic_is ds bad (holds_none ds known.acyclic) (none_long ds lengths known short) inputs) h
+
+-- the sizes of the graph of lists are the lengths of the lists
+pub lengths_are : (ds : List Decl) (found : Option (Vec ℕ)) → MatchOption found (HasCycle (list_graph ds)) (λ s. AreSizes (list_graph ds) (own_counts 65537 (own_length ds) ds) 65537 s.items) → MatchOption found (HoldsItself ds) (λ s. AreLengths ds s.items)
+lengths_are ds None cycle = holds_itself ds cycle
+lengths_are ds (Some s) known =
+    record {
+      each = known.each ∙ length-map (lists ds) (list_row ds);
+      comes = some_items ds one (own_length ds) (counts_lengths ds) 65537 s.items known;
+      long = λ l items all there e. size_is ds one (own_length ds) (counts_lengths ds) 65537 s.items known l items all there e ∙ ap (min 65537) (ones all);
+    }

@@ -18,7 +18,7 @@ use Rattle.p414_list_check.proofs.Holding.{holds_itself}
 
 -- sums of ones
 
-ones : (all : List Item) → sum_by one all ≡ length all
+pub ones : (all : List Item) → sum_by one all ≡ length all
 ones [] = refl
 ones (i ∷ all) = let a : sum_by one (i ∷ all) ≡ 1 + sum_by one all = sum_by-cons one i all in let b = ones all in omega arith
 
@@ -43,12 +43,12 @@ same_order most a b f g = by_value (nat_lt most a) refl where
     by_other true h = absurd (cc (e, lt-ltb _ _ (g (ltb-true _ _ h))))
     by_other false h = sym h
 
-cut_order : (most limit n : ℕ) → most < limit → nat_lt most (min limit n) ≡ nat_lt most n
+pub cut_order : (most limit n : ℕ) → most < limit → nat_lt most (min limit n) ≡ nat_lt most n
 cut_order most limit n h = same_order most (min limit n) n (λ e. omega arith) (λ e. omega arith)
 
 -- some number is over the limit
 
-over_at : (most : ℕ) (xs : List ℕ) (k : ℕ) → k < length xs → nat_lt most (get_or xs k 0) ≡ true → list_any (nat_lt most) xs ≡ true
+pub over_at : (most : ℕ) (xs : List ℕ) (k : ℕ) → k < length xs → nat_lt most (get_or xs k 0) ≡ true → list_any (nat_lt most) xs ≡ true
 over_at most [] k h e = absurd (omega arith)
 over_at most (x ∷ xs) zero h e = ap (λ b. b || list_any (nat_lt most) xs) e
 over_at most (x ∷ xs) (suc k) h e = or_true (nat_lt most x) (list_any (nat_lt most) xs) (over_at most xs k (omega arith) e) where
@@ -56,7 +56,7 @@ over_at most (x ∷ xs) (suc k) h e = or_true (nat_lt most x) (list_any (nat_lt 
   or_true true b e = refl
   or_true false b e = e
 
-place_over : (most : ℕ) (xs : List ℕ) → list_any (nat_lt most) xs ≡ true → (k : ℕ) × (k < length xs) × (nat_lt most (get_or xs k 0) ≡ true)
+pub place_over : (most : ℕ) (xs : List ℕ) → list_any (nat_lt most) xs ≡ true → (k : ℕ) × (k < length xs) × (nat_lt most (get_or xs k 0) ≡ true)
 place_over most [] e = absurd (cc e)
 place_over most (x ∷ xs) e = first (nat_lt most x) refl e (place_over most xs) where
   first : (b : Bool) → nat_lt most x ≡ b → (b || list_any (nat_lt most) xs) ≡ true → (list_any (nat_lt most) xs ≡ true → (k : ℕ) × (k < length xs) × (nat_lt most (get_or xs k 0) ≡ true)) → (k : ℕ) × (k < suc (length xs)) × (nat_lt most (get_or (x ∷ xs) k 0) ≡ true)

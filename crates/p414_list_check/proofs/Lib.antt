@@ -1,8 +1,8 @@
 mod Answering
 mod Counting
-mod Deciding
-mod Expanding
-mod Holding
+pub mod Deciding
+pub mod Expanding
+pub mod Holding
 pub mod ListNames
-mod Loops
-mod Sized
+pub mod Loops
+pub mod Sized

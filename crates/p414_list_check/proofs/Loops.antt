@@ -19,7 +19,7 @@ pub cut_now : {X : Type 0} (f : X → ℕ) (xs : List X) (i : ℕ) (d : X) (tota
 cut_now f xs i d total whole h same = let e = sum_by-drop_more f xs i d h in omega arith
 
 -- the items from a place on: the one there, and those behind it
-next_items : {X : Type 0} (xs : List X) (i : ℕ) (d : X) → i < length xs → drop i xs ≡ get_or xs i d ∷ drop (i + 1) xs
+pub next_items : {X : Type 0} (xs : List X) (i : ℕ) (d : X) → i < length xs → drop i xs ≡ get_or xs i d ∷ drop (i + 1) xs
 next_items xs i d h = rw (add-one, drop-cons xs i d h) refl
 
 -- edges to the lists that stand in a list

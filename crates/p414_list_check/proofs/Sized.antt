@@ -16,10 +16,10 @@ use Rattle.p414_list_check.proofs.Expanding.{CountsOwn, row_count, comes, come_f
 
 -- sums that are cut off at a limit
 
-cut : (limit a b : ℕ) → min limit (min limit a + b) ≡ min limit (a + b)
+pub cut : (limit a b : ℕ) → min limit (min limit a + b) ≡ min limit (a + b)
 cut limit a b = omega arith
 
-cut_sum : (limit : ℕ) (f g : ℕ → ℕ) → ((n : ℕ) → f n ≡ min limit (g n)) → (ns : List ℕ) → min limit (sum_by f ns) ≡ min limit (sum_by g ns)
+pub cut_sum : (limit : ℕ) (f g : ℕ → ℕ) → ((n : ℕ) → f n ≡ min limit (g n)) → (ns : List ℕ) → min limit (sum_by f ns) ≡ min limit (sum_by g ns)
 cut_sum limit f g same [] = refl
 cut_sum limit f g same (n ∷ ns) =
     let a : sum_by f (n ∷ ns) ≡ f n + sum_by f ns = sum_by-cons f n ns in
@@ -38,7 +38,7 @@ count_there limit own (f ∷ fs) (suc l) = count_there limit own fs l
 pub count_is : (limit : ℕ) (own : Item → ℕ) (ds : List Decl) (l : ℕ) → slice_index (own_counts limit own ds) l ≡ min limit (row_count ds own l)
 count_is limit own ds l = count_there limit own (lists ds) l
 
-there_within : {X : Type 0} (xs : List X) (l : ℕ) (x : X) → slice_get xs l ≡ Some x → l < length xs
+pub there_within : {X : Type 0} (xs : List X) (l : ℕ) (x : X) → slice_get xs l ≡ Some x → l < length xs
 there_within [] l x e = absurd (cc e)
 there_within (y ∷ ys) zero x e = omega arith
 there_within (y ∷ ys) (suc l) x e = let h = there_within ys l x e in omega arith

@@ -3,11 +3,11 @@
 
 mod calculated;
 mod expanded;
-mod graph;
 mod inputs;
+mod graph;
 mod lists;
 
 pub use calculated::calculation_of;
 pub use expanded::{inner_number, list_number};
 pub use graph::list_graph;
-pub use lists::has_bad_list;
+pub use lists::{has_bad_list, list_lengths};

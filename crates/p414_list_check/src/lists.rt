@@ -3,7 +3,8 @@ ghost use Rattle.std.specs.Prelude.{◌≡◌, ◌||◌, nat_lt, IfOk, MatchOpti
 ghost use Rattle.std.specs.List.{list_any};
 ghost use Rattle.digraph.specs.Components.{AreComponents};
 ghost use Rattle.digraph.specs.Expansions.{AreSizes, HasCycle};
-ghost use Rattle.p414_rules.specs.Lists.{HasBadList, InputsAreBad};
+ghost use Rattle.p414_rules.specs.Lists.{HasBadList, HoldsItself, InputsAreBad};
+ghost use Rattle.p414_list_check.specs.Lengths.{AreLengths};
 ghost use Rattle.p414_list_check.specs.internal.Expanded.{list_graph, own_counts, total_from};
 ghost use Rattle.p414_list_check.specs.internal.Measures.{own_of, exceeds};
 ghost use Rattle.p414_rules.specs.Exact.{IsExact};
@@ -39,6 +40,16 @@ fn list_sizes(
 {
     let own = own_counts(alloc, names, measure)?;
     components.sizes(alloc, graph, &own, LIMIT)
+}
+
+/// How many items each field list has when it is expanded, by its number, but at most 65,537; none exactly where a list
+/// holds itself. The one error is want of memory.
+pub fn list_lengths(alloc: Global, names: &Names14<'_>) -> Result<Option<Vec<u64>>, OutOfMemory>
+    ensures { IfOk result (λ found. MatchOption found (HoldsItself names.now) (λ lengths. AreLengths names.now lengths.items)) }
+{
+    let graph = list_graph(alloc, names)?;
+    let components = Components::of(alloc, &graph)?;
+    list_sizes(alloc, names, &graph, &components, Measure::Items)
 }
 
 /// Whether a list is too long when it is expanded.
