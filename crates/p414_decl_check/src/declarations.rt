@@ -4,9 +4,9 @@ ghost use Rattle.p414_decl_check.specs.Answers.{IsAnswer, BlamesLeast, flat_rule
 
 use crate::fault::{DeclFault, refusal};
 use crate::flat::flat_names;
+use p414_ast::{Decl, Syntax14};
 use p414_list_check::has_bad_list;
 use p414_names::Names14;
-use p414_ast::{Decl, Syntax14};
 use p414_rules::ProgramRule;
 use std::alloc::Global;
 

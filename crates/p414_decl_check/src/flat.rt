@@ -4,18 +4,17 @@ ghost use Rattle.p414_decl_check.specs.Answers.{IsAnswer, flat_rules};
 ghost use Rattle.p414_uses.specs.internal.Collected.{AreUses};
 ghost use Rattle.p414_decl_check.specs.internal.Judged.{is_flat_broken, first_broken, behind_c1};
 
-use p414_uses::uses_of;
 use crate::fault::{DeclFault, refusal};
-use p414_names::{Names14, names_of};
 use crate::selects::has_bad_select;
 use crate::stacks::has_bad_stack;
 use crate::totals::{has_bad_layout, has_too_much};
 use crate::unknown::has_unknown_name;
-use p414_uses::Use;
 use crate::widths::has_bad_width;
 use p4x_bits::OutOfMemory;
 use p414_ast::Decl;
+use p414_names::{Names14, names_of};
 use p414_rules::ProgramRule;
+use p414_uses::{Use, uses_of};
 use std::alloc::Global;
 
 /// The rules that are asked once the names are known.

@@ -5,10 +5,9 @@ ghost use Rattle.p414_rules.specs.Selects.{is_early, latest_bits, value_bits, jo
 ghost use Rattle.p414_uses.specs.Shown.{shown_use};
 ghost use Rattle.p414_uses.specs.internal.Collected.{AreUses};
 
-use p414_uses::last_extracted;
-use p414_names::Names14;
-use p414_uses::Use;
 use p414_ast::{Decl, Inst, PValue, Return};
+use p414_names::Names14;
+use p414_uses::{Use, last_extracted};
 
 /// How many bits a select joins at most.
 const MOST_BITS: u128 = 128;

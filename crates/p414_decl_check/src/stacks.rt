@@ -5,9 +5,9 @@ ghost use Rattle.p414_rules.specs.Stacks.{is_bad_size, declares_bad_size, is_bad
 ghost use Rattle.p414_uses.specs.Shown.{shown_use};
 ghost use Rattle.p414_uses.specs.internal.Collected.{AreUses};
 
+use p414_ast::{Decl, Index, Inst, Literal};
 use p414_names::{Names14, size_in};
 use p414_uses::Use;
-use p414_ast::{Decl, Index, Inst, Literal};
 
 /// Whether a size of a stack is outside 1 to 256.
 fn is_bad_size(size: Literal) -> bool

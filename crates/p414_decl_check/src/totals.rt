@@ -6,9 +6,8 @@ ghost use Rattle.p414_rules.specs.Totals.{elements_of, fields_of_type, bits_of_t
 ghost use Rattle.p414_names.specs.internal.Types.{IsUpTo};
 
 use crate::currents::some_state_looks_too_far;
-use p414_names::Names14;
-use p414_names::MOST_HEADER_BITS;
 use p414_ast::{Decl, Literal};
+use p414_names::{MOST_HEADER_BITS, Names14};
 
 /// How many fields all instances have at most.
 const MOST_FIELDS: u128 = 65_536;

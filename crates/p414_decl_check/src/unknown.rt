@@ -7,10 +7,9 @@ ghost use Rattle.p414_uses.specs.Shown.{shown_use};
 ghost use Rattle.p414_uses.specs.internal.Collected.{AreUses};
 ghost use Rattle.p414_decl_check.specs.internal.Parts.{lacks_field};
 
-use p414_names::Names14;
-use p414_names::is_any_primitive;
-use p414_uses::Use;
 use p414_ast::{Decl, Inst, Sort};
+use p414_names::{Names14, is_any_primitive};
+use p414_uses::Use;
 
 /// Whether a parser state has the name.
 fn is_state(names: &Names14<'_>, name: &[u8]) -> bool

@@ -1,5 +1,5 @@
 -- How many items each field list of a program has when it is expanded.
-use Rattle.std.specs.Prelude.{◌≡◌, ℕ, min, List, length, slice_index, Option, Some}
+use Rattle.std.specs.Prelude.{◌≡◌, ℕ, min, List, length, slice_index, Some}
 use Rattle.p414_ast.specs.declared.calculations.Item.{Item}
 use Rattle.p414_ast.specs.declared.syntax.Decl.{Decl}
 use Rattle.p414_rules.specs.Expansion.{lists, items_at, Expands}

@@ -7,10 +7,9 @@ ghost use Rattle.p414_rules.specs.Expansion.{list_number, inner_by_name, inner_n
 ghost use Rattle.p414_list_check.specs.internal.Expanded.{capped_count, own_counts};
 ghost use Rattle.p414_list_check.specs.internal.Measures.{own_length_of, own_length, own_standard, own_of};
 
-use p414_names::Names14;
-use p414_names::is_standard;
 use p4x_bits::OutOfMemory;
 use p414_ast::{Decl, Inst, Item, Sort};
+use p414_names::{Names14, is_standard};
 use std::alloc::Global;
 
 /// What is counted stays at this number, which is over each limit.

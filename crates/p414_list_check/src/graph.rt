@@ -4,10 +4,10 @@ ghost use Rattle.p414_rules.specs.Expansion.{inner_number, inner_numbers, list_i
 ghost use Rattle.p414_list_check.specs.internal.Expanded.{list_row, list_graph, with_edges};
 
 use crate::expanded::inner_number;
-use p414_names::Names14;
 use digraph::Digraph;
 use p4x_bits::OutOfMemory;
 use p414_ast::{Decl, Item};
+use p414_names::Names14;
 use std::alloc::Global;
 
 /// Adds the edge to the list that an item stands for, if it stands for one.

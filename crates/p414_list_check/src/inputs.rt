@@ -7,9 +7,9 @@ ghost use Rattle.p414_list_check.specs.internal.Expanded.{entry_numbers, field_n
 
 use crate::calculated::calculation_of;
 use crate::expanded::{capped, list_number};
-use p414_names::Names14;
 use p4x_bits::{OutOfMemory, Text};
 use p414_ast::{Calc, Decl};
+use p414_names::Names14;
 use std::alloc::Global;
 
 /// Puts the numbers of the lists with these names last.

@@ -3,8 +3,8 @@
 
 mod calculated;
 mod expanded;
-mod inputs;
 mod graph;
+mod inputs;
 mod lists;
 
 pub use calculated::calculation_of;

@@ -13,11 +13,11 @@ ghost use Rattle.p414_list_check.specs.declared.expanded.Measure.TheVariants.{It
 
 use crate::calculated::has_flat_fault;
 use crate::expanded::{LIMIT, Measure, own_counts};
-use crate::inputs::{input_numbers, total};
 use crate::graph::list_graph;
-use p414_names::Names14;
+use crate::inputs::{input_numbers, total};
 use digraph::{Components, Digraph};
 use p4x_bits::OutOfMemory;
+use p414_names::Names14;
 use std::alloc::Global;
 
 /// How many items a list has at most when it is expanded.

@@ -33,4 +33,3 @@ module _ {K : Type 0} (shown : K → Name) where
   added_by old keys new value added was e f =
       subst (λ (o : List Name). MatchBool added ((has_name o (shown value) ≡ false) × (map shown new ≡ o ++ shown value ∷ [])) ((has_name o (shown value) ≡ true) × (map shown new ≡ o))) was
       (subst (λ b. MatchBool added ((b ≡ false) × (map shown new ≡ map shown keys ++ shown value ∷ [])) ((b ≡ true) × (map shown new ≡ map shown keys))) (sym (any_map (bytes_eq (shown value)) shown keys)) (cases (list_any (same value) keys) added keys new value e f))
-

@@ -1,12 +1,11 @@
 -- A parser state that is declared by a name has a number among the states.
-use Rattle.std.proofs.Common.{◌≡◌, ℕ, ◌<◌, Bool, true, false, not, ◌||◌, List, [], ◌∷◌, length, get_or, map, position, Option, Some, None, zero, suc, cond, ◌+◌, ltb, refl, sym, ap, ◌∙◌, subst, arith}
+use Rattle.std.proofs.Common.{◌≡◌, ℕ, ◌<◌, Bool, true, false, not, ◌||◌, List, [], ◌∷◌, length, get_or, map, position, Option, Some, None, zero, suc, cond, ◌+◌, refl, sym, ap, ◌∙◌, subst, arith}
 use Rattle.std.specs.Prelude.{slice_get, codes, option_and_then, unwrap_or}
 use Rattle.std.specs.List.{list_any, position_or_len}
 use Rattle.std.specs.Str.{bytes_eq}
 use Rattle.std.proofs.lemmas.Bool.{false≢true, lt-ltb}
 use Rattle.std.proofs.lemmas.List.{length-map}
 use Rattle.std.proofs.lemmas.List.Quantifiers.{position-Some}
-use Rattle.p414_ast.specs.declared.parsers.Parser.{Parser}
 use Rattle.p414_ast.specs.declared.syntax.Decl.{Decl}
 use Rattle.p414_ast.specs.declared.syntax.Decl.TheVariants as decl
 use Rattle.p414_ast.specs.declared.syntax.Sort.TheVariants as sort
@@ -85,6 +84,6 @@ begins ds g is has =
     let found = numbered_state ds (codes "start") (not_false (is_state (parse_of ds (codes "start"))) has) in
     let start : g.start ≡ found.0 = is.start_is ∙ ap (λ o. unwrap_or o 0) found.1 in
     record {
-        named = found.1 ∙ ap Some (sym start);
-        within = subst (λ n. n < length g.states) (sym start) (subst (λ l. found.0 < l) (sym (ap length is.states_are ∙ length-map (states ds) (node_of ds))) found.2)
+      named = found.1 ∙ ap Some (sym start);
+      within = subst (λ n. n < length g.states) (sym start) (subst (λ l. found.0 < l) (sym (ap length is.states_are ∙ length-map (states ds) (node_of ds))) found.2);
     }

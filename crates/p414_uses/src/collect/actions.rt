@@ -7,11 +7,10 @@ ghost use Rattle.p414_rules.specs.Names.{has_name};
 ghost use Rattle.p414_rules.specs.Uses.{uses_of_bare, uses_of_placed, uses_of_named, uses_of_arg, first_place, further_places, uses_of_args, uses_of_sources, uses_of_arguments, uses_of_call, uses_of_declared_action};
 ghost use Rattle.p414_uses.specs.internal.Parameters.{AreParameters};
 
-use p414_names::NameSet;
-use p414_names::{is_any_primitive, primitive_places};
 use crate::uses::{Use, add};
 use p4x_bits::{OutOfMemory, Text};
 use p414_ast::{Action, Arg, Call, Inst, Sort};
+use p414_names::{NameSet, is_any_primitive, primitive_places};
 use p414_rules::ArgumentPlace;
 use std::alloc::Global;
 
