@@ -1,0 +1,4 @@
+mod Placing
+mod Copying
+mod Writing
+mod Gathering

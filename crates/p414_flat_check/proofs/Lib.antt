@@ -1,0 +1,3 @@
+mod ActionNames
+mod FieldSets
+mod Walking

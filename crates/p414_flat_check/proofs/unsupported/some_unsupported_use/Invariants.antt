@@ -1,0 +1,8 @@
+use Rattle.std.proofs.Common.{◌≡◌, map, drop}
+use Rattle.std.specs.List.{list_any}
+use Rattle.p414_rules.specs.Unsupported.{is_unsupported_use}
+use Rattle.p414_uses.specs.Shown.{shown_use}
+use Rattle.p414_flat_check.proofs.unsupported.some_unsupported_use.Given as goal
+
+abbrev pub invariant-loop-item : goal.invariant-loop-item
+invariant-loop-item l = list_any is_unsupported_use (map shown_use (drop l.item-index l.uses)) ≡ list_any is_unsupported_use (map shown_use l.uses)
