@@ -66,7 +66,7 @@ sizes_by result g graph counts own e h known =
 
 -- what is known
 
-values_of : (ds : List Decl) → IsKnown ds → GivesValues ds
+pub values_of : (ds : List Decl) → IsKnown ds → GivesValues ds
 values_of ds known = gives_values ds known.once known.right
 
 not_true : (b : Bool) → (IsTrue b → ⊥) → b ≡ false

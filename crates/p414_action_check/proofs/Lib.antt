@@ -1,4 +1,4 @@
-mod Answering
+pub mod Answering
 mod Deciding
 pub mod Expanding
 pub mod Given

@@ -1,1 +1,4 @@
+mod Exactly
+mod Orders
+mod StateRules
 mod Telling

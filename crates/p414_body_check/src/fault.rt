@@ -1,9 +1,11 @@
 // Why a program isn't taken.
 ghost use Rattle.std.specs.Prelude.{◌≡◌};
+ghost use Rattle.p414_rules.specs.Breaks.{rule_fault};
 ghost use Rattle.p414_body_check.specs.declared.fault.Check14.TheVariants.{Memory, Refused};
 
 use p4x_bits::OutOfMemory;
 use p4x_fault::Fault;
+use p414_rules::ProgramRule;
 use thiserror::Error;
 
 /// Why a program isn't taken.
@@ -23,4 +25,11 @@ impl From<OutOfMemory> for Check14 {
     fn from(_: OutOfMemory) -> Check14 {
         Check14::Memory
     }
+}
+
+/// The refusal that tells of a rule.
+pub fn refusal(rule: ProgramRule) -> Check14
+    ensures { result ≡ Refused (rule_fault rule) }
+{
+    Check14::Refused(rule.fault())
 }

@@ -2,8 +2,11 @@
 //! them that it breaks.
 #![tactic(auto)]
 
+mod bodies;
+mod each;
 mod fault;
 mod judge;
+mod parsers;
 mod program;
 
 pub use fault::Check14;

@@ -1,0 +1,4 @@
+mod Answering
+pub mod Applying
+pub mod Loops
+pub mod Requesting

@@ -1,0 +1,9 @@
+mod InstanceFields
+mod Loops
+mod Marking
+mod NamedLists
+mod Once
+mod Own
+mod Paying
+mod Preserving
+mod Searching

@@ -1,0 +1,7 @@
+use Rattle.std.proofs.Common.{◌≡◌, drop}
+use Rattle.std.specs.List.{list_any}
+use Rattle.p414_preserved_check.specs.internal.Marks.{is_marked_name}
+use Rattle.p414_preserved_check.proofs.payload.some_marked.Given as goal
+
+abbrev pub invariant-loop-name : goal.invariant-loop-name
+invariant-loop-name l = list_any (is_marked_name l.names l.marks) (drop l.name-index l.input) ≡ list_any (is_marked_name l.names l.marks) l.input

@@ -1,0 +1,4 @@
+pub mod Marks
+pub mod Asking
+pub mod Early
+pub mod Named
