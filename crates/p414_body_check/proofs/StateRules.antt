@@ -19,7 +19,6 @@ none_idle ds g is none cycle = let found = is.idle.0 cycle in none found.0 found
 pub no_cycle : (ds : List Decl) (g : Graph) (found : Option ℕ) → IsGraphOf ds g → MatchOption found ((s : ℕ) → IsIdle g.states s → ⊥) (IsLeastIdle g.states) → found ≡ None → HasIdleCycle ds → ⊥
 no_cycle ds g found is h none = none_idle ds g is (subst (λ o. MatchOption o ((s : ℕ) → IsIdle g.states s → ⊥) (IsLeastIdle g.states)) none h)
 
-
 pub told_c9 : (ds : List Decl) (idle : Bool) (fault : Check14) → IsExact idle (HasIdleCycle ds) → idle ≡ true → fault ≡ Refused (rule_fault C9) → Keeps ds (C9 ∷ C10 ∷ []) (Err fault)
 unfolding IsBroken
 told_c9 ds idle fault exact e is = told_first ds C9 (C10 ∷ []) idle fault exact e is
