@@ -5,8 +5,6 @@ ghost use Rattle.p414_rules.specs.Exact.{IsExact};
 ghost use Rattle.p414_rules.specs.ParserGraph.{HasIdleCycle, HasNoOrder};
 ghost use Rattle.p414_rules.specs.Unknown.{lacks_start};
 ghost use Rattle.p414_rules.specs.declared.rule.ProgramRule.TheVariants.{C9, C10};
-ghost use Rattle.parse_graph.specs.Graphs.{IsWhole, IsIdle};
-ghost use Rattle.parse_graph.specs.Programs.{IsGraph, BeginsInStart};
 ghost use Rattle.p414_body_check.specs.internal.Steps.{Keeps};
 ghost use Rattle.p414_body_check.specs.internal.States.{IsGraphOf};
 

@@ -39,8 +39,13 @@ impl Program14 {
     }
 }
 
-/// The program of a syntax that breaks none of the rules C1 to C28. The errors are want of memory, and the least rule that is
-/// broken.
+/// The program of a syntax that breaks none of the rules C1 to C28 (P4_14 1.0.5, "Headers and Fields", "Checksums and
+/// Hash-value Generators", "Parser Specification", "Counters", "Meters", "Registers", "Actions", "Table Declarations",
+/// "Packet Processing and Control Flow"; what is left out of them, the limits and the numbers of the rules are this
+/// project's own).
+///
+/// A syntax that breaks some of them is refused with the least that it breaks, and without a place. The only other error is
+/// want of memory.
 pub fn check14(alloc: Global, syntax: Syntax14) -> Result<Program14, Check14>
     ensures { IsJudged syntax result }
 {

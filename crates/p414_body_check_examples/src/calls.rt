@@ -6,7 +6,7 @@ use std::test::Fail;
 const OBJECTS: &[u8] =
     b"counter c { type : packets; instance_count : 4; } register r { width : 8; instance_count : 4; } meter x { type : bytes; instance_count : 4; } field_list l { m.f; } field_list_calculation k { input { l; } algorithm : csum16; output_width : 16; } action g(p) { modify_field(h.a, p); } counter d { type : packets; direct : t; } header_type k_t { fields { c : 16; } } header k_t other;";
 
-const WRONG_COUNTS: [&[u8]; 23] = [
+const WRONG_COUNTS: [&[u8]; 38] = [
     b"modify_field(h.a);",
     b"modify_field(h.a, 1, 2, 3);",
     b"add(h.a, 1);",
@@ -30,6 +30,21 @@ const WRONG_COUNTS: [&[u8]; 23] = [
     b"register_write(r, 0);",
     b"execute_meter(x, 0);",
     b"modify_field_with_hash_based_offset(h.a, 0, k);",
+    b"subtract(h.a, 1);",
+    b"subtract_from_field(h.a);",
+    b"bit_and(h.a, 1);",
+    b"bit_or(h.a, 1, 2, 3);",
+    b"bit_xor(h.a);",
+    b"shift_left(h.a, 1);",
+    b"shift_right(h.a, 1, 2, 3);",
+    b"remove_header();",
+    b"recirculate(l, l);",
+    b"clone_ingress_pkt_to_egress();",
+    b"clone_e2e();",
+    b"clone_egress_pkt_to_egress(1, l, l);",
+    b"pop(s, 1, 1);",
+    b"no_op(other_name);",
+    b"modify_field(h.a, 1, 2, other_name);",
 ];
 
 const GOOD_COUNTS: [&[u8]; 11] = [
@@ -107,7 +122,26 @@ const GOOD_FORMS: [&[u8]; 9] = [
     b"bit_and(m.g, h.a, 0xffff);",
 ];
 
-const READ_ONLY: [&[u8]; 7] = [
+/// Names that nothing of the sort that is wanted there has.
+const UNKNOWN: [&[u8]; 12] = [
+    b"modify_field(h.a, other_name);",
+    b"modify_field(other_name, 1);",
+    b"shift_left(h.a, 1, l);",
+    b"add_header(l);",
+    b"copy_header(h, c);",
+    b"push(c);",
+    b"count(h, 0);",
+    b"register_read(h.a, m, 0);",
+    b"resubmit(m);",
+    b"modify_field_with_hash_based_offset(h.a, 0, l, 4);",
+    b"no_op(h.x);",
+    b"no_op(other_name[0]);",
+];
+
+const READ_ONLY: [&[u8]; 10] = [
+    b"add_to_field(standard_metadata.packet_length, 1);",
+    b"shift_left(standard_metadata.egress_port, 1, 1);",
+    b"modify_field_with_hash_based_offset(standard_metadata.instance_type, 0, k, 4);",
     b"modify_field(standard_metadata.ingress_port, 1);",
     b"modify_field(standard_metadata.egress_port, 1);",
     b"modify_field(standard_metadata.packet_length, 1);",
@@ -125,7 +159,7 @@ const BAD_STARTS: [&[u8]; 5] = [
     b"extract(h); set_metadata(s[0].a, 1);",
 ];
 
-const MISUSED: [&[u8]; 16] = [
+const MISUSED: [&[u8]; 20] = [
     b"action z(p) { modify_field(p, 1); }",
     b"action z(p) { execute_meter(x, 0, p); }",
     b"action z(p) { add_header(p); }",
@@ -142,6 +176,10 @@ const MISUSED: [&[u8]; 16] = [
     b"action z(p) { push(s, p); }",
     b"action z(p) { pop(s, p); }",
     b"action z(h) { add_header(h); }",
+    b"action z(s) { push(s); }",
+    b"action z(c) { count(c, 0); }",
+    b"action z(l) { resubmit(l); }",
+    b"action z(k) { modify_field_with_hash_based_offset(h.a, 0, k, 4); }",
 ];
 
 #[test]
@@ -154,6 +192,12 @@ fn a_call_has_a_wrong_number_of_arguments(rt: HostRuntime) -> Result<(), Fail> {
 fn an_argument_has_a_wrong_form(rt: HostRuntime) -> Result<(), Fail> {
     expect_each(&rt, Slot::Body, Some(13), OBJECTS, &WRONG_FORMS)?;
     expect_each(&rt, Slot::Body, None, OBJECTS, &GOOD_FORMS)
+}
+
+#[test]
+fn a_name_is_looked_for_in_the_sort_that_is_wanted(rt: HostRuntime) -> Result<(), Fail> {
+    expect_each(&rt, Slot::Body, Some(2), OBJECTS, &UNKNOWN)?;
+    expect_each(&rt, Slot::Body, Some(4), OBJECTS, &[b"no_op(s.a);"])
 }
 
 #[test]

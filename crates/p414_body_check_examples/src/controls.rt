@@ -1,6 +1,7 @@
 // C13 of expressions, C16, C17, C22, C26 and C28: controls and their conditions.
-use crate::setting::{Slot, expect_each, expect_in, number, repeat};
+use crate::setting::{Slot, add_numbered, expect_each, expect_in, expect_repeated, repeated};
 use std::alloc::Global;
+use std::process::Abort;
 use std::test::Fail;
 
 const MISTYPED: [&[u8]; 12] = [
@@ -91,48 +92,50 @@ fn a_control_calls_itself(rt: HostRuntime) -> Result<(), Fail> {
     )
 }
 
-/// Controls of which each but the first calls the one before twice: the last comes to 2 to the power of their number, twice.
-fn doubling(alloc: Global, first: &[u8], last: u32) -> Result<Vec<u8>, Fail> {
-    let mut text = Vec::from_slice(alloc, b"control c0 { ")?;
-    text.extend_from_slice(first)?;
-    text.extend_from_slice(b" } ")?;
-    for level in 1..last + 1 {
-        text.extend_from_slice(b"control c")?;
-        number(&mut text, level)?;
-        text.extend_from_slice(b" { c")?;
-        number(&mut text, level - 1)?;
-        text.extend_from_slice(b"(); c")?;
-        number(&mut text, level - 1)?;
-        text.extend_from_slice(b"(); } ")?;
+/// So many controls, each of which but the first calls the one before twice.
+fn doubling(alloc: Global, first: &[u8], count: u32) -> Result<Vec<u8>, Fail> {
+    let mut text = repeated(alloc, &[(b"control c0 { ", 1), (first, 1), (b" } ", 1)])?;
+    for number in 1..count {
+        add_numbered(&mut text, b"control c", number, b" { ")?;
+        add_numbered(&mut text, b"c", number - 1, b"(); ")?;
+        add_numbered(&mut text, b"c", number - 1, b"(); } ")?;
     }
     Ok(text)
 }
 
-#[test]
-fn pipelines_expand_to_at_most_65536_statements_and_operands(rt: HostRuntime) -> Result<(), Fail> {
-    let controls = doubling(rt.alloc(), b"if (true) { }", 15)?;
-    expect_in(&rt, Slot::Ingress, b"c15();", &controls, None)?;
-    expect_in(&rt, Slot::Ingress, b"c15(); apply(t);", &controls, Some(16))?;
-    let parentheses = doubling(rt.alloc(), b"if (((true))) { }", 15)?;
-    expect_in(&rt, Slot::Ingress, b"c15();", &parentheses, None)?;
-    let two_operands = doubling(rt.alloc(), b"if (true and true) { }", 15)?;
-    expect_in(&rt, Slot::Ingress, b"c15();", &two_operands, Some(16))
+/// The program with this text in `ingress`, and with so many controls that double the first, breaks this rule, and no lower
+/// one; or none.
+fn expect_doubling(
+    rt: &(impl Abort + AllocGlobal),
+    ingress: &[u8],
+    first: &[u8],
+    count: u32,
+    rule: Option<u8>,
+) -> Result<(), Fail> {
+    let controls = doubling(rt.alloc(), first, count)?;
+    expect_in(rt, Slot::Ingress, ingress, &controls, rule)
 }
 
 #[test]
+fn pipelines_expand_to_at_most_65536_statements_and_operands(rt: HostRuntime) -> Result<(), Fail> {
+    expect_doubling(&rt, b"c15();", b"if (true) { }", 16, None)?;
+    expect_doubling(&rt, b"c15(); apply(t);", b"if (true) { }", 16, Some(16))?;
+    expect_doubling(&rt, b"c15();", b"if (((true))) { }", 16, None)?;
+    expect_doubling(&rt, b"c15();", b"if (true and true) { }", 16, Some(16))
+}
+
+const TWICE: &[u8] = b"if (true) { } } control egress { c14(); ";
+
+#[test]
 fn both_pipelines_are_counted_together(rt: HostRuntime) -> Result<(), Fail> {
-    let mut controls = doubling(rt.alloc(), b"if (true) { }", 14)?;
-    controls.extend_from_slice(b"control egress { c14(); }")?;
-    expect_in(&rt, Slot::Ingress, b"c14();", &controls, None)?;
-    expect_in(&rt, Slot::Ingress, b"c14(); apply(t);", &controls, Some(16))
+    expect_doubling(&rt, b"c14();", TWICE, 15, None)?;
+    expect_doubling(&rt, b"c14(); apply(t);", TWICE, 15, Some(16))
 }
 
 #[test]
 fn what_no_pipeline_reaches_may_be_long(rt: HostRuntime) -> Result<(), Fail> {
-    let controls = doubling(rt.alloc(), b"if (true) { }", 16)?;
-    expect_in(&rt, Slot::Behind, &controls, b"", None)?;
-    let empty = doubling(rt.alloc(), b"", 100)?;
-    expect_in(&rt, Slot::Ingress, b"c100();", &empty, None)
+    expect_doubling(&rt, b"apply(t);", b"if (true) { }", 17, None)?;
+    expect_doubling(&rt, b"c100();", b"", 101, None)
 }
 
 #[test]
@@ -188,90 +191,247 @@ fn a_condition_has_no_minus_sign(rt: HostRuntime) -> Result<(), Fail> {
     expect_in(&rt, Slot::Body, b"add_to_field(h.a, -1);", b"", None)
 }
 
-/// A text between so many openings and as many ends.
-fn within(
-    alloc: Global,
-    opening: &[u8],
-    middle: &[u8],
-    end: &[u8],
-    times: u32,
-) -> Result<Vec<u8>, Fail> {
-    let mut text = Vec::new(alloc);
-    repeat(&mut text, opening, times)?;
-    text.extend_from_slice(middle)?;
-    repeat(&mut text, end, times)?;
-    Ok(text)
+#[test]
+fn blocks_nest_at_most_64_deep(rt: HostRuntime) -> Result<(), Fail> {
+    expect_repeated(
+        &rt,
+        Slot::Ingress,
+        &[(b"if (true) {", 63), (b"apply(t);", 1), (b"}", 63)],
+        b"",
+        None,
+    )?;
+    expect_repeated(
+        &rt,
+        Slot::Ingress,
+        &[(b"if (true) {", 64), (b"apply(t);", 1), (b"}", 64)],
+        b"",
+        Some(28),
+    )
 }
 
 #[test]
-fn blocks_nest_at_most_64_deep(rt: HostRuntime) -> Result<(), Fail> {
-    let most = within(rt.alloc(), b"if (true) {", b"apply(t);", b"}", 63)?;
-    expect_in(&rt, Slot::Ingress, &most, b"", None)?;
-    let more = within(rt.alloc(), b"if (true) {", b"apply(t);", b"}", 64)?;
-    expect_in(&rt, Slot::Ingress, &more, b"", Some(28))?;
-    let other = within(rt.alloc(), b"if (true) { } else {", b"", b"}", 63)?;
-    expect_in(&rt, Slot::Ingress, &other, b"", None)?;
-    let more_other = within(rt.alloc(), b"if (true) { } else {", b"", b"}", 64)?;
-    expect_in(&rt, Slot::Ingress, &more_other, b"", Some(28))
+fn blocks_behind_else_nest_too(rt: HostRuntime) -> Result<(), Fail> {
+    expect_repeated(
+        &rt,
+        Slot::Ingress,
+        &[(b"if (true) { } else {", 63), (b"}", 63)],
+        b"",
+        None,
+    )?;
+    expect_repeated(
+        &rt,
+        Slot::Ingress,
+        &[(b"if (true) { } else {", 64), (b"}", 64)],
+        b"",
+        Some(28),
+    )
 }
 
 #[test]
 fn branches_nest_by_their_own_blocks_alone(rt: HostRuntime) -> Result<(), Fail> {
-    let most = within(rt.alloc(), b"apply(t) { hit {", b"", b"} }", 63)?;
-    expect_in(&rt, Slot::Ingress, &most, b"", None)?;
-    let more = within(rt.alloc(), b"apply(t) { hit {", b"", b"} }", 64)?;
-    expect_in(&rt, Slot::Ingress, &more, b"", Some(28))
+    expect_repeated(
+        &rt,
+        Slot::Ingress,
+        &[(b"apply(t) { hit {", 63), (b"} }", 63)],
+        b"",
+        None,
+    )?;
+    expect_repeated(
+        &rt,
+        Slot::Ingress,
+        &[(b"apply(t) { hit {", 64), (b"} }", 64)],
+        b"",
+        Some(28),
+    )
+}
+
+/// A control whose blocks nest 33 deep.
+fn deep_control(alloc: Global) -> Result<Vec<u8>, Fail> {
+    repeated(
+        alloc,
+        &[
+            (b"table u { actions { act; } } control c { ", 1),
+            (b"if (true) {", 32),
+            (b"apply(u);", 1),
+            (b"}", 32),
+            (b" } ", 1),
+        ],
+    )
+}
+
+/// The program with these pieces in this place, each so many times, and with the control `c` behind it, breaks this rule, and
+/// no lower one; or none.
+fn expect_calling(
+    rt: &(impl Abort + AllocGlobal),
+    slot: Slot,
+    pieces: &[(&[u8], u32)],
+    rule: Option<u8>,
+) -> Result<(), Fail> {
+    let control = deep_control(rt.alloc())?;
+    expect_repeated(rt, slot, pieces, &control, rule)
 }
 
 #[test]
 fn calls_nest_what_they_call_and_add_no_block(rt: HostRuntime) -> Result<(), Fail> {
-    let mut called = Vec::from_slice(rt.alloc(), b"table u { actions { act; } } control c { ")?;
-    repeat(&mut called, b"if (true) {", 32)?;
-    called.extend_from_slice(b"apply(u);")?;
-    repeat(&mut called, b"}", 32)?;
-    called.extend_from_slice(b" }")?;
-    let most = within(rt.alloc(), b"if (true) {", b"c();", b"}", 31)?;
-    expect_in(&rt, Slot::Ingress, &most, &called, None)?;
-    let more = within(rt.alloc(), b"if (true) {", b"c();", b"}", 32)?;
-    expect_in(&rt, Slot::Ingress, &more, &called, Some(28))
+    expect_calling(
+        &rt,
+        Slot::Ingress,
+        &[(b"if (true) {", 31), (b"c();", 1), (b"}", 31)],
+        None,
+    )?;
+    expect_calling(
+        &rt,
+        Slot::Ingress,
+        &[(b"if (true) {", 32), (b"c();", 1), (b"}", 32)],
+        Some(28),
+    )
+}
+
+#[test]
+fn a_control_that_nothing_calls_nests_at_most_64_deep(rt: HostRuntime) -> Result<(), Fail> {
+    expect_calling(
+        &rt,
+        Slot::Behind,
+        &[
+            (b"control e { ", 1),
+            (b"if (true) {", 31),
+            (b"c();", 1),
+            (b"}", 31),
+            (b" } ", 1),
+        ],
+        None,
+    )?;
+    expect_calling(
+        &rt,
+        Slot::Behind,
+        &[
+            (b"control e { ", 1),
+            (b"if (true) {", 32),
+            (b"c();", 1),
+            (b"}", 32),
+            (b" } ", 1),
+        ],
+        Some(28),
+    )
 }
 
 #[test]
 fn else_if_does_not_nest(rt: HostRuntime) -> Result<(), Fail> {
-    let mut text = Vec::from_slice(rt.alloc(), b"if (true) { }")?;
-    repeat(&mut text, b" else if (true) { }", 100)?;
-    expect_in(&rt, Slot::Ingress, &text, b"", None)
+    expect_repeated(
+        &rt,
+        Slot::Ingress,
+        &[(b"if (true) { }", 1), (b" else if (true) { }", 100)],
+        b"",
+        None,
+    )
 }
 
 #[test]
 fn expressions_nest_at_most_64_deep(rt: HostRuntime) -> Result<(), Fail> {
-    let most = within(rt.alloc(), b"not ", b"true", b"", 63)?;
-    let mut text = Vec::from_slice(rt.alloc(), b"if (")?;
-    text.extend_from_slice(&most)?;
-    let mut more = Vec::from_slice(rt.alloc(), b"if (not ")?;
-    more.extend_from_slice(&most)?;
-    text.extend_from_slice(b") { }")?;
-    more.extend_from_slice(b") { }")?;
-    expect_in(&rt, Slot::Ingress, &text, b"", None)?;
-    expect_in(&rt, Slot::Ingress, &more, b"", Some(28))?;
-    let mut hundred = Vec::from_slice(rt.alloc(), b"if (")?;
-    repeat(&mut hundred, b"not ", 100)?;
-    hundred.extend_from_slice(b"true) { }")?;
-    expect_in(&rt, Slot::Ingress, &hundred, b"", Some(28))
+    expect_repeated(
+        &rt,
+        Slot::Ingress,
+        &[(b"if (", 1), (b"not ", 63), (b"true) { }", 1)],
+        b"",
+        None,
+    )?;
+    expect_repeated(
+        &rt,
+        Slot::Ingress,
+        &[(b"if (", 1), (b"not ", 64), (b"true) { }", 1)],
+        b"",
+        Some(28),
+    )?;
+    expect_repeated(
+        &rt,
+        Slot::Ingress,
+        &[(b"if (", 1), (b"not ", 100), (b"true) { }", 1)],
+        b"",
+        Some(28),
+    )
+}
+
+const LENGTH: &[u8] = b"header_type z_t { fields { a : 8; } max_length : ";
+
+#[test]
+fn a_length_nests_at_most_64_deep(rt: HostRuntime) -> Result<(), Fail> {
+    expect_repeated(
+        &rt,
+        Slot::Behind,
+        &[(LENGTH, 1), (b"~", 63), (b"1; }", 1)],
+        b"",
+        None,
+    )?;
+    expect_repeated(
+        &rt,
+        Slot::Behind,
+        &[(LENGTH, 1), (b"~", 64), (b"1; }", 1)],
+        b"",
+        Some(28),
+    )
 }
 
 #[test]
-fn each_operator_adds_one_and_parentheses_add_nothing(rt: HostRuntime) -> Result<(), Fail> {
-    let mut sum = Vec::from_slice(rt.alloc(), b"if (h.a")?;
-    repeat(&mut sum, b" + h.a", 62)?;
-    let mut more = Vec::from_slice(rt.alloc(), &sum)?;
-    sum.extend_from_slice(b" == 1) { }")?;
-    more.extend_from_slice(b" + h.a == 1) { }")?;
-    expect_in(&rt, Slot::Ingress, &sum, b"", None)?;
-    expect_in(&rt, Slot::Ingress, &more, b"", Some(28))?;
-    let inner = within(rt.alloc(), b"(", b"true", b")", 200)?;
-    let mut parentheses = Vec::from_slice(rt.alloc(), b"if (")?;
-    parentheses.extend_from_slice(&inner)?;
-    parentheses.extend_from_slice(b") { }")?;
-    expect_in(&rt, Slot::Ingress, &parentheses, b"", None)
+fn the_deeper_operand_counts(rt: HostRuntime) -> Result<(), Fail> {
+    expect_repeated(
+        &rt,
+        Slot::Ingress,
+        &[
+            (b"if (1 == ", 1),
+            (b"h.a + (", 62),
+            (b"h.b", 1),
+            (b")", 62),
+            (b") { }", 1),
+        ],
+        b"",
+        None,
+    )?;
+    expect_repeated(
+        &rt,
+        Slot::Ingress,
+        &[
+            (b"if (1 == ", 1),
+            (b"h.a + (", 63),
+            (b"h.b", 1),
+            (b")", 63),
+            (b") { }", 1),
+        ],
+        b"",
+        Some(28),
+    )
+}
+
+#[test]
+fn each_operator_of_a_chain_adds_one(rt: HostRuntime) -> Result<(), Fail> {
+    expect_repeated(
+        &rt,
+        Slot::Ingress,
+        &[(b"if (h.a", 1), (b" + h.a", 62), (b" == 1) { }", 1)],
+        b"",
+        None,
+    )?;
+    expect_repeated(
+        &rt,
+        Slot::Ingress,
+        &[(b"if (h.a", 1), (b" + h.a", 63), (b" == 1) { }", 1)],
+        b"",
+        Some(28),
+    )
+}
+
+#[test]
+fn parentheses_add_nothing(rt: HostRuntime) -> Result<(), Fail> {
+    expect_repeated(
+        &rt,
+        Slot::Ingress,
+        &[
+            (b"if (", 1),
+            (b"(", 200),
+            (b"true", 1),
+            (b")", 200),
+            (b") { }", 1),
+        ],
+        b"",
+        None,
+    )
 }

@@ -1,6 +1,7 @@
 // C13 after expansion, and C15: actions that call actions.
-use crate::setting::{Slot, expect_each, expect_in, number, repeat};
+use crate::setting::{Slot, add_numbered, expect_each, expect_in, expect_repeated, repeated};
 use std::alloc::Global;
+use std::process::Abort;
 use std::test::Fail;
 
 const OBJECTS: &[u8] = b"counter c { type : packets; instance_count : 4; } ";
@@ -29,7 +30,11 @@ const WRONG_WHEN_EXPANDED: [(&[u8], &[u8]); 11] = [
     ),
 ];
 
-const MISUSED_WHEN_EXPANDED: [(&[u8], &[u8]); 2] = [
+const MISUSED_WHEN_EXPANDED: [(&[u8], &[u8]); 3] = [
+    (
+        b"action g(p) { modify_field(p, 1); }",
+        b"g(standard_metadata.ingress_port);",
+    ),
     (b"action g(p) { modify_field(p, 1); }", b"g(h.a);"),
     (b"action g(p) { push(s, p); }", b"g(2);"),
 ];
@@ -50,25 +55,27 @@ const SELF_CALLS: [&[u8]; 3] = [
     b"action g(p) { shift_left(h.a, h.b, p); g(-1); }",
 ];
 
-/// The actions behind the program, and the body, break this rule, and no lower one; or none.
+/// The program with this body, and these actions behind it, breaks this rule, and no lower one; or none.
+fn expect_call(
+    rt: &(impl Abort + AllocGlobal),
+    actions: &[u8],
+    body: &[u8],
+    rule: Option<u8>,
+) -> Result<(), Fail> {
+    let behind = repeated(rt.alloc(), &[(OBJECTS, 1), (actions, 1)])?;
+    expect_in(rt, Slot::Body, body, &behind, rule)
+}
+
+/// The same of each of these actions and bodies.
 fn expect_calls(
-    rt: &(impl std::process::Abort + AllocGlobal),
+    rt: &(impl Abort + AllocGlobal),
     cases: &[(&[u8], &[u8])],
     rule: Option<u8>,
 ) -> Result<(), Fail> {
     for (actions, body) in cases {
-        let mut behind = Vec::from_slice(rt.alloc(), OBJECTS)?;
-        behind.extend_from_slice(actions)?;
-        expect_in(rt, Slot::Body, body, &behind, rule)?;
+        expect_call(rt, actions, body, rule)?;
     }
     Ok(())
-}
-
-/// So many calls of `no_op`.
-fn idle(alloc: Global, times: u32) -> Result<Vec<u8>, Fail> {
-    let mut body = Vec::new(alloc);
-    repeat(&mut body, b"no_op();", times)?;
-    Ok(body)
 }
 
 #[test]
@@ -85,83 +92,168 @@ fn an_action_calls_itself(rt: HostRuntime) -> Result<(), Fail> {
 
 #[test]
 fn an_action_expands_to_at_most_4096_primitives(rt: HostRuntime) -> Result<(), Fail> {
-    expect_in(&rt, Slot::Body, &idle(rt.alloc(), 4096)?, b"", None)?;
-    expect_in(&rt, Slot::Body, &idle(rt.alloc(), 4097)?, b"", Some(15))?;
-    let mut left_out = idle(rt.alloc(), 4096)?;
-    left_out.extend_from_slice(b"truncate(1);")?;
-    expect_in(&rt, Slot::Body, &left_out, b"", Some(15))
+    expect_repeated(&rt, Slot::Body, &[(b"no_op();", 4096)], b"", None)?;
+    expect_repeated(&rt, Slot::Body, &[(b"no_op();", 4097)], b"", Some(15))?;
+    expect_repeated(
+        &rt,
+        Slot::Body,
+        &[(b"no_op();", 4096), (b"truncate(1);", 1)],
+        b"",
+        Some(15),
+    )
 }
+
+/// An action of 64 primitives.
+const FEW: &[u8] =
+    b"action few() { no_op(); no_op(); no_op(); no_op(); no_op(); no_op(); no_op(); no_op(); no_op(); no_op(); no_op(); no_op(); no_op(); no_op(); no_op(); no_op(); no_op(); no_op(); no_op(); no_op(); no_op(); no_op(); no_op(); no_op(); no_op(); no_op(); no_op(); no_op(); no_op(); no_op(); no_op(); no_op(); no_op(); no_op(); no_op(); no_op(); no_op(); no_op(); no_op(); no_op(); no_op(); no_op(); no_op(); no_op(); no_op(); no_op(); no_op(); no_op(); no_op(); no_op(); no_op(); no_op(); no_op(); no_op(); no_op(); no_op(); no_op(); no_op(); no_op(); no_op(); no_op(); no_op(); no_op(); no_op(); } ";
 
 #[test]
 fn calls_of_an_action_count_what_it_expands_to(rt: HostRuntime) -> Result<(), Fail> {
-    let mut within = Vec::from_slice(rt.alloc(), b"action g() { ")?;
-    repeat(&mut within, b"no_op();", 64)?;
-    within.extend_from_slice(b"}")?;
-    let mut body = Vec::new(rt.alloc());
-    repeat(&mut body, b"g();", 64)?;
-    expect_in(&rt, Slot::Body, &body, &within, None)?;
-    body.extend_from_slice(b"no_op();")?;
-    expect_in(&rt, Slot::Body, &body, &within, Some(15))
+    expect_repeated(&rt, Slot::Body, &[(b"few();", 64)], FEW, None)?;
+    expect_repeated(
+        &rt,
+        Slot::Body,
+        &[(b"few();", 64), (b"no_op();", 1)],
+        FEW,
+        Some(15),
+    )
 }
+
+/// Calculations of a list of 4,096 items, of that list twice, and of a list without items.
+fn hashes(alloc: Global) -> Result<Vec<u8>, Fail> {
+    repeated(
+        alloc,
+        &[
+            (b"field_list l { ", 1),
+            (b"h.a;", 4096),
+            (b"} field_list e { } ", 1),
+            (
+                b"field_list_calculation c { input { l; } algorithm : csum16; output_width : 16; } ",
+                1,
+            ),
+            (
+                b"field_list_calculation d { input { l; l; } algorithm : csum16; output_width : 16; } ",
+                1,
+            ),
+            (
+                b"field_list_calculation o { input { e; } algorithm : csum16; output_width : 16; } ",
+                1,
+            ),
+        ],
+    )
+}
+
+/// These calls, each so many times, break this rule, and no lower one; or none.
+fn expect_hashes(
+    rt: &(impl Abort + AllocGlobal),
+    calls: &[(&[u8], u32)],
+    rule: Option<u8>,
+) -> Result<(), Fail> {
+    let lists = hashes(rt.alloc())?;
+    expect_repeated(rt, Slot::Body, calls, &lists, rule)
+}
+
+const HASH: &[u8] = b"modify_field_with_hash_based_offset(h.a, 0, c, 4);";
+
+const DOUBLE_HASH: &[u8] = b"modify_field_with_hash_based_offset(h.a, 0, d, 4);";
+
+const EMPTY_HASH: &[u8] = b"modify_field_with_hash_based_offset(h.a, 0, o, 4);";
 
 #[test]
 fn a_hash_counts_the_items_of_its_calculation(rt: HostRuntime) -> Result<(), Fail> {
-    let mut lists = Vec::from_slice(rt.alloc(), b"field_list l { ")?;
-    repeat(&mut lists, b"h.a;", 4096)?;
-    lists.extend_from_slice(
-        b"} field_list e { } field_list_calculation c { input { l; } algorithm : csum16; output_width : 16; } field_list_calculation d { input { l; l; } algorithm : csum16; output_width : 16; } field_list_calculation o { input { e; } algorithm : csum16; output_width : 16; }",
-    )?;
-    let one = b"modify_field_with_hash_based_offset(h.a, 0, c, 4);";
-    let more = b"modify_field_with_hash_based_offset(h.a, 0, c, 4); no_op();";
-    let twice = b"modify_field_with_hash_based_offset(h.a, 0, d, 4);";
-    expect_in(&rt, Slot::Body, one, &lists, None)?;
-    expect_in(&rt, Slot::Body, more, &lists, Some(15))?;
-    expect_in(&rt, Slot::Body, twice, &lists, Some(15))?;
-    let mut empty = Vec::new(rt.alloc());
-    repeat(
-        &mut empty,
-        b"modify_field_with_hash_based_offset(h.a, 0, o, 4);",
-        4096,
-    )?;
-    expect_in(&rt, Slot::Body, &empty, &lists, None)?;
-    empty.extend_from_slice(b"modify_field_with_hash_based_offset(h.a, 0, o, 4);")?;
-    expect_in(&rt, Slot::Body, &empty, &lists, Some(15))
+    expect_hashes(&rt, &[(HASH, 1)], None)?;
+    expect_hashes(&rt, &[(HASH, 1), (b"no_op();", 1)], Some(15))?;
+    expect_hashes(&rt, &[(DOUBLE_HASH, 1)], Some(15))
 }
 
-/// The action `g` of 4,096 primitives, and tables that list it so often each.
-fn listing(alloc: Global, tables: u32, actions: &[u8]) -> Result<Vec<u8>, Fail> {
-    let mut text = Vec::from_slice(alloc, b"action g() { ")?;
-    repeat(&mut text, b"no_op();", 4096)?;
-    text.extend_from_slice(b"} ")?;
-    for table in 0..tables {
-        text.extend_from_slice(b"table t")?;
-        number(&mut text, table)?;
-        text.extend_from_slice(actions)?;
+#[test]
+fn a_hash_counts_one_at_least(rt: HostRuntime) -> Result<(), Fail> {
+    expect_hashes(&rt, &[(EMPTY_HASH, 4096)], None)?;
+    expect_hashes(&rt, &[(EMPTY_HASH, 4097)], Some(15))
+}
+
+/// The action `g` of 4,096 primitives.
+const MANY: &[u8] =
+    b"action g() { few(); few(); few(); few(); few(); few(); few(); few(); few(); few(); few(); few(); few(); few(); few(); few(); few(); few(); few(); few(); few(); few(); few(); few(); few(); few(); few(); few(); few(); few(); few(); few(); few(); few(); few(); few(); few(); few(); few(); few(); few(); few(); few(); few(); few(); few(); few(); few(); few(); few(); few(); few(); few(); few(); few(); few(); few(); few(); few(); few(); few(); few(); few(); few(); } ";
+
+/// The program with this body and with so many tables that list `g` breaks this rule, and no lower one; or none.
+fn expect_tables(
+    rt: &(impl Abort + AllocGlobal),
+    body: &[(&[u8], u32)],
+    count: u32,
+    actions: &[u8],
+    rule: Option<u8>,
+) -> Result<(), Fail> {
+    let mut behind = repeated(rt.alloc(), &[(FEW, 1), (MANY, 1)])?;
+    add_tables(&mut behind, count, actions)?;
+    expect_repeated(rt, Slot::Body, body, &behind, rule)
+}
+
+/// Puts so many tables with these attributes behind a text.
+fn add_tables(text: &mut Vec<u8>, count: u32, attributes: &[u8]) -> Result<(), Fail> {
+    for number in 0..count {
+        add_numbered(text, b"table t", number, attributes)?;
+    }
+    Ok(())
+}
+
+const LISTS_ONCE: &[u8] = b" { actions { g; } } ";
+
+const LISTS_TWICE: &[u8] = b" { actions { g; g; } } ";
+
+#[test]
+fn what_all_tables_list_expands_to_at_most_65536_primitives(rt: HostRuntime) -> Result<(), Fail> {
+    expect_tables(&rt, &[(b"no_op();", 4096)], 15, LISTS_ONCE, None)?;
+    expect_tables(&rt, &[(b"no_op();", 1)], 16, LISTS_ONCE, Some(15))
+}
+
+#[test]
+fn a_table_that_lists_an_action_twice_counts_it_once(rt: HostRuntime) -> Result<(), Fail> {
+    expect_tables(&rt, &[(b"no_op();", 4096)], 15, LISTS_TWICE, None)
+}
+
+/// So many actions of 4,096 primitives that no table lists.
+fn unlisted(alloc: Global, count: u32) -> Result<Vec<u8>, Fail> {
+    let mut text = Vec::from_slice(alloc, FEW)?;
+    let body = repeated(alloc, &[(b"() { ", 1), (b"few();", 64), (b"} ", 1)])?;
+    add_actions(&mut text, count, &body)?;
+    Ok(text)
+}
+
+/// Puts so many actions with this body behind a text.
+fn add_actions(text: &mut Vec<u8>, count: u32, body: &[u8]) -> Result<(), Fail> {
+    for number in 0..count {
+        add_numbered(text, b"action g", number, body)?;
+    }
+    Ok(())
+}
+
+#[test]
+fn an_action_that_no_table_lists_counts_for_itself_alone(rt: HostRuntime) -> Result<(), Fail> {
+    let actions = unlisted(rt.alloc(), 17)?;
+    expect_in(&rt, Slot::Behind, &actions, b"", None)?;
+    expect_in(
+        &rt,
+        Slot::Behind,
+        &actions,
+        b"action z() { g0(); no_op(); }",
+        Some(15),
+    )
+}
+
+/// So many actions, each of which but the first calls the one before twice.
+fn doubling(alloc: Global, count: u32) -> Result<Vec<u8>, Fail> {
+    let mut text = Vec::from_slice(alloc, b"action g0() { } ")?;
+    for number in 1..count {
+        add_numbered(&mut text, b"action g", number, b"() { ")?;
+        add_numbered(&mut text, b"g", number - 1, b"(); ")?;
+        add_numbered(&mut text, b"g", number - 1, b"(); } ")?;
     }
     Ok(text)
 }
 
 #[test]
-fn what_all_tables_list_expands_to_at_most_65536_primitives(rt: HostRuntime) -> Result<(), Fail> {
-    let most = listing(rt.alloc(), 15, b" { actions { g; } } ")?;
-    expect_in(&rt, Slot::Body, &idle(rt.alloc(), 4096)?, &most, None)?;
-    let twice = listing(rt.alloc(), 15, b" { actions { g; g; } } ")?;
-    expect_in(&rt, Slot::Body, b"no_op();", &twice, None)?;
-    let more = listing(rt.alloc(), 16, b" { actions { g; } } ")?;
-    expect_in(&rt, Slot::Body, b"no_op();", &more, Some(15))
-}
-
-#[test]
-fn calls_of_actions_without_primitives_take_no_time(rt: HostRuntime) -> Result<(), Fail> {
-    let mut text = Vec::from_slice(rt.alloc(), b"action g0() { } ")?;
-    for level in 1u32..101 {
-        text.extend_from_slice(b"action g")?;
-        number(&mut text, level)?;
-        text.extend_from_slice(b"() { g")?;
-        number(&mut text, level - 1)?;
-        text.extend_from_slice(b"(); g")?;
-        number(&mut text, level - 1)?;
-        text.extend_from_slice(b"(); } ")?;
-    }
-    expect_in(&rt, Slot::Body, b"g100();", &text, None)
+fn actions_without_primitives_may_be_called_often(rt: HostRuntime) -> Result<(), Fail> {
+    let actions = doubling(rt.alloc(), 101)?;
+    expect_in(&rt, Slot::Body, b"g100();", &actions, None)
 }

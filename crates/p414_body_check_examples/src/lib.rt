@@ -11,6 +11,8 @@ mod expanded;
 #[cfg(test)]
 mod lists;
 #[cfg(test)]
+mod messages;
+#[cfg(test)]
 mod objects;
 #[cfg(test)]
 mod pairs;

@@ -1,5 +1,7 @@
 // C18 to C21: field lists that are preserved, `payload`, and the conditions of calculated fields.
-use crate::setting::{Slot, expect_each, expect_in, number};
+use crate::setting::{Slot, expect_behind, expect_each, expect_in, numbered};
+use std::alloc::Global;
+use std::process::Abort;
 use std::test::Fail;
 
 /// Lists behind a body that preserves the list `l`, which hold something else than metadata.
@@ -68,41 +70,43 @@ const OTHER_CONDITIONS: [&[u8]; 4] = [
 
 #[test]
 fn a_preserved_list_holds_metadata_alone(rt: HostRuntime) -> Result<(), Fail> {
-    for lists in BAD_PRESERVED {
-        expect_in(&rt, Slot::Body, b"resubmit(l);", lists, Some(18))?;
-    }
+    expect_behind(&rt, Slot::Body, b"resubmit(l);", Some(18), &BAD_PRESERVED)?;
     expect_each(&rt, Slot::Behind, Some(18), b"", &BAD_REQUESTS)?;
-    for lists in GOOD_PRESERVED {
-        expect_in(&rt, Slot::Body, b"resubmit(l);", lists, None)?;
-    }
+    expect_behind(&rt, Slot::Body, b"resubmit(l);", None, &GOOD_PRESERVED)?;
     expect_in(&rt, Slot::Behind, b"field_list l { h.a; }", b"", None)
+}
+
+/// Calls that preserve the lists `l0`, `l1` and so on, each twice.
+fn requests(alloc: Global, count: u32) -> Result<Vec<u8>, Fail> {
+    let mut body = numbered(alloc, b"resubmit(l", count, b"); ")?;
+    let again = numbered(alloc, b"clone_i2e(1, l", count, b"); ")?;
+    body.extend_from_slice(&again)?;
+    Ok(body)
+}
+
+/// The program that preserves so many lists breaks this rule, and no lower one; or none.
+fn expect_lists(rt: &(impl Abort + AllocGlobal), count: u32, rule: Option<u8>) -> Result<(), Fail> {
+    let lists = numbered(rt.alloc(), b"field_list l", count, b" { m.f; } ")?;
+    let body = requests(rt.alloc(), count)?;
+    expect_in(rt, Slot::Body, &body, &lists, rule)
 }
 
 #[test]
 fn at_most_255_lists_are_preserved(rt: HostRuntime) -> Result<(), Fail> {
-    let mut lists = Vec::new(rt.alloc());
-    let mut body = Vec::new(rt.alloc());
-    for list in 0u32..255 {
-        lists.extend_from_slice(b"field_list l")?;
-        number(&mut lists, list)?;
-        lists.extend_from_slice(b" { m.f; } ")?;
-        body.extend_from_slice(b"resubmit(l")?;
-        number(&mut body, list)?;
-        body.extend_from_slice(b"); resubmit(l")?;
-        number(&mut body, list)?;
-        body.extend_from_slice(b"); ")?;
-    }
-    expect_in(&rt, Slot::Body, &body, &lists, None)?;
-    lists.extend_from_slice(b"field_list z { m.f; }")?;
-    body.extend_from_slice(b"resubmit(z);")?;
-    expect_in(&rt, Slot::Body, &body, &lists, Some(18))
+    expect_lists(&rt, 255, None)?;
+    expect_lists(&rt, 256, Some(18))
 }
 
 #[test]
 fn a_preserved_field_has_no_initial_value(rt: HostRuntime) -> Result<(), Fail> {
-    for lists in INITIALIZED {
-        expect_in(&rt, Slot::Body, b"resubmit(l);", lists, Some(19))?;
-    }
+    expect_behind(&rt, Slot::Body, b"resubmit(l);", Some(19), &INITIALIZED)?;
+    expect_in(
+        &rt,
+        Slot::Behind,
+        b"metadata m_t n { f : 1; } field_list l { n.f; } action g() { clone_i2e(1, l); }",
+        b"",
+        Some(19),
+    )?;
     expect_in(
         &rt,
         Slot::Body,
@@ -131,11 +135,12 @@ fn a_hash_is_over_no_payload(rt: HostRuntime) -> Result<(), Fail> {
 
 #[test]
 fn a_condition_reads_no_calculated_field(rt: HostRuntime) -> Result<(), Fail> {
-    for fields in CALCULATED_CONDITIONS {
-        expect_in(&rt, Slot::Behind, CALCULATION, fields, Some(21))?;
-    }
-    for fields in OTHER_CONDITIONS {
-        expect_in(&rt, Slot::Behind, CALCULATION, fields, None)?;
-    }
-    Ok(())
+    expect_behind(
+        &rt,
+        Slot::Behind,
+        CALCULATION,
+        Some(21),
+        &CALCULATED_CONDITIONS,
+    )?;
+    expect_behind(&rt, Slot::Behind, CALCULATION, None, &OTHER_CONDITIONS)
 }

@@ -1,9 +1,10 @@
 // Programs that break two rules: the least is told.
-use crate::setting::{Slot, expect_in, expect_rule};
+use crate::setting::{Slot, expect_in, expect_repeated, expect_rule, repeated};
+use std::process::Abort;
 use std::test::Fail;
 
 /// The least rule, and declarations that break it and a higher one.
-const TWO_BROKEN: [(u8, &[u8]); 18] = [
+const TWO_BROKEN: [(u8, &[u8]); 22] = [
     (
         1,
         b"header h_t h; table u { reads { m : valid; } actions { act; } }",
@@ -49,6 +50,22 @@ const TWO_BROKEN: [(u8, &[u8]); 18] = [
         b"field_list k { payload; h.a; } counter c { type : packets; }",
     ),
     (
+        20,
+        b"field_list k { payload; s[1].b; } field_list_calculation c { input { k; } algorithm : csum16; output_width : 8; } calculated_field h.a { verify c if (h.a == 1); }",
+    ),
+    (
+        21,
+        b"field_list k { s[1].b; } field_list_calculation c { input { k; } algorithm : csum16; output_width : 8; } calculated_field h.a { verify c if (h.a == 1); } action rc() { recirculate(); } table u { actions { rc; } }",
+    ),
+    (
+        24,
+        b"action rc() { recirculate(); } table u { actions { act; } default_action : rc(); }",
+    ),
+    (
+        13,
+        b"action g(p) { shift_left(h.a, h.b, p); } action z() { g(-1); } control c { c(); }",
+    ),
+    (
         22,
         b"action rc() { recirculate(); } table u { actions { rc; } } counter c { type : packets; }",
     ),
@@ -90,14 +107,44 @@ fn a_minus_sign_is_told_before_a_parameter_as_a_target(rt: HostRuntime) -> Resul
 }
 
 #[test]
-fn an_idle_cycle_is_told_before_headers_without_an_order(rt: HostRuntime) -> Result<(), Fail> {
+fn a_parameter_as_a_target_is_told_before_a_deep_condition(rt: HostRuntime) -> Result<(), Fail> {
+    expect_repeated(
+        &rt,
+        Slot::Ingress,
+        &[(b"if (", 1), (b"not ", 64), (b"true) { }", 1)],
+        b"action z(p) { modify_field(p, 1); }",
+        Some(27),
+    )
+}
+
+/// These texts, one behind the other, break this rule, and no lower one.
+fn expect_texts(
+    rt: &(impl Abort + AllocGlobal),
+    first: &[u8],
+    second: &[u8],
+    rule: u8,
+) -> Result<(), Fail> {
+    let text = repeated(rt.alloc(), &[(first, 1), (second, 1)])?;
+    expect_rule(rt, &text, Some(rule))
+}
+
+#[test]
+fn a_state_that_returns_itself_is_an_idle_cycle(rt: HostRuntime) -> Result<(), Fail> {
     expect_rule(
         &rt,
         b"parser start { return start; } control ingress { }",
         Some(9),
-    )?;
+    )
+}
+
+#[test]
+fn headers_without_an_order_are_told_behind_an_idle_cycle(rt: HostRuntime) -> Result<(), Fail> {
     expect_rule(&rt, BOTH_WAYS, Some(10))?;
-    let mut both = Vec::from_slice(rt.alloc(), BOTH_WAYS)?;
-    both.extend_from_slice(b"parser idle { return idle; }")?;
-    expect_rule(&rt, &both, Some(9))
+    expect_texts(&rt, BOTH_WAYS, b"parser idle { return idle; }", 9)?;
+    expect_texts(
+        &rt,
+        BOTH_WAYS,
+        b"table u { reads { a.a : other; } actions { z; } } action z() { }",
+        10,
+    )
 }

@@ -2,6 +2,7 @@
 use p4x_fault::{Fault, Rule};
 use p414_body_check::{Check14, check14};
 use p414_reader::read14;
+use std::alloc::Global;
 use std::process::Abort;
 use std::test::Fail;
 
@@ -69,6 +70,35 @@ pub fn expect_rule(
     Ok(())
 }
 
+/// These texts, one behind the other.
+fn joined(alloc: Global, texts: &[&[u8]]) -> Result<Vec<u8>, Fail> {
+    let mut found = Vec::new(alloc);
+    for text in texts {
+        found.extend_from_slice(text)?;
+    }
+    Ok(found)
+}
+
+/// The program with this text in this place, and these declarations behind it.
+fn program(alloc: Global, slot: Slot, text: &[u8], behind: &[u8]) -> Result<Vec<u8>, Fail> {
+    joined(
+        alloc,
+        &[
+            HEAD,
+            chosen(0, slot, text, b"extract(h);"),
+            ACTION,
+            chosen(1, slot, text, b"no_op();"),
+            TABLE,
+            chosen(2, slot, text, b""),
+            CONTROL,
+            chosen(3, slot, text, b"apply(t);"),
+            TAIL,
+            chosen(4, slot, text, b""),
+            behind,
+        ],
+    )
+}
+
 /// The program with this text in this place, and these declarations behind it, breaks this rule, and no lower one; or none.
 pub fn expect_in(
     rt: &(impl Abort + AllocGlobal),
@@ -77,19 +107,8 @@ pub fn expect_in(
     behind: &[u8],
     rule: Option<u8>,
 ) -> Result<(), Fail> {
-    let mut program = Vec::new(rt.alloc());
-    program.extend_from_slice(HEAD)?;
-    program.extend_from_slice(chosen(0, slot, text, b"extract(h);"))?;
-    program.extend_from_slice(ACTION)?;
-    program.extend_from_slice(chosen(1, slot, text, b"no_op();"))?;
-    program.extend_from_slice(TABLE)?;
-    program.extend_from_slice(chosen(2, slot, text, b""))?;
-    program.extend_from_slice(CONTROL)?;
-    program.extend_from_slice(chosen(3, slot, text, b"apply(t);"))?;
-    program.extend_from_slice(TAIL)?;
-    program.extend_from_slice(chosen(4, slot, text, b""))?;
-    program.extend_from_slice(behind)?;
-    expect_rule(rt, &program, rule)
+    let text = program(rt.alloc(), slot, text, behind)?;
+    expect_rule(rt, &text, rule)
 }
 
 /// The same of each of these texts.
@@ -106,16 +125,67 @@ pub fn expect_each(
     Ok(())
 }
 
+/// The same of this text with each of these declarations behind the program.
+pub fn expect_behind(
+    rt: &(impl Abort + AllocGlobal),
+    slot: Slot,
+    text: &[u8],
+    rule: Option<u8>,
+    cases: &[&[u8]],
+) -> Result<(), Fail> {
+    for case in cases {
+        expect_in(rt, slot, text, case, rule)?;
+    }
+    Ok(())
+}
+
 /// Puts a piece so many times behind a text.
-pub fn repeat(text: &mut Vec<u8>, piece: &[u8], times: u32) -> Result<(), Fail> {
+fn repeat(text: &mut Vec<u8>, piece: &[u8], times: u32) -> Result<(), Fail> {
     for _ in 0..times {
         text.extend_from_slice(piece)?;
     }
     Ok(())
 }
 
-/// Puts a decimal number behind a text.
-pub fn number(text: &mut Vec<u8>, value: u32) -> Result<(), Fail> {
-    text.extend_from_slice(itoa::Buffer::new().format(value).as_bytes())?;
+/// These pieces, each so many times, one behind the other.
+pub fn repeated(alloc: Global, pieces: &[(&[u8], u32)]) -> Result<Vec<u8>, Fail> {
+    let mut text = Vec::new(alloc);
+    for (piece, times) in pieces {
+        repeat(&mut text, piece, *times)?;
+    }
+    Ok(text)
+}
+
+/// The program with these pieces, each so many times, in this place breaks this rule, and no lower one; or none.
+pub fn expect_repeated(
+    rt: &(impl Abort + AllocGlobal),
+    slot: Slot,
+    pieces: &[(&[u8], u32)],
+    behind: &[u8],
+    rule: Option<u8>,
+) -> Result<(), Fail> {
+    let text = repeated(rt.alloc(), pieces)?;
+    expect_in(rt, slot, &text, behind, rule)
+}
+
+/// Puts a text, a number and a further text behind a text.
+pub fn add_numbered(
+    text: &mut Vec<u8>,
+    before: &[u8],
+    number: u32,
+    after: &[u8],
+) -> Result<(), Fail> {
+    text.extend_from_slice(before)?;
+    text.extend_from_slice(itoa::Buffer::new().format(number).as_bytes())?;
+    text.extend_from_slice(after)?;
     Ok(())
+}
+
+/// A text, a number and a further text, for each of the numbers from 0 below this one.
+pub fn numbered(alloc: Global, before: &[u8], count: u32, after: &[u8]) -> Result<Vec<u8>, Fail> {
+    let mut text = Vec::new(alloc);
+    for number in 0..count {
+        add_numbered(&mut text, before, number, after)?;
+    }
+    Ok(text)
 }

@@ -1,5 +1,5 @@
 // C11, C12 and C24: keys and default actions of tables.
-use crate::setting::{Slot, expect_each, expect_in, repeat};
+use crate::setting::{Slot, expect_each, expect_in, expect_repeated};
 use std::test::Fail;
 
 const BAD_KEYS: [&[u8]; 10] = [
@@ -59,18 +59,49 @@ fn a_stack_without_an_index_is_judged_before_its_kind(rt: HostRuntime) -> Result
 
 #[test]
 fn a_table_has_at_most_64_keys(rt: HostRuntime) -> Result<(), Fail> {
-    let mut keys = Vec::from_slice(rt.alloc(), b"reads { ")?;
-    repeat(&mut keys, b"h.a : exact; ", 64)?;
-    let mut more = Vec::from_slice(rt.alloc(), &keys)?;
-    keys.extend_from_slice(b"}")?;
-    more.extend_from_slice(b"h.a : exact; }")?;
-    expect_in(&rt, Slot::Reads, &keys, b"", None)?;
-    expect_in(&rt, Slot::Reads, &more, b"", Some(11))
+    expect_repeated(
+        &rt,
+        Slot::Reads,
+        &[(b"reads { ", 1), (b"h.a : exact; ", 64), (b"}", 1)],
+        b"",
+        None,
+    )?;
+    expect_repeated(
+        &rt,
+        Slot::Reads,
+        &[(b"reads { ", 1), (b"h.a : exact; ", 65), (b"}", 1)],
+        b"",
+        Some(11),
+    )
 }
 
 #[test]
 fn a_table_has_one_lpm_key_at_most(rt: HostRuntime) -> Result<(), Fail> {
     expect_each(&rt, Slot::Reads, Some(12), b"", &TWO_PREFIXES)
+}
+
+#[test]
+fn a_default_or_a_label_is_the_name_of_an_action(rt: HostRuntime) -> Result<(), Fail> {
+    expect_each(
+        &rt,
+        Slot::Behind,
+        Some(2),
+        b"",
+        &[
+            b"table u { actions { act; } default_action : other_name(); }",
+            b"control c { apply(t) { other_name { } } }",
+        ],
+    )?;
+    expect_each(
+        &rt,
+        Slot::Behind,
+        None,
+        b"",
+        &[
+            b"control c { apply(t) { no_op { } } }",
+            b"action g() { } control c { apply(t) { g { } act { } default { } } }",
+        ],
+    )
 }
 
 #[test]

@@ -2,7 +2,11 @@
 use crate::setting::{Slot, expect_each, expect_in};
 use std::test::Fail;
 
-const LEFT_OUT: [&[u8]; 30] = [
+const LEFT_OUT: [&[u8]; 34] = [
+    b"parser other { return select(s[last].a) { 1 : ingress; default : ingress; } }",
+    b"parser other { return select(standard_metadata.clone_spec) { 1 : ingress; default : ingress; } }",
+    b"field_list l { standard_metadata.egress_instance; }",
+    b"action z() { truncate(other_name); }",
     b"parser_value_set v;",
     b"parser_exception e { }",
     b"action_profile p { }",
@@ -56,12 +60,15 @@ const LEFT_OUT_IN_KEYS: [&[u8]; 2] = [
     b"reads { standard_metadata.clone_spec : exact; }",
 ];
 
-const LEFT_OUT_IN_STATES: [&[u8]; 2] = [
+const LEFT_OUT_IN_STATES: [&[u8]; 3] = [
+    b"extract(h); set_metadata(m.f, standard_metadata.parser_status);",
     b"extract(s[last]);",
     b"extract(s[next]); set_metadata(m.f, s[last].a);",
 ];
 
-const TAKEN: [&[u8]; 9] = [
+const TAKEN: [&[u8]; 11] = [
+    b"register r { width : 8; instance_count : 1; result : h.a; type : bytes; }",
+    b"meter x { type : bytes; instance_count : 1; result : h.x; }",
     b"field_list l { h.a; } field_list_calculation c { input { l; } algorithm : csum16; output_width : 16; }",
     b"field_list l { h.a; } field_list_calculation c { input { l; } algorithm : crc16; output_width : 16; }",
     b"field_list l { h.a; } field_list_calculation c { input { l; } algorithm : crc32; output_width : 16; }",
@@ -94,7 +101,9 @@ fn something_left_out_is_used(rt: HostRuntime) -> Result<(), Fail> {
 #[test]
 fn names_within_primitives_that_are_left_out_are_judged_first(rt: HostRuntime) -> Result<(), Fail> {
     expect_in(&rt, Slot::Body, b"truncate(h.x);", b"", Some(2))?;
-    expect_in(&rt, Slot::Body, b"truncate(s.a);", b"", Some(4))
+    expect_in(&rt, Slot::Body, b"truncate(other_name[0]);", b"", Some(2))?;
+    expect_in(&rt, Slot::Body, b"truncate(s.a);", b"", Some(4))?;
+    expect_in(&rt, Slot::Body, b"truncate(s[5]);", b"", Some(4))
 }
 
 #[test]

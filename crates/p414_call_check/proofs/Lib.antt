@@ -1,4 +1,3 @@
 mod Placing
 mod Copying
 mod Writing
-mod Gathering

@@ -25,8 +25,8 @@ fn is_element_count(number: Number) -> bool
     number.sign.is_none() && !(number.literal.value < 1 || MOST_ELEMENTS < number.literal.value)
 }
 
-/// Whether a place takes a number.
-fn takes_number(place: ArgumentPlace, number: Number) -> bool
+/// Whether a place takes a number (P4_14 1.0.5, "Primitive Actions").
+pub fn takes_number(place: ArgumentPlace, number: Number) -> bool
     ensures { result ≡ takes_number place number }
 {
     match place {
@@ -37,8 +37,8 @@ fn takes_number(place: ArgumentPlace, number: Number) -> bool
     }
 }
 
-/// Whether a place takes a field.
-fn takes_field(place: ArgumentPlace) -> bool
+/// Whether a place takes a field (P4_14 1.0.5, "Primitive Actions").
+pub fn takes_field(place: ArgumentPlace) -> bool
     ensures { result ≡ takes_field place }
 {
     matches!(

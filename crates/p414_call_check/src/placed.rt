@@ -65,20 +65,6 @@ fn add_call<'a>(
     }
 }
 
-/// The arguments of a call, each with its place. The one error is want of memory.
-pub fn placed_in<'a>(
-    alloc: Global,
-    names: &Names14<'_>,
-    callee: &[u8],
-    arguments: &[Argument<'a>],
-) -> Result<Vec<PlacedArgument<'a>>, OutOfMemory>
-    ensures { IfOk result (λ found. map shown_placed found.items ≡ placed_in names.now (call_of callee.now (map shown_argument arguments.now))) }
-{
-    let mut found = Vec::new(alloc);
-    add_call(&mut found, names, callee, arguments)?;
-    Ok(found)
-}
-
 /// Puts the arguments of these calls last.
 fn add_calls<'a>(
     found: &mut Vec<PlacedArgument<'a>>,

@@ -3,7 +3,7 @@ use crate::setting::{expect_each, expect_kept, expect_lists};
 use std::test::Fail;
 
 /// Lists that hold themselves, numbers without a width, and calculated fields that are bad by themselves.
-const BAD_LISTS: [&[u8]; 12] = [
+const BAD_LISTS: [&[u8]; 13] = [
     b"field_list z { 1; }",
     b"field_list z { z; }",
     b"field_list z { y; } field_list y { x; } field_list x { h.a; y; }",
@@ -16,15 +16,17 @@ const BAD_LISTS: [&[u8]; 12] = [
     b"calculated_field h.a { update d; } field_list_calculation d { input { l; z; } algorithm : csum16; output_width : 8; } field_list z { standard_metadata.packet_length; }",
     b"calculated_field h.a { update d; } field_list_calculation d { input { y; } algorithm : csum16; output_width : 8; } field_list y { z; } field_list z { standard_metadata; }",
     b"calculated_field h.a { update c; update c; update c; update c; update c; update c; update c; update c; update c; update c; update c; update c; update c; update c; update c; update c; update c; }",
+    b"calculated_field h.a { verify c; verify c; verify c; verify c; verify c; verify c; verify c; verify c; verify c; verify c; verify c; verify c; verify c; verify c; verify c; verify c; verify c; }",
 ];
 
 /// Lists and calculated fields that break nothing.
-const GOOD_LISTS: [&[u8]; 5] = [
+const GOOD_LISTS: [&[u8]; 6] = [
     b"field_list z { 8'1; l; l; payload; h; }",
     b"field_list z { standard_metadata; standard_metadata.packet_length; }",
     b"calculated_field h.a { update c; verify c if (h.b == 1); update c if (valid(m)); }",
     b"field_list h { h.a; h; }",
     b"calculated_field h.a { update c; update c; update c; update c; update c; update c; update c; update c; update c; update c; update c; update c; update c; update c; update c; update c; verify c; }",
+    b"calculated_field h.a { verify c; verify c; verify c; verify c; verify c; verify c; verify c; verify c; verify c; verify c; verify c; verify c; verify c; verify c; verify c; verify c; update c; }",
 ];
 
 /// A list of 4,096 items by lists in lists, and a calculation of it.

@@ -2,7 +2,7 @@
 use Rattle.std.specs.Prelude.{◌≡◌, List, [], ◌∷◌, ◌++◌, Result, Ok, Err}
 use Rattle.p414_ast.specs.declared.syntax.Decl.{Decl}
 use Rattle.p414_rules.specs.declared.rule.ProgramRule.{ProgramRule}
-use Rattle.p414_rules.specs.declared.rule.ProgramRule.TheVariants.{C9, C10, C11, C12, C13, C14, C15, C16, C17, C18, C19, C20, C21, C22, C23, C24, C25, C26, C27, C28}
+use Rattle.p414_rules.specs.declared.rule.ProgramRule.TheVariants.{C11, C12, C13, C14, C15, C16, C17, C18, C19, C20, C21, C22, C23, C24, C25, C26, C27, C28}
 use Rattle.p414_rules.specs.Breaks.{IsFirstBroken, BreaksNone, rule_fault}
 use Rattle.p414_body_check.specs.declared.fault.Check14.{Check14}
 use Rattle.p414_body_check.specs.declared.fault.Check14.TheVariants.{Memory, Refused}
@@ -14,9 +14,6 @@ Keeps ds rules (Err Memory) = Unit {0}
 Keeps ds rules (Err (Refused fault)) = (rule : ProgramRule) × IsFirstBroken ds rules rule × (fault ≡ rule_fault rule)
 
 -- the rules that are asked together
-abbrev pub parser_rules : List ProgramRule
-parser_rules = C9 ∷ C10 ∷ []
-
 abbrev pub rules_from_c11 : List ProgramRule
 rules_from_c11 = C11 ∷ C12 ∷ C13 ∷ []
 
