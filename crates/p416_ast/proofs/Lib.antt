@@ -1,3 +1,4 @@
 pub mod Grow
 pub mod Keep
 pub mod Names
+pub mod NodeTrees

@@ -3,3 +3,5 @@ pub mod Blocks
 pub mod Code
 pub mod Views
 pub mod Words
+pub mod Grammar
+pub mod internal

@@ -1,9 +1,11 @@
 //! The syntax of P4_16: declarations as structs and enums, statements and expressions as nodes in lists. Contracts see the trees.
+//! `grammar` has the whole syntax. What stands beside it is a first cut, of the programs that the command writes.
 #![tactic(auto)]
 
 mod action;
 mod control;
 mod decl;
+pub mod grammar;
 mod node;
 mod nodes;
 mod parser;
