@@ -23,7 +23,7 @@ pub use parsers::{
 };
 pub use parts::{
     BitField, CloneType, CounterType, Direction, HashAlgorithm, Header16, Member, MeterType, Note,
-    Param, Struct16, StructField, Type16,
+    Param, Struct16, StructField, Type16, name_note,
 };
 pub use program::{Decl16, Syntax16};
 pub use views::{ExpHead, ExpView, StmtHead, StmtView};

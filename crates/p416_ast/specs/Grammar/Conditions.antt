@@ -173,8 +173,8 @@ is_call _ = false
 
 -- the statement ends in an `if` without `else`, so that an `else` behind it would belong to that
 abbrev pub ends_in_if : Stmt16 → Bool
-ends_in_if (if_then c yes) = true
-ends_in_if (if_else c yes other) = ends_in_if other
+ends_in_if (if_then c holds) = true
+ends_in_if (if_else c holds other) = ends_in_if other
 ends_in_if _ = false
 
 -- where a tree of statements stands: as a list of statements, as a statement or as a list of cases
@@ -196,9 +196,9 @@ is_stmt m statement (var of text) = is_type of && is_id text
 is_stmt m statement (var_is of text value) = is_type of && (is_id text && is_exp m value)
 is_stmt m statement (assign target value) = is_exp m target && is_exp m value
 is_stmt m statement (expression e) = is_exp m e && is_call e
-is_stmt m statement (if_then c yes) = is_exp m c && is_stmt m statement yes
-is_stmt m statement (if_else c yes other) =
-    is_exp m c && ((is_stmt m statement yes && not (ends_in_if yes)) && is_stmt m statement other)
+is_stmt m statement (if_then c holds) = is_exp m c && is_stmt m statement holds
+is_stmt m statement (if_else c holds other) =
+    is_exp m c && ((is_stmt m statement holds && not (ends_in_if holds)) && is_stmt m statement other)
 is_stmt m statement (switch table cs) = is_id table && is_stmt m cases cs
 is_stmt m cases no_cases = true
 is_stmt m cases (case_of before of ss) = is_stmt m cases before && (is_label of && is_stmt m statements ss)

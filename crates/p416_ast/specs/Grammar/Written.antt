@@ -175,9 +175,9 @@ written_stmt (var of text) = written_var_of of text None
 written_stmt (var_is of text value) = written_var_of of text (Some value)
 written_stmt (assign target value) = written_exp target ++ equals ∷ (written_exp value ++ semicolon ∷ [])
 written_stmt (expression e) = written_exp e ++ semicolon ∷ []
-written_stmt (if_then c yes) = keyword key.If ∷ (in_parens (written_exp c) ++ written_stmt yes)
-written_stmt (if_else c yes other) =
-    keyword key.If ∷ (in_parens (written_exp c) ++ (written_stmt yes ++ keyword key.Else ∷ written_stmt other))
+written_stmt (if_then c holds) = keyword key.If ∷ (in_parens (written_exp c) ++ written_stmt holds)
+written_stmt (if_else c holds other) =
+    keyword key.If ∷ (in_parens (written_exp c) ++ (written_stmt holds ++ keyword key.Else ∷ written_stmt other))
 written_stmt (switch table cases) =
     keyword key.Switch ∷ (in_parens (written_run table) ++ in_braces (written_stmt cases))
 written_stmt no_cases = []

@@ -1,4 +1,7 @@
 // Controls with their objects, variables, actions and tables (P4_16 1.2, "Control blocks").
+ghost use Rattle.std.specs.Prelude.{◌≡◌, option_copied};
+ghost use Rattle.p416_ast.specs.Grammar.Properties.{keys_of, actions_of, size_of, counters_of, default_action_of, default_arguments_of};
+
 use super::blocks::{Block16, Exp};
 use super::parsers::Var;
 use super::parts::{Member, Note, Param};
@@ -75,6 +78,80 @@ pub struct Table16 {
     pub name: Text,
     /// The properties in order.
     pub properties: Rows<Property>,
+}
+
+impl Table16 {
+    /// The keys, in order; none where there is no `key`. The first such property counts.
+    pub fn keys(&self) -> &[TableKey]
+        ensures { result.now ≡ keys_of self.now.properties }
+    {
+        for property in self.properties.as_slice() {
+            if let Property::Key(keys) = property {
+                return keys.as_slice();
+            }
+        }
+        &[]
+    }
+
+    /// The actions that the table names, in order; none where there is no `actions`. The first such property counts.
+    pub fn actions(&self) -> &[ActionName]
+        ensures { result.now ≡ actions_of self.now.properties }
+    {
+        for property in self.properties.as_slice() {
+            if let Property::Actions(names) = property {
+                return names.as_slice();
+            }
+        }
+        &[]
+    }
+
+    /// The number behind `size`. The first such property counts.
+    pub fn size(&self) -> Option<Literal16>
+        ensures { result ≡ size_of self.now.properties }
+    {
+        for property in self.properties.as_slice() {
+            if let Property::Size(size) = property {
+                return Some(*size);
+            }
+        }
+        None
+    }
+
+    /// The name of the direct counter. The first such property counts.
+    pub fn counters(&self) -> Option<&Text>
+        ensures { option_copied result ≡ counters_of self.now.properties }
+    {
+        for property in self.properties.as_slice() {
+            if let Property::Counters(name) = property {
+                return Some(name);
+            }
+        }
+        None
+    }
+
+    /// The default action. The first such property counts.
+    pub fn default_action(&self) -> Option<&ActionName>
+        ensures { option_copied result ≡ default_action_of self.now.properties }
+    {
+        for property in self.properties.as_slice() {
+            if let Property::DefaultAction(action, _) = property {
+                return Some(action);
+            }
+        }
+        None
+    }
+
+    /// The argument list of the default action. The first such property counts.
+    pub fn default_arguments(&self) -> Option<&Exp>
+        ensures { option_copied result ≡ default_arguments_of self.now.properties }
+    {
+        for property in self.properties.as_slice() {
+            if let Property::DefaultAction(_, arguments) = property {
+                return Some(arguments);
+            }
+        }
+        None
+    }
 }
 
 /// What is declared in a control.

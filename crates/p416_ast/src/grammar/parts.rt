@@ -1,5 +1,6 @@
 // Annotations, types, parameters, header and struct types, and members of enumerations.
-ghost use Rattle.std.specs.Prelude.{◌≡◌};
+ghost use Rattle.std.specs.Prelude.{◌≡◌, option_copied};
+ghost use Rattle.p416_ast.specs.Grammar.Properties.{name_note_of};
 ghost use Rattle.p416_ast.specs.Grammar.Members.{enumeration_text, member_text};
 
 use p4x_bits::{Rows, Text};
@@ -12,6 +13,18 @@ pub enum Note {
     Name(Text),
     /// `@field_list(NUMBER, ..)`: the lists whose fields are preserved, at least one.
     FieldList(Rows<Literal16>),
+}
+
+/// The text in `@name`, where it stands among the annotations. The first one counts.
+pub fn name_note(notes: &[Note]) -> Option<&Text>
+    ensures { option_copied result ≡ name_note_of notes.now }
+{
+    for note in notes {
+        if let Note::Name(text) = note {
+            return Some(text);
+        }
+    }
+    None
 }
 
 /// A type (P4_16 1.2, "Types").
