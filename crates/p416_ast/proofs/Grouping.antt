@@ -1,16 +1,15 @@
 -- How expressions and statements group, by small examples: what may be written without parentheses, and what keysets,
 -- arguments and an `else` ask.
-use Rattle.std.specs.Prelude.{◌≡◌, ℕ, true, false, List, [], ◌∷◌, Option, None, codes, refl}
+use Rattle.std.specs.Prelude.{◌≡◌, true, false, [], ◌∷◌, None, codes, refl}
 use Rattle.std.specs.List.{list_all, list_any}
-use Rattle.p416_lexemes.specs.declared.lexeme.Literal16.{Literal16}
 use Rattle.p416_ast.specs.declared.grammar.parts.Type16.TheVariants as kind
 use Rattle.p416_ast.specs.declared.grammar.node.UnaryOperator.TheVariants as before
 use Rattle.p416_ast.specs.declared.grammar.node.BinaryOperator.TheVariants as between
 use Rattle.p416_ast.specs.declared.grammar.node.CastType.TheVariants as cast_to
 use Rattle.p416_ast.specs.declared.grammar.parsers.Simple.TheVariants as simple
 use Rattle.p416_ast.specs.declared.grammar.parsers.Keyset.TheVariants as keyset
-use Rattle.p416_ast.specs.Grammar.Tree.{Exp16, literal, truth, error, name, member, call, lookahead, cast, unary, binary, choice, parenthesized, no_arguments, argument, listed, Stmt16, empty, expression, if_then, if_else, block, no_statements}
-use Rattle.p416_ast.specs.Grammar.Tokens.{Seen16, joined, opens, word, keyword, lookahead_text, number, dot, comma, greater, paren_open, paren_close, brace_open, brace_close}
+use Rattle.p416_ast.specs.Grammar.Tree.{Exp16, error, name, member, call, lookahead, cast, unary, binary, choice, parenthesized, no_arguments, argument, listed, empty, expression, if_then, if_else, block, no_statements}
+use Rattle.p416_ast.specs.Grammar.Tokens.{joined, opens, word, lookahead_text, dot, comma, greater, paren_open, paren_close, brace_open, brace_close}
 use Rattle.p416_ast.specs.Grammar.Written.{written_exp}
 use Rattle.p416_ast.specs.Grammar.Parentheses.{bare_exp}
 use Rattle.p416_ast.specs.Grammar.Conditions.{is_exp, is_stmt, is_keyset, statement, with_parentheses, without_parentheses}
@@ -27,32 +26,32 @@ c = name (codes "c")
 -- these may be written so: `a - b - c`, `a - (b - c)`, `-a.b`, `(-a).b`, `!(bool) a`, `a == b & c`, `a ? b : b ? c : a`,
 -- `(a ? b : c) ? a : b`, `a({a, b}, {})`, `a.lookahead<a>(b)`, `error.a`
 pub written_so : list_all (is_exp with_parentheses) (
-  binary between.Subtract (binary between.Subtract a b) c
-  ∷ binary between.Subtract a (parenthesized (binary between.Subtract b c))
-  ∷ unary before.Negate (member a (codes "b"))
-  ∷ member (parenthesized (unary before.Negate a)) (codes "b")
-  ∷ unary before.Not (cast cast_to.Bool a)
-  ∷ binary between.Equal a (binary between.BitAnd b c)
-  ∷ choice a b (choice b c a)
-  ∷ choice (parenthesized (choice a b c)) a b
-  ∷ call a (argument (argument no_arguments (listed (argument (argument no_arguments a) b))) (listed no_arguments))
-  ∷ lookahead a (kind.Named (codes "a") None) (argument no_arguments b)
-  ∷ member error (codes "a")
-  ∷ []) ≡ true
+    binary between.Subtract (binary between.Subtract a b) c
+    ∷ binary between.Subtract a (parenthesized (binary between.Subtract b c))
+    ∷ unary before.Negate (member a (codes "b"))
+    ∷ member (parenthesized (unary before.Negate a)) (codes "b")
+    ∷ unary before.Not (cast cast_to.Bool a)
+    ∷ binary between.Equal a (binary between.BitAnd b c)
+    ∷ choice a b (choice b c a)
+    ∷ choice (parenthesized (choice a b c)) a b
+    ∷ call a (argument (argument no_arguments (listed (argument (argument no_arguments a) b))) (listed no_arguments))
+    ∷ lookahead a (kind.Named (codes "a") None) (argument no_arguments b)
+    ∷ member error (codes "a")
+    ∷ []) ≡ true
 written_so = refl
 
 -- and these not: `a - (b - c)` and `(-a).b` without their parentheses, `a & b == c` as if `==` bound more tightly,
 -- `(a ? b : c) ? a : b` without parentheses, a list by itself, a list in parentheses, a list in a list, and a reserved word
 pub not_written_so : list_any (is_exp with_parentheses) (
-  binary between.Subtract a (binary between.Subtract b c)
-  ∷ member (unary before.Negate a) (codes "b")
-  ∷ binary between.BitAnd a (binary between.Equal b c)
-  ∷ choice (choice a b c) a b
-  ∷ listed (argument no_arguments a)
-  ∷ call a (argument no_arguments (parenthesized (listed no_arguments)))
-  ∷ call a (argument no_arguments (listed (argument no_arguments (listed no_arguments))))
-  ∷ name (codes "apply")
-  ∷ []) ≡ false
+    binary between.Subtract a (binary between.Subtract b c)
+    ∷ member (unary before.Negate a) (codes "b")
+    ∷ binary between.BitAnd a (binary between.Equal b c)
+    ∷ choice (choice a b c) a b
+    ∷ listed (argument no_arguments a)
+    ∷ call a (argument no_arguments (parenthesized (listed no_arguments)))
+    ∷ call a (argument no_arguments (listed (argument no_arguments (listed no_arguments))))
+    ∷ name (codes "apply")
+    ∷ []) ≡ false
 not_written_so = refl
 
 -- a syntax has no parentheses, and any grouping

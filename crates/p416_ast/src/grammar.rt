@@ -12,15 +12,11 @@ mod views;
 mod walk;
 
 pub use blocks::{Block16, BlockParts, Exp, ExpParts};
-pub use controls::{
-    Action16, ActionName, Control16, Instance, Local, Property, Table16, TableKey,
-};
+pub use controls::{Action16, ActionName, Control16, Instance, Local, Property, Table16, TableKey};
 pub use node::{BinaryOperator, CaseLabel, CastType, ExpNode, StmtNode, UnaryOperator};
 pub use nodes::Nodes;
 pub use p416_lexemes::Literal16;
-pub use parsers::{
-    Keyset, Parser16, SelectCase, Simple, State, Target, Transition, Var,
-};
+pub use parsers::{Keyset, Parser16, SelectCase, Simple, State, Target, Transition, Var};
 pub use parts::{
     BitField, CloneType, CounterType, Direction, HashAlgorithm, Header16, Member, MeterType, Note,
     Param, Struct16, StructField, Type16, name_note,

@@ -1,8 +1,8 @@
 -- The codes of trees. Proofs tell values apart by them.
-use Rattle.std.specs.Prelude.{◌≡◌, ℕ, Bool, true, false, List, [], ◌∷◌, ◌++◌, refl}
+use Rattle.std.specs.Prelude.{◌≡◌, Bool, true, false, List, [], ◌∷◌, ◌++◌, refl}
 use Rattle.std.proofs.Common.{◌∙◌, ap, append_assoc}
 use Rattle.std.specs.Coded.{Coded, code_by, coded×, coded_bool, coded_list}
-use Rattle.node_lists.specs.Codes.{on_one, on_two, top, stack, Puts, behind_one, behind_two, coded_tree}
+use Rattle.node_lists.specs.Codes.{on_one, on_two, stack, Puts, behind_one, behind_two, coded_tree}
 use Rattle.p416_ast.specs.declared.grammar.node.ExpNode.{ExpNode}
 use Rattle.p416_ast.specs.declared.grammar.node.ExpNode.TheVariants.{Literal, Truth, Error, Name, Member, Index, Slice, Call, Lookahead, Cast, Unary, Binary, Choice, NoArguments, Argument, Listed}
 use Rattle.p416_ast.specs.declared.grammar.node.StmtNode.{StmtNode}

@@ -1,9 +1,7 @@
 -- A syntax without the parentheses around its expressions, which are no part of it.
-use Rattle.std.specs.Prelude.{List, map, Option, Some, None}
+use Rattle.std.specs.Prelude.{map}
 use Rattle.std.specs.Option.{option_map}
 use Rattle.p416_ast.specs.declared.grammar.parsers.Var.{Var}
-use Rattle.p416_ast.specs.declared.grammar.parsers.Target.{Target}
-use Rattle.p416_ast.specs.declared.grammar.parsers.Target.TheVariants as target
 use Rattle.p416_ast.specs.declared.grammar.parsers.Simple.{Simple}
 use Rattle.p416_ast.specs.declared.grammar.parsers.Simple.TheVariants as simple
 use Rattle.p416_ast.specs.declared.grammar.parsers.Keyset.{Keyset}
@@ -16,8 +14,6 @@ use Rattle.p416_ast.specs.declared.grammar.parsers.Parser16.{Parser16}
 use Rattle.p416_ast.specs.declared.grammar.controls.Instance.{Instance}
 use Rattle.p416_ast.specs.declared.grammar.controls.Instance.TheVariants as instance
 use Rattle.p416_ast.specs.declared.grammar.controls.Action16.{Action16}
-use Rattle.p416_ast.specs.declared.grammar.controls.ActionName.{ActionName}
-use Rattle.p416_ast.specs.declared.grammar.controls.ActionName.TheVariants as action_name
 use Rattle.p416_ast.specs.declared.grammar.controls.TableKey.{TableKey}
 use Rattle.p416_ast.specs.declared.grammar.controls.Property.{Property}
 use Rattle.p416_ast.specs.declared.grammar.controls.Property.TheVariants as property
