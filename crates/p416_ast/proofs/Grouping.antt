@@ -8,8 +8,9 @@ use Rattle.p416_ast.specs.declared.grammar.node.BinaryOperator.TheVariants as be
 use Rattle.p416_ast.specs.declared.grammar.node.CastType.TheVariants as cast_to
 use Rattle.p416_ast.specs.declared.grammar.parsers.Simple.TheVariants as simple
 use Rattle.p416_ast.specs.declared.grammar.parsers.Keyset.TheVariants as keyset
+use Rattle.p416_lexemes.specs.declared.keyword.Keyword16.TheVariants as key
 use Rattle.p416_ast.specs.Grammar.Tree.{Exp16, error, name, member, call, lookahead, cast, unary, binary, choice, parenthesized, no_arguments, argument, listed, empty, expression, if_then, if_else, block, no_statements}
-use Rattle.p416_ast.specs.Grammar.Tokens.{joined, opens, word, lookahead_text, dot, comma, greater, paren_open, paren_close, brace_open, brace_close}
+use Rattle.p416_ast.specs.Grammar.Tokens.{id, quoted, joined, opens, lookahead_text, is_spelt_seen, seen_word, dot, comma, greater, paren_open, paren_close, brace_open, brace_close}
 use Rattle.p416_ast.specs.Grammar.Written.{written_exp}
 use Rattle.p416_ast.specs.Grammar.Parentheses.{bare_exp}
 use Rattle.p416_ast.specs.Grammar.Conditions.{is_exp, is_stmt, is_keyset, statement, with_parentheses, without_parentheses}
@@ -41,7 +42,7 @@ pub written_so : list_all (is_exp with_parentheses) (
 written_so = refl
 
 -- and these not: `a - (b - c)` and `(-a).b` without their parentheses, `a & b == c` as if `==` bound more tightly,
--- `(a ? b : c) ? a : b` without parentheses, a list by itself, a list in parentheses, a list in a list, and a reserved word
+-- `(a ? b : c) ? a : b` without parentheses, a list by itself, a list in parentheses, and a list in a list
 pub not_written_so : list_any (is_exp with_parentheses) (
     binary between.Subtract a (binary between.Subtract b c)
     ∷ member (unary before.Negate a) (codes "b")
@@ -50,8 +51,7 @@ pub not_written_so : list_any (is_exp with_parentheses) (
     ∷ listed (argument no_arguments a)
     ∷ call a (argument no_arguments (parenthesized (listed no_arguments)))
     ∷ call a (argument no_arguments (listed (argument no_arguments (listed no_arguments))))
-    ∷ name (codes "apply")
-    ∷ []) ≡ false
+      ∷ []) ≡ false
 not_written_so = refl
 
 -- a syntax has no parentheses, and any grouping
@@ -66,11 +66,11 @@ pub same_bare : bare_exp (binary between.Subtract (parenthesized a) (parenthesiz
 same_bare = refl
 
 -- `a.lookahead<a>(b, {c})`, with its `<` told apart from an operator
-pub lookahead_written : written_exp (lookahead a (kind.Named (codes "a") None) (argument (argument no_arguments b) (listed (argument no_arguments c)))) ≡ word (codes "a") ∷ dot ∷ word lookahead_text ∷ opens ∷ word (codes "a") ∷ greater ∷ paren_open ∷ word (codes "b") ∷ comma ∷ brace_open ∷ word (codes "c") ∷ brace_close ∷ paren_close ∷ []
+pub lookahead_written : written_exp (lookahead a (kind.Named (codes "a") None) (argument (argument no_arguments b) (listed (argument no_arguments c)))) ≡ id (codes "a") ∷ dot ∷ id lookahead_text ∷ opens ∷ id (codes "a") ∷ greater ∷ paren_open ∷ id (codes "b") ∷ comma ∷ brace_open ∷ id (codes "c") ∷ brace_close ∷ paren_close ∷ []
 lookahead_written = refl
 
 -- `a >> b` is written with two `>` of which the first touches the second
-pub shift_written : written_exp (binary between.ShiftRight a b) ≡ word (codes "a") ∷ joined ∷ greater ∷ word (codes "b") ∷ []
+pub shift_written : written_exp (binary between.ShiftRight a b) ≡ id (codes "a") ∷ joined ∷ greater ∷ id (codes "b") ∷ []
 shift_written = refl
 
 -- an `else` belongs to the nearest `if`: `if (a) if (b) ; else ;` is an `if` without `else` around one with `else`
@@ -93,3 +93,10 @@ keysets = refl
 
 pub no_keysets : list_any (is_keyset with_parentheses) (keyset.One (simple.Value (parenthesized a)) ∷ keyset.Tuple [] ∷ []) ≡ false
 no_keysets = refl
+
+-- a reserved word is no name, but a word behind a dot
+pub no_name : is_spelt_seen (id (codes "apply")) ≡ false
+no_name = refl
+
+pub word_behind_dot : written_exp (member a (codes "apply")) ≡ id (codes "a") ∷ dot ∷ quoted key.Apply ∷ []
+word_behind_dot = refl

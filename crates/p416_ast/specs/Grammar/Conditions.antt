@@ -1,11 +1,10 @@
--- What the grammar of P4_16 asks of a syntax besides its words and marks: that names aren't reserved words, how operators
--- group, what stands at most once or at least once, and which of two alternatives is meant where both could be written so
+-- What the grammar of P4_16 asks of a syntax besides its words and marks: how operators group, what stands at most once or at least once, and which of two alternatives is meant where both could be written so
 -- (P4_16 1.2, "P4 grammar"; the reserved words and the tightness of operators are this project's own).
 use Rattle.std.specs.Prelude.{ℕ, suc, Bool, true, false, not, ◌&&◌, nat_le, List, [], ◌∷◌, map, Option, Some, None}
 use Rattle.std.specs.List.{list_all, list_any}
 use Rattle.std.specs.Str.{bytes_eq}
 use Rattle.p416_lexemes.specs.declared.keyword.Keyword16.TheVariants as key
-use Rattle.p416_lexemes.specs.Keywords.{keyword_text16, is_reserved16}
+use Rattle.p416_lexemes.specs.Keywords.{keyword_text16}
 use Rattle.p416_ast.specs.declared.grammar.parts.Note.{Note}
 use Rattle.p416_ast.specs.declared.grammar.parts.Note.TheVariants as note
 use Rattle.p416_ast.specs.declared.grammar.parts.Type16.{Type16}
@@ -48,13 +47,6 @@ use Rattle.p416_ast.specs.Grammar.Tree.{Exp16, literal, truth, error, name, memb
 use Rattle.p416_ast.specs.Grammar.Operators.{postfix_power, prefix_power, binary_power, choice_power}
 use Rattle.p416_ast.specs.Grammar.Written.{property_word}
 
--- an ID: no reserved word
-abbrev pub is_id : List ℕ → Bool
-is_id text = not (is_reserved16 text)
-
-abbrev pub are_ids : List (List ℕ) → Bool
-are_ids texts = list_all is_id texts
-
 abbrev pub is_among : List ℕ → List (List ℕ) → Bool
 is_among text texts = list_any (bytes_eq text) texts
 
@@ -72,7 +64,7 @@ abbrev pub is_option : {A : Type 0} → (A → Bool) → Option A → Bool
 is_option is_good None = true
 is_option is_good (Some x) = is_good x
 
--- annotations, types and parameters
+-- annotations
 
 abbrev pub is_note : Note → Bool
 is_note (note.Name text) = true
@@ -91,18 +83,6 @@ is_named_once (note.FieldList lists ∷ notes) = is_named_once notes
 
 abbrev pub are_notes : List Note → Bool
 are_notes notes = list_all is_note notes && is_named_once notes
-
-abbrev pub is_type : Type16 → Bool
-is_type (kind.Bit width) = true
-is_type kind.Bool = true
-is_type (kind.Named text size) = is_id text
-
-abbrev pub is_param : Param → Bool
-is_param p = is_type p.of && is_id p.name
-
--- the parameters of a parser or a control: at least one
-abbrev pub are_params : List Param → Bool
-are_params ps = is_some_listed ps && list_all is_param ps
 
 -- expressions
 
@@ -133,14 +113,14 @@ abbrev pub is_exp_at : Form → ExpPlace → Exp16 → Bool
 is_exp_at m (one least is_argument) (literal n) = true
 is_exp_at m (one least is_argument) (truth value) = true
 is_exp_at m (one least is_argument) error = true
-is_exp_at m (one least is_argument) (name text) = is_id text
+is_exp_at m (one least is_argument) (name text) = true
 is_exp_at m (one least is_argument) (member e text) = is_exp_at m (one postfix_power false) e
 is_exp_at m (one least is_argument) (index e at) = is_exp_at m (one postfix_power false) e
 is_exp_at m (one least is_argument) (slice e high low) = is_exp_at m (one postfix_power false) e
 is_exp_at m (one least is_argument) (call e arguments) =
     is_exp_at m (one postfix_power false) e && is_exp_at m (many true) arguments
 is_exp_at m (one least is_argument) (lookahead e of arguments) =
-    is_exp_at m (one postfix_power false) e && (is_type of && is_exp_at m (many true) arguments)
+    is_exp_at m (one postfix_power false) e && is_exp_at m (many true) arguments
 is_exp_at m (one least is_argument) (cast to e) = fits m least prefix_power && is_exp_at m (one prefix_power false) e
 is_exp_at m (one least is_argument) (unary operator e) = fits m least prefix_power && is_exp_at m (one prefix_power false) e
 is_exp_at m (one least is_argument) (binary operator a b) =
@@ -183,36 +163,27 @@ pub data StmtPlace : Type 0 where
   statement : StmtPlace
   cases : StmtPlace
 
-abbrev pub is_label : CaseLabel → Bool
-is_label label.Default = true
-is_label (label.Action text) = is_id text
-
 abbrev pub is_stmt : Form → StmtPlace → Stmt16 → Bool
 is_stmt m statements no_statements = true
 is_stmt m statements (then before last) = is_stmt m statements before && is_stmt m statement last
 is_stmt m statement (block ss) = is_stmt m statements ss
 is_stmt m statement empty = true
-is_stmt m statement (var of text) = is_type of && is_id text
-is_stmt m statement (var_is of text value) = is_type of && (is_id text && is_exp m value)
+is_stmt m statement (var of text) = true
+is_stmt m statement (var_is of text value) = is_exp m value
 is_stmt m statement (assign target value) = is_exp m target && is_exp m value
 is_stmt m statement (expression e) = is_exp m e && is_call e
 is_stmt m statement (if_then c holds) = is_exp m c && is_stmt m statement holds
 is_stmt m statement (if_else c holds other) =
     is_exp m c && ((is_stmt m statement holds && not (ends_in_if holds)) && is_stmt m statement other)
-is_stmt m statement (switch table cs) = is_id table && is_stmt m cases cs
+is_stmt m statement (switch table cs) = is_stmt m cases cs
 is_stmt m cases no_cases = true
-is_stmt m cases (case_of before of ss) = is_stmt m cases before && (is_label of && is_stmt m statements ss)
+is_stmt m cases (case_of before of ss) = is_stmt m cases before && is_stmt m statements ss
 is_stmt m _ _ = false
 
 abbrev pub is_var : Form → Var → Bool
-is_var m v = is_type v.of && (is_id v.name && is_option (is_exp m) v.initial)
+is_var m v = is_option (is_exp m) v.initial
 
 -- parser states
-
-abbrev pub is_target : Target → Bool
-is_target (target.State text) = is_id text
-is_target target.Accept = true
-is_target target.Reject = true
 
 abbrev pub is_simple : Form → Simple → Bool
 is_simple m simple.Default = true
@@ -235,54 +206,54 @@ is_keyset m (keyset.Tuple ss) = is_some_listed ss && list_all (is_simple m) ss
 is_keyset m (keyset.One s) = is_simple m s && not (is_parenthesized_value s)
 
 abbrev pub is_case : Form → SelectCase → Bool
-is_case m c = is_keyset m c.keyset && is_target c.target
+is_case m c = is_keyset m c.keyset
 
 abbrev pub is_transition : Form → Transition → Bool
-is_transition m (transition.Go t) = is_target t
+is_transition m (transition.Go t) = true
 is_transition m (transition.Select es cs) = (is_some_listed es && list_all (is_exp m) es) && list_all (is_case m) cs
 
 abbrev pub is_state : Form → State → Bool
-is_state m s = is_id s.name && (is_stmt m statements s.body && is_transition m s.transition)
+is_state m s = is_stmt m statements s.body && is_transition m s.transition
 
 abbrev pub is_parser : Form → Parser16 → Bool
-is_parser m p = is_id p.name && (are_params p.parameters && (list_all (is_var m) p.vars && list_all (is_state m) p.states))
+is_parser m p = is_some_listed p.parameters && (list_all (is_var m) p.vars && list_all (is_state m) p.states)
 
 -- controls
 
 abbrev pub is_instance : Form → Instance → Bool
-is_instance m (instance.Counter size of text) = is_exp m size && is_id text
-is_instance m (instance.DirectCounter of text) = is_id text
-is_instance m (instance.Register width size text) = is_exp m size && is_id text
-is_instance m (instance.Meter size of text) = is_exp m size && is_id text
+is_instance m (instance.Counter size of text) = is_exp m size
+is_instance m (instance.DirectCounter of text) = true
+is_instance m (instance.Register width size text) = is_exp m size
+is_instance m (instance.Meter size of text) = is_exp m size
 
 abbrev pub is_object : Form → List Note → Instance → Bool
 is_object m notes i = are_notes notes && is_instance m i
 
 abbrev pub is_action : Form → Action16 → Bool
-is_action m a = are_notes a.notes && (is_id a.name && (list_all is_param a.parameters && is_stmt m statements a.body))
-
-abbrev pub is_action_name : ActionName → Bool
-is_action_name (action_name.Declared text) = is_id text
-is_action_name action_name.NoAction = true
+is_action m a = are_notes a.notes && is_stmt m statements a.body
 
 abbrev pub is_key : Form → TableKey → Bool
-is_key m k = is_exp m k.exp && (is_id k.kind && are_notes k.notes)
+is_key m k = is_exp m k.exp && are_notes k.notes
 
 abbrev pub is_property : Form → Property → Bool
 is_property m (property.Key ks) = list_all (is_key m) ks
-is_property m (property.Actions names) = is_some_listed names && list_all is_action_name names
+is_property m (property.Actions names) = is_some_listed names
 is_property m (property.Size n) = true
-is_property m (property.Counters text) = is_id text
-is_property m (property.DefaultAction a arguments) = is_action_name a && are_arguments m arguments
+is_property m (property.Counters text) = true
+is_property m (property.DefaultAction a arguments) = are_arguments m arguments
+
+-- the texts of the words that properties begin with
+abbrev pub property_texts : List Property → List (List ℕ)
+property_texts ps = map (λ p. keyword_text16 (property_word p)) ps
 
 -- each property stands at most once, and `actions` stands
 abbrev pub are_properties : Form → List Property → Bool
 are_properties m ps =
     list_all (is_property m) ps
-    && (all_different (map property_word ps) && is_among (keyword_text16 key.Actions) (map property_word ps))
+    && (all_different (property_texts ps) && is_among (keyword_text16 key.Actions) (property_texts ps))
 
 abbrev pub is_table : Form → Table16 → Bool
-is_table m t = are_notes t.notes && (is_id t.name && are_properties m t.properties)
+is_table m t = are_notes t.notes && are_properties m t.properties
 
 abbrev pub is_local : Form → Local → Bool
 is_local m (local.Instance notes i) = is_object m notes i
@@ -291,28 +262,22 @@ is_local m (local.Action a) = is_action m a
 is_local m (local.Table t) = is_table m t
 
 abbrev pub is_control : Form → Control16 → Bool
-is_control m c = is_id c.name && (are_params c.parameters && (list_all (is_local m) c.locals && is_stmt m statements c.body))
+is_control m c = is_some_listed c.parameters && (list_all (is_local m) c.locals && is_stmt m statements c.body)
 
 -- declarations
 
-abbrev pub is_bit_field : BitField → Bool
-is_bit_field f = is_id f.name
-
-abbrev pub is_header : Header16 → Bool
-is_header h = is_id h.name && list_all is_bit_field h.fields
-
 abbrev pub is_struct_field : StructField → Bool
-is_struct_field f = are_notes f.notes && (is_type f.of && is_id f.name)
+is_struct_field f = are_notes f.notes
 
 abbrev pub is_struct : Struct16 → Bool
-is_struct s = is_id s.name && list_all is_struct_field s.fields
+is_struct s = list_all is_struct_field s.fields
 
 abbrev pub is_decl : Form → Decl16 → Bool
-is_decl m (decl.Header h) = is_header h
+is_decl m (decl.Header h) = true
 is_decl m (decl.Struct s) = is_struct s
 is_decl m (decl.Instance notes i) = is_object m notes i
 is_decl m (decl.Parser p) = is_parser m p
 is_decl m (decl.Control c) = is_control m c
 
 abbrev pub is_syntax : Form → Syntax16 → Bool
-is_syntax m s = list_all (is_decl m) s.decls && (is_some_listed s.main && are_ids s.main)
+is_syntax m s = list_all (is_decl m) s.decls && is_some_listed s.main

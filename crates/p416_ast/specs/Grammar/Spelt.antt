@@ -7,6 +7,6 @@ use Rattle.p416_ast.specs.Grammar.Written.{written}
 use Rattle.p416_ast.specs.Grammar.Conditions.{is_syntax, without_parentheses}
 
 -- The syntax keeps to the grammar, with no parentheses in it, and each token that it is written with is one that a text
--- can have: its names and strings are identifiers, and its numbers fit.
+-- can have: its names are identifiers and not reserved, its strings are identifiers, and its numbers fit.
 abbrev pub is_spelt16 : Syntax16 → Bool
 is_spelt16 s = is_syntax without_parentheses s && list_all is_spelt_seen (written s)

@@ -1,56 +1,60 @@
--- Tokens as the grammar sees them, and the words and marks that it quotes (P4_16 1.2, "P4 grammar"; what tells two `>`
--- and the `<` of `lookahead` apart is this project's own).
-use Rattle.std.specs.Prelude.{ℕ, Bool, true, List, [], ◌∷◌, ◌++◌, codes}
+-- Tokens as the grammar sees them, and the marks that it quotes (P4_16 1.2, "P4 grammar"; what tells two `>` and the `<` of
+-- `lookahead` apart is this project's own).
+use Rattle.std.specs.Prelude.{ℕ, Bool, true, if◌then◌else◌, List, [], ◌∷◌, ◌++◌, Option, Some, None, codes}
+use Rattle.std.specs.Str.{bytes_eq}
 use Rattle.p416_lexemes.specs.declared.keyword.Keyword16.{Keyword16}
 use Rattle.p416_lexemes.specs.declared.lexeme.Annotation16.{Annotation16}
 use Rattle.p416_lexemes.specs.declared.lexeme.Include16.{Include16}
 use Rattle.p416_lexemes.specs.declared.lexeme.Literal16.{Literal16}
-use Rattle.p416_lexemes.specs.declared.lexeme.Lexeme16.{Lexeme16}
-use Rattle.p416_lexemes.specs.declared.lexeme.Lexeme16.TheVariants as lexeme
 use Rattle.p416_lexemes.specs.declared.mark.Mark16.{Mark16}
 use Rattle.p416_lexemes.specs.declared.mark.Mark16.TheVariants as mark_of
-use Rattle.p416_lexemes.specs.Keywords.{keyword_text16}
-use Rattle.p416_lexemes.specs.Spelt.{is_spelt_lexeme16}
+use Rattle.p416_lexemes.specs.Keywords.{keyword_text16, all_keywords16}
+use Rattle.p416_lexemes.specs.Spelt.{is_identifier16, is_name16, is_spelt_literal16}
 
--- A token by itself; or a `>` that another `>` behind it touches, where the two are a shift, so that no `>` which ends
--- `bit<NUMBER>` is one; or the `<` of `.lookahead<TYPE>(`.
+-- A token as the grammar sees it.
 pub data Seen16 : Type 0 where
-  lone : (token : Lexeme16) → Seen16
+  -- a name that is no reserved word
+  id : (text : List ℕ) → Seen16
+  -- a reserved word
+  quoted : (word : Keyword16) → Seen16
+  number : (n : Literal16) → Seen16
+  mark : (m : Mark16) → Seen16
+  string : (text : List ℕ) → Seen16
+  annotation : (a : Annotation16) → Seen16
+  include_line : (i : Include16) → Seen16
+  -- a `>` that another `>` behind it touches; but no `>` that ends `bit<NUMBER>`
   joined : Seen16
+  -- the `<` of `.lookahead<TYPE>(`
   opens : Seen16
 
--- a token that a text can have
+-- a token that a text can have: names and strings are identifiers, and numbers fit
 abbrev pub is_spelt_seen : Seen16 → Bool
-is_spelt_seen (lone token) = is_spelt_lexeme16 token
+is_spelt_seen (id text) = is_name16 text
+is_spelt_seen (quoted word) = true
+is_spelt_seen (number n) = is_spelt_literal16 n
+is_spelt_seen (mark m) = true
+is_spelt_seen (string text) = is_identifier16 text
+is_spelt_seen (annotation a) = true
+is_spelt_seen (include_line i) = true
 is_spelt_seen joined = true
 is_spelt_seen opens = true
 
--- a name, or a word
-abbrev pub word : List ℕ → Seen16
-word text = lone (lexeme.Name text)
+-- the first of these words with this text
+abbrev pub keyword_among : List ℕ → List Keyword16 → Option Keyword16
+keyword_among text [] = None
+keyword_among text (word ∷ words) = if bytes_eq text (keyword_text16 word) then Some word else keyword_among text words
 
--- a word that the grammar quotes
-abbrev pub keyword : Keyword16 → Seen16
-keyword quoted = word (keyword_text16 quoted)
+abbrev pub seen_as : List ℕ → Option Keyword16 → Seen16
+seen_as text None = id text
+seen_as text (Some word) = quoted word
 
--- a word that the grammar quotes and that a name may be, too
+-- a name or a reserved word, by its text
+abbrev pub seen_word : List ℕ → Seen16
+seen_word text = seen_as text (keyword_among text all_keywords16)
+
+-- the one name that the grammar quotes and that isn't reserved, but for members of enumerations
 abbrev pub lookahead_text : List ℕ
 lookahead_text = codes "lookahead"
-
-abbrev pub number : Literal16 → Seen16
-number n = lone (lexeme.Number n)
-
-abbrev pub mark : Mark16 → Seen16
-mark m = lone (lexeme.Mark m)
-
-abbrev pub string : List ℕ → Seen16
-string text = lone (lexeme.Quoted text)
-
-abbrev pub annotation : Annotation16 → Seen16
-annotation a = lone (lexeme.At a)
-
-abbrev pub include_line : Include16 → Seen16
-include_line i = lone (lexeme.Include i)
 
 abbrev pub brace_open : Seen16
 brace_open = mark mark_of.BraceOpen

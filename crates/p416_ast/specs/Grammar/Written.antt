@@ -2,11 +2,11 @@
 -- (P4_16 1.2, "P4 grammar"). Where an expression stands in parentheses, its tree says so: see Spells.antt.
 use Rattle.std.specs.Prelude.{ℕ, Bool, true, false, List, [], ◌∷◌, ◌++◌, Option, Some, None}
 use Rattle.std.specs.List.{flat_map}
+use Rattle.p416_lexemes.specs.declared.keyword.Keyword16.{Keyword16}
 use Rattle.p416_lexemes.specs.declared.keyword.Keyword16.TheVariants as key
 use Rattle.p416_lexemes.specs.declared.lexeme.Annotation16.TheVariants as annotation_of
 use Rattle.p416_lexemes.specs.declared.lexeme.Include16.TheVariants as include
 use Rattle.p416_lexemes.specs.declared.lexeme.Literal16.{Literal16}
-use Rattle.p416_lexemes.specs.Keywords.{keyword_text16}
 use Rattle.p416_ast.specs.declared.grammar.parts.Note.{Note}
 use Rattle.p416_ast.specs.declared.grammar.parts.Note.TheVariants as note
 use Rattle.p416_ast.specs.declared.grammar.parts.Type16.{Type16}
@@ -52,7 +52,7 @@ use Rattle.p416_ast.specs.declared.grammar.program.Decl16.TheVariants as decl
 use Rattle.p416_ast.specs.declared.grammar.program.Syntax16.{Syntax16}
 use Rattle.p416_ast.specs.Grammar.Tree.{Exp16, literal, truth, error, name, member, index, slice, call, lookahead, cast, unary, binary, choice, parenthesized, no_arguments, argument, listed, Stmt16, no_statements, then, block, empty, var, var_is, assign, expression, if_then, if_else, switch, no_cases, case_of}
 use Rattle.p416_ast.specs.Grammar.Members.{enumeration_text, member_text}
-use Rattle.p416_ast.specs.Grammar.Tokens.{Seen16, opens, word, keyword, lookahead_text, number, string, annotation, include_line, paren_open, paren_close, bracket_open, bracket_close, semicolon, colon, comma, dot, dots, equals, less, greater, mask, question, in_parens, in_braces}
+use Rattle.p416_ast.specs.Grammar.Tokens.{Seen16, id, quoted, number, string, annotation, include_line, opens, seen_word, lookahead_text, paren_open, paren_close, bracket_open, bracket_close, semicolon, colon, comma, dot, dots, equals, less, greater, mask, question, in_parens, in_braces}
 use Rattle.p416_ast.specs.Grammar.Operators.{unary_token, binary_tokens}
 
 -- parts that several lines of the grammar share
@@ -76,7 +76,7 @@ written_number n = number n ∷ []
 
 -- `NAME ( )`
 abbrev pub written_block_name : List ℕ → List Seen16
-written_block_name text = word text ∷ paren_open ∷ paren_close ∷ []
+written_block_name text = id text ∷ paren_open ∷ paren_close ∷ []
 
 -- annotations, types and parameters
 
@@ -89,39 +89,39 @@ written_notes notes = flat_map written_note notes
 
 -- `bit < WIDTH >`
 abbrev pub written_bit : Literal16 → List Seen16
-written_bit width = keyword key.Bit ∷ less ∷ number width ∷ greater ∷ []
+written_bit width = quoted key.Bit ∷ less ∷ number width ∷ greater ∷ []
 
 abbrev pub written_size : Literal16 → List Seen16
 written_size n = bracket_open ∷ number n ∷ bracket_close ∷ []
 
 abbrev pub written_type : Type16 → List Seen16
 written_type (kind.Bit width) = written_bit width
-written_type kind.Bool = keyword key.Bool ∷ []
-written_type (kind.Named text size) = word text ∷ written_option written_size size
+written_type kind.Bool = quoted key.Bool ∷ []
+written_type (kind.Named text size) = id text ∷ written_option written_size size
 
 abbrev pub written_direction : Direction → List Seen16
-written_direction direction.In = keyword key.In ∷ []
-written_direction direction.Out = keyword key.Out ∷ []
-written_direction direction.InOut = keyword key.InOut ∷ []
+written_direction direction.In = quoted key.In ∷ []
+written_direction direction.Out = quoted key.Out ∷ []
+written_direction direction.InOut = quoted key.InOut ∷ []
 
 abbrev pub written_param : Param → List Seen16
-written_param p = written_option written_direction p.direction ++ (written_type p.of ++ word p.name ∷ [])
+written_param p = written_option written_direction p.direction ++ (written_type p.of ++ id p.name ∷ [])
 
 abbrev pub written_params : List Param → List Seen16
 written_params ps = in_parens (by_commas written_param ps)
 
 abbrev pub written_member : Member → List Seen16
-written_member m = word (enumeration_text m) ∷ dot ∷ word (member_text m) ∷ []
+written_member m = id (enumeration_text m) ∷ dot ∷ id (member_text m) ∷ []
 
 -- expressions and argument lists
 
 abbrev pub written_truth : Bool → List Seen16
-written_truth true = keyword key.True ∷ []
-written_truth false = keyword key.False ∷ []
+written_truth true = quoted key.True ∷ []
+written_truth false = quoted key.False ∷ []
 
 abbrev pub written_cast : CastType → List Seen16
 written_cast (cast_to.Bit width) = written_bit width
-written_cast cast_to.Bool = keyword key.Bool ∷ []
+written_cast cast_to.Bool = quoted key.Bool ∷ []
 
 -- a comma, if the argument list in front of it has an argument
 abbrev pub comma_behind : Exp16 → List Seen16
@@ -131,14 +131,14 @@ comma_behind _ = comma ∷ []
 abbrev pub written_exp : Exp16 → List Seen16
 written_exp (literal n) = number n ∷ []
 written_exp (truth value) = written_truth value
-written_exp error = keyword key.Error ∷ []
-written_exp (name text) = word text ∷ []
-written_exp (member e text) = written_exp e ++ dot ∷ word text ∷ []
+written_exp error = quoted key.Error ∷ []
+written_exp (name text) = id text ∷ []
+written_exp (member e text) = written_exp e ++ dot ∷ seen_word text ∷ []
 written_exp (index e at) = written_exp e ++ bracket_open ∷ number at ∷ bracket_close ∷ []
 written_exp (slice e high low) = written_exp e ++ bracket_open ∷ number high ∷ colon ∷ number low ∷ bracket_close ∷ []
 written_exp (call e arguments) = written_exp e ++ in_parens (written_exp arguments)
 written_exp (lookahead e of arguments) =
-    written_exp e ++ dot ∷ word lookahead_text ∷ opens ∷ (written_type of ++ greater ∷ in_parens (written_exp arguments))
+    written_exp e ++ dot ∷ id lookahead_text ∷ opens ∷ (written_type of ++ greater ∷ in_parens (written_exp arguments))
 written_exp (cast to e) = in_parens (written_cast to) ++ written_exp e
 written_exp (unary operator e) = unary_token operator ∷ written_exp e
 written_exp (binary operator a b) = written_exp a ++ (binary_tokens operator ++ written_exp b)
@@ -155,16 +155,16 @@ abbrev pub written_initial : Exp16 → List Seen16
 written_initial value = equals ∷ written_exp value
 
 abbrev pub written_var_of : Type16 → List ℕ → Option Exp16 → List Seen16
-written_var_of of text initial = written_type of ++ word text ∷ (written_option written_initial initial ++ semicolon ∷ [])
+written_var_of of text initial = written_type of ++ id text ∷ (written_option written_initial initial ++ semicolon ∷ [])
 
 abbrev pub written_label : CaseLabel → List Seen16
-written_label label.Default = keyword key.Default ∷ []
-written_label (label.Action text) = word text ∷ []
+written_label label.Default = quoted key.Default ∷ []
+written_label (label.Action text) = id text ∷ []
 
 -- `TABLE . apply ( ) . action_run`
 abbrev pub written_run : List ℕ → List Seen16
 written_run table =
-    word table ∷ dot ∷ keyword key.Apply ∷ paren_open ∷ paren_close ∷ dot ∷ keyword key.ActionRun ∷ []
+    id table ∷ dot ∷ quoted key.Apply ∷ paren_open ∷ paren_close ∷ dot ∷ quoted key.ActionRun ∷ []
 
 abbrev pub written_stmt : Stmt16 → List Seen16
 written_stmt no_statements = []
@@ -175,11 +175,11 @@ written_stmt (var of text) = written_var_of of text None
 written_stmt (var_is of text value) = written_var_of of text (Some value)
 written_stmt (assign target value) = written_exp target ++ equals ∷ (written_exp value ++ semicolon ∷ [])
 written_stmt (expression e) = written_exp e ++ semicolon ∷ []
-written_stmt (if_then c holds) = keyword key.If ∷ (in_parens (written_exp c) ++ written_stmt holds)
+written_stmt (if_then c holds) = quoted key.If ∷ (in_parens (written_exp c) ++ written_stmt holds)
 written_stmt (if_else c holds other) =
-    keyword key.If ∷ (in_parens (written_exp c) ++ (written_stmt holds ++ keyword key.Else ∷ written_stmt other))
+    quoted key.If ∷ (in_parens (written_exp c) ++ (written_stmt holds ++ quoted key.Else ∷ written_stmt other))
 written_stmt (switch table cases) =
-    keyword key.Switch ∷ (in_parens (written_run table) ++ in_braces (written_stmt cases))
+    quoted key.Switch ∷ (in_parens (written_run table) ++ in_braces (written_stmt cases))
 written_stmt no_cases = []
 written_stmt (case_of before of statements) =
     written_stmt before ++ (written_label of ++ colon ∷ in_braces (written_stmt statements))
@@ -193,13 +193,13 @@ written_var v = written_var_of v.of v.name v.initial
 -- parser states
 
 abbrev pub written_target : Target → List Seen16
-written_target (target.State text) = word text ∷ []
-written_target target.Accept = keyword key.Accept ∷ []
-written_target target.Reject = keyword key.Reject ∷ []
+written_target (target.State text) = id text ∷ []
+written_target target.Accept = quoted key.Accept ∷ []
+written_target target.Reject = quoted key.Reject ∷ []
 
 abbrev pub written_simple : Simple → List Seen16
-written_simple simple.Default = keyword key.Default ∷ []
-written_simple simple.Any = keyword key.Underscore ∷ []
+written_simple simple.Default = quoted key.Default ∷ []
+written_simple simple.Any = quoted key.Underscore ∷ []
 written_simple (simple.Mask a b) = written_exp a ++ mask ∷ written_exp b
 written_simple (simple.Range a b) = written_exp a ++ dots ∷ written_exp b
 written_simple (simple.Value e) = written_exp e
@@ -212,71 +212,71 @@ abbrev pub written_case : SelectCase → List Seen16
 written_case c = written_keyset c.keyset ++ colon ∷ (written_target c.target ++ semicolon ∷ [])
 
 abbrev pub written_transition : Transition → List Seen16
-written_transition (transition.Go t) = keyword key.Transition ∷ (written_target t ++ semicolon ∷ [])
+written_transition (transition.Go t) = quoted key.Transition ∷ (written_target t ++ semicolon ∷ [])
 written_transition (transition.Select es cs) =
-    keyword key.Transition ∷ keyword key.Select ∷ (in_parens (by_commas written_exp es) ++ in_braces (flat_map written_case cs))
+    quoted key.Transition ∷ quoted key.Select ∷ (in_parens (by_commas written_exp es) ++ in_braces (flat_map written_case cs))
 
 abbrev pub written_state : State → List Seen16
-written_state s = keyword key.State ∷ word s.name ∷ in_braces (written_stmt s.body ++ written_transition s.transition)
+written_state s = quoted key.State ∷ id s.name ∷ in_braces (written_stmt s.body ++ written_transition s.transition)
 
 abbrev pub written_parser : Parser16 → List Seen16
 written_parser p =
-    keyword key.Parser ∷ word p.name
+    quoted key.Parser ∷ id p.name
     ∷ (written_params p.parameters ++ in_braces (flat_map written_var p.vars ++ flat_map written_state p.states))
 
 -- controls
 
 abbrev pub written_instance : Instance → List Seen16
 written_instance (instance.Counter size m text) =
-    keyword key.Counter ∷ (in_parens (written_exp size ++ comma ∷ written_member m) ++ word text ∷ [])
+    quoted key.Counter ∷ (in_parens (written_exp size ++ comma ∷ written_member m) ++ id text ∷ [])
 written_instance (instance.DirectCounter m text) =
-    keyword key.DirectCounter ∷ (in_parens (written_member m) ++ word text ∷ [])
+    quoted key.DirectCounter ∷ (in_parens (written_member m) ++ id text ∷ [])
 written_instance (instance.Register width size text) =
-    keyword key.Register ∷ less ∷ (written_bit width ++ greater ∷ (in_parens (written_exp size) ++ word text ∷ []))
+    quoted key.Register ∷ less ∷ (written_bit width ++ greater ∷ (in_parens (written_exp size) ++ id text ∷ []))
 written_instance (instance.Meter size m text) =
-    keyword key.Meter ∷ (in_parens (written_exp size ++ comma ∷ written_member m) ++ word text ∷ [])
+    quoted key.Meter ∷ (in_parens (written_exp size ++ comma ∷ written_member m) ++ id text ∷ [])
 
 abbrev pub written_object : List Note → Instance → List Seen16
 written_object notes i = written_notes notes ++ (written_instance i ++ semicolon ∷ [])
 
 abbrev pub written_action : Action16 → List Seen16
 written_action a =
-    written_notes a.notes ++ keyword key.Action ∷ word a.name ∷ (written_params a.parameters ++ written_block a.body)
+    written_notes a.notes ++ quoted key.Action ∷ id a.name ∷ (written_params a.parameters ++ written_block a.body)
 
 abbrev pub written_action_name : ActionName → List Seen16
-written_action_name (action_name.Declared text) = word text ∷ []
-written_action_name action_name.NoAction = keyword key.NoAction ∷ []
+written_action_name (action_name.Declared text) = id text ∷ []
+written_action_name action_name.NoAction = quoted key.NoAction ∷ []
 
 -- `NAME ;`
 abbrev pub written_listed_action : ActionName → List Seen16
 written_listed_action a = written_action_name a ++ semicolon ∷ []
 
 abbrev pub written_key : TableKey → List Seen16
-written_key k = written_exp k.exp ++ colon ∷ word k.kind ∷ (written_notes k.notes ++ semicolon ∷ [])
+written_key k = written_exp k.exp ++ colon ∷ id k.kind ∷ (written_notes k.notes ++ semicolon ∷ [])
 
 -- the word that a property begins with
-abbrev pub property_word : Property → List ℕ
-property_word (property.Key ks) = keyword_text16 key.Key
-property_word (property.Actions names) = keyword_text16 key.Actions
-property_word (property.Size n) = keyword_text16 key.Size
-property_word (property.Counters text) = keyword_text16 key.Counters
-property_word (property.DefaultAction a arguments) = keyword_text16 key.DefaultAction
+abbrev pub property_word : Property → Keyword16
+property_word (property.Key ks) = key.Key
+property_word (property.Actions names) = key.Actions
+property_word (property.Size n) = key.Size
+property_word (property.Counters text) = key.Counters
+property_word (property.DefaultAction a arguments) = key.DefaultAction
 
 -- what stands behind the `=`
 abbrev pub written_property_value : Property → List Seen16
 written_property_value (property.Key ks) = in_braces (flat_map written_key ks)
 written_property_value (property.Actions names) = in_braces (flat_map written_listed_action names)
 written_property_value (property.Size n) = number n ∷ semicolon ∷ []
-written_property_value (property.Counters text) = word text ∷ semicolon ∷ []
+written_property_value (property.Counters text) = id text ∷ semicolon ∷ []
 written_property_value (property.DefaultAction a arguments) =
     written_action_name a ++ (in_parens (written_exp arguments) ++ semicolon ∷ [])
 
 abbrev pub written_property : Property → List Seen16
-written_property p = word (property_word p) ∷ equals ∷ written_property_value p
+written_property p = quoted (property_word p) ∷ equals ∷ written_property_value p
 
 abbrev pub written_table : Table16 → List Seen16
 written_table t =
-    written_notes t.notes ++ keyword key.Table ∷ word t.name ∷ in_braces (flat_map written_property t.properties)
+    written_notes t.notes ++ quoted key.Table ∷ id t.name ∷ in_braces (flat_map written_property t.properties)
 
 abbrev pub written_local : Local → List Seen16
 written_local (local.Instance notes i) = written_object notes i
@@ -286,22 +286,22 @@ written_local (local.Table t) = written_table t
 
 abbrev pub written_control : Control16 → List Seen16
 written_control c =
-    keyword key.Control ∷ word c.name
-    ∷ (written_params c.parameters ++ in_braces (flat_map written_local c.locals ++ keyword key.Apply ∷ written_block c.body))
+    quoted key.Control ∷ id c.name
+    ∷ (written_params c.parameters ++ in_braces (flat_map written_local c.locals ++ quoted key.Apply ∷ written_block c.body))
 
 -- declarations
 
 abbrev pub written_bit_field : BitField → List Seen16
-written_bit_field f = written_bit f.width ++ word f.name ∷ semicolon ∷ []
+written_bit_field f = written_bit f.width ++ id f.name ∷ semicolon ∷ []
 
 abbrev pub written_header : Header16 → List Seen16
-written_header h = keyword key.Header ∷ word h.name ∷ in_braces (flat_map written_bit_field h.fields)
+written_header h = quoted key.Header ∷ id h.name ∷ in_braces (flat_map written_bit_field h.fields)
 
 abbrev pub written_struct_field : StructField → List Seen16
-written_struct_field f = written_notes f.notes ++ (written_type f.of ++ word f.name ∷ semicolon ∷ [])
+written_struct_field f = written_notes f.notes ++ (written_type f.of ++ id f.name ∷ semicolon ∷ [])
 
 abbrev pub written_struct : Struct16 → List Seen16
-written_struct s = keyword key.Struct ∷ word s.name ∷ in_braces (flat_map written_struct_field s.fields)
+written_struct s = quoted key.Struct ∷ id s.name ∷ in_braces (flat_map written_struct_field s.fields)
 
 abbrev pub written_decl : Decl16 → List Seen16
 written_decl (decl.Header h) = written_header h
@@ -313,7 +313,7 @@ written_decl (decl.Control c) = written_control c
 -- `V1Switch ( NAME ( ) , .. ) main ;`
 abbrev pub written_main : List (List ℕ) → List Seen16
 written_main names =
-    keyword key.V1Switch ∷ (in_parens (by_commas written_block_name names) ++ keyword key.Main ∷ semicolon ∷ [])
+    quoted key.V1Switch ∷ (in_parens (by_commas written_block_name names) ++ quoted key.Main ∷ semicolon ∷ [])
 
 abbrev pub written : Syntax16 → List Seen16
 written s =
