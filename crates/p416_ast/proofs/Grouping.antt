@@ -51,7 +51,7 @@ pub not_written_so : list_any (is_exp with_parentheses) (
     ∷ listed (argument no_arguments a)
     ∷ call a (argument no_arguments (parenthesized (listed no_arguments)))
     ∷ call a (argument no_arguments (listed (argument no_arguments (listed no_arguments))))
-      ∷ []) ≡ false
+    ∷ []) ≡ false
 not_written_so = refl
 
 -- a syntax has no parentheses, and any grouping
