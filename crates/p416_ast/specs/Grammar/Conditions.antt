@@ -144,8 +144,8 @@ are_arguments m e = is_exp_at m (many false) e
 
 -- a call, maybe in parentheses
 abbrev pub is_call : Exp16 → Bool
-is_call (call e arguments) = true
-is_call (lookahead e of arguments) = true
+is_call (call e given) = true
+is_call (lookahead e of given) = true
 is_call (parenthesized e) = is_call e
 is_call _ = false
 

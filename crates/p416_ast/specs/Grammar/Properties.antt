@@ -38,7 +38,7 @@ counters_of (other ∷ rest) = counters_of rest
 -- the default action
 abbrev pub default_action_of : List Property → Option ActionName
 default_action_of [] = None
-default_action_of (property.DefaultAction a arguments ∷ rest) = Some a
+default_action_of (property.DefaultAction a given ∷ rest) = Some a
 default_action_of (other ∷ rest) = default_action_of rest
 
 -- the argument list of the default action

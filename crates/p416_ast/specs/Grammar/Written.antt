@@ -260,7 +260,7 @@ property_word (property.Key ks) = key.Key
 property_word (property.Actions names) = key.Actions
 property_word (property.Size n) = key.Size
 property_word (property.Counters text) = key.Counters
-property_word (property.DefaultAction a arguments) = key.DefaultAction
+property_word (property.DefaultAction a given) = key.DefaultAction
 
 -- what stands behind the `=`
 abbrev pub written_property_value : Property → List Seen16
