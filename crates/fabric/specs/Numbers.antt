@@ -18,3 +18,7 @@ pub record IsArrival (arrival : Arrival) : Type 0 where
   pub port : IsPort arrival.port
   pub seconds : arrival.seconds < 2 ^ 32
   pub fraction : arrival.fraction < 2 ^ 32
+
+-- it has a port that packets come in on
+abbrev pub HasPort : Arrival → Type 0
+HasPort arrival = IsPort arrival.port

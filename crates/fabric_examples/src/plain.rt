@@ -1,5 +1,5 @@
 // Which numbers are bounds, and what crosses threads.
-use crate::{
+use fabric::{
     Arrival, EgressEnd, EgressNext, Event, Fate, IngressEnd, IngressNext, Item, MOST_PASSES, Out,
     RequestKind, RunResult, Sent, is_bound,
 };

@@ -18,6 +18,22 @@ pub struct Item<Q> {
     pub kept: Q,
 }
 
+/// What waits for a pass in a packet's queue.
+///
+/// `H` is what a runner holds of a packet between ingress and egress.
+#[derive(Debug, Drop)]
+pub enum Job<Q, H> {
+    /// A packet that came in, or one that was resubmitted or recirculated: it is parsed and goes through
+    /// ingress.
+    Ordinary(Item<Q>),
+    /// A clone made at the end of ingress, with the port of its session, 0 to `state_store::GREATEST_PORT`:
+    /// it is parsed and goes to egress on that port.
+    IngressClone(u16, Item<Q>),
+    /// A clone made at the end of egress, with the port of its session, 0 to `state_store::GREATEST_PORT`: it
+    /// goes to egress on that port.
+    EgressClone(u16, H),
+}
+
 /// How parsing and ingress of an item end.
 ///
 /// `H` is what a runner holds of a packet between ingress and egress.

@@ -1,0 +1,5 @@
+pub mod QueueRuns
+pub mod OwnJobs
+pub mod SameRuns
+pub mod Tracing
+pub mod Joining

@@ -1,0 +1,252 @@
+// The queue of one packet, and its passes.
+ghost use Rattle.std.specs.Prelude.{◌≡◌, ◌++◌, ◌∷◌, [], IfOk, OnOk};
+ghost use Rattle.state_store.specs.Ports.{IsPort, AreSessions};
+ghost use Rattle.fabric.specs.declared.items.Job.TheVariants.{Ordinary};
+ghost use Rattle.fabric.specs.Numbers.{IsBound};
+ghost use Rattle.fabric.specs.Fabric.{port_of, clone_of, ingress_clones, egress_clones, resubmitted, after_egress, after_ingress, pass, fabric};
+ghost use Rattle.fabric.specs.Owned.{IsOwnItem, IsOwnIngressNext};
+ghost use Rattle.fabric.specs.internal.Progress.{IsOwnJob, Leaves};
+
+use crate::calls::Passes;
+use crate::items::{EgressNext, IngressNext, Item, Job};
+use crate::packets::{Arrival, Fate, Out};
+use crate::queue::Queue;
+use p4x_bits::{Octets, OutOfMemory, Rows};
+use state_store::Session;
+use std::alloc::Global;
+
+/// What the passes of a packet so far left: the items that wait, and what was sent.
+#[derive(Drop)]
+struct Progress<J: Drop> {
+    queue: Queue<J>,
+    sent: Rows<Out>,
+}
+
+/// The port of the session of this number, None exactly where no session has it.
+fn port_of(sessions: &[Session], number: u32) -> Option<u16>
+    ensures { result ≡ port_of sessions.now number }
+{
+    for session in sessions {
+        if session.number == number {
+            return Some(session.port);
+        }
+    }
+    None
+}
+
+/// The clone that is made of a request: the port of its session, and what is cloned. None where none was asked for, and
+/// where the session is unknown.
+fn clone_of<X: Drop>(sessions: &[Session], asked: Option<(u32, X)>) -> Option<(u16, X)>
+    ensures { result ≡ clone_of sessions.now asked }
+{
+    let (number, what) = asked?;
+    let port = port_of(sessions, number)?;
+    Some((port, what))
+}
+
+/// Queues the clone that is made at the end of ingress, if any. The octets are moved.
+fn queue_ingress_clone<Q: Drop, H: Drop>(
+    queue: &mut Queue<Job<Q, H>>,
+    octets: Octets,
+    from: u16,
+    clone: Option<(u16, Q)>,
+) -> Result<(), OutOfMemory>
+    ensures { OnOk result (queue.new ≡ queue.old ++ ingress_clones octets from clone) }
+{
+    if let Some((port, kept)) = clone {
+        let came = Item {
+            octets,
+            port: from,
+            instance: 1,
+            kept,
+        };
+        queue.push(Job::IngressClone(port, came))?;
+    }
+    Ok(())
+}
+
+/// Queues the clone that is made at the end of egress, if any.
+fn queue_egress_clone<Q: Drop, H: Drop>(
+    queue: &mut Queue<Job<Q, H>>,
+    clone: Option<(u16, H)>,
+) -> Result<(), OutOfMemory>
+    ensures { OnOk result (queue.new ≡ queue.old ++ egress_clones clone) }
+{
+    if let Some((port, held)) = clone {
+        queue.push(Job::EgressClone(port, held))?;
+    }
+    Ok(())
+}
+
+/// Queues the clone that is made at the end of ingress, if any, and behind it the resubmitted packet. The octets are
+/// copied only where both need them.
+fn queue_resubmitted<Q: Drop, H: Drop>(
+    alloc: Global,
+    queue: &mut Queue<Job<Q, H>>,
+    octets: Octets,
+    from: u16,
+    clone: Option<(u16, Q)>,
+    kept: Q,
+) -> Result<(), OutOfMemory>
+    ensures { OnOk result (queue.new ≡ queue.old ++ (ingress_clones octets from clone ++ resubmitted octets from kept ∷ [])) }
+{
+    if clone.is_some() {
+        let copied = Octets::from_slice(alloc, octets.as_slice())?;
+        queue_ingress_clone(queue, copied, from, clone)?;
+    }
+    queue.push(Job::Ordinary(Item {
+        octets,
+        port: from,
+        instance: 6,
+        kept,
+    }))
+}
+
+/// Egress of what is held, and what comes of the packet after it.
+fn make_egress<P: Passes>(
+    passes: &mut P,
+    progress: &mut Progress<Job<P::Kept, P::Held>>,
+    sessions: &[Session],
+    from: u16,
+    held: P::Held,
+    port: u16,
+    instance: u32,
+) -> Result<(), OutOfMemory>
+    requires sessions { AreSessions sessions.now }
+    requires from { IsPort from }
+    requires port { IsPort port }
+    requires own { (P.own (P.setting passes.old)).held held }
+    ensures setting { OnOk result (P.setting passes.new ≡ P.setting passes.old) }
+    ensures leaves { let ended = after_egress sessions.now from port ((P.machine (P.setting passes.old)).egress (P.state passes.old) held port instance) in
+        OnOk result (Leaves (IsOwnJob (P.own (P.setting passes.old))) ended (P.state passes.new) progress.old progress.new) }
+{
+    let ended = passes.egress(held, port, instance)?;
+    queue_egress_clone(&mut progress.queue, clone_of(sessions, ended.clone))?;
+    match ended.end {
+        EgressNext::Drop => {}
+        EgressNext::Recirculate(octets, kept) => {
+            progress.queue.push(Job::Ordinary(Item {
+                octets,
+                port: from,
+                instance: 4,
+                kept,
+            }))?;
+        }
+        EgressNext::Send(octets) => {
+            progress.sent.push(Out { port, octets })?;
+        }
+    }
+    Ok(())
+}
+
+/// Parsing and ingress of an ordinary item, and what comes of it.
+fn make_ingress<P: Passes>(
+    alloc: Global,
+    passes: &mut P,
+    progress: &mut Progress<Job<P::Kept, P::Held>>,
+    sessions: &[Session],
+    from: u16,
+    came: Item<P::Kept>,
+) -> Result<(), OutOfMemory>
+    requires sessions { AreSessions sessions.now }
+    requires from { IsPort from }
+    requires own { IsOwnItem (P.own (P.setting passes.old)) came }
+    ensures setting { OnOk result (P.setting passes.new ≡ P.setting passes.old) }
+    ensures leaves { let ended = pass (P.machine (P.setting passes.old)) sessions.now from (P.state passes.old) (Ordinary came) in
+        OnOk result (Leaves (IsOwnJob (P.own (P.setting passes.old))) ended (P.state passes.new) progress.old progress.new) }
+{
+    let ended = passes.ingress(&came)?;
+    let clone = clone_of(sessions, ended.clone);
+    match ended.next {
+        IngressNext::Resubmit(kept) => {
+            queue_resubmitted(alloc, &mut progress.queue, came.octets, from, clone, kept)?;
+        }
+        IngressNext::Drop => {
+            queue_ingress_clone(&mut progress.queue, came.octets, from, clone)?;
+        }
+        IngressNext::Go(port, held) => {
+            queue_ingress_clone(&mut progress.queue, came.octets, from, clone)?;
+            make_egress(passes, progress, sessions, from, held, port, came.instance)?;
+        }
+    }
+    Ok(())
+}
+
+/// One pass, of what was taken from the queue.
+fn make_pass<P: Passes>(
+    alloc: Global,
+    passes: &mut P,
+    progress: &mut Progress<Job<P::Kept, P::Held>>,
+    sessions: &[Session],
+    from: u16,
+    job: Job<P::Kept, P::Held>,
+) -> Result<(), OutOfMemory>
+    requires sessions { AreSessions sessions.now }
+    requires from { IsPort from }
+    requires own { IsOwnJob (P.own (P.setting passes.old)) job }
+    ensures setting { OnOk result (P.setting passes.new ≡ P.setting passes.old) }
+    ensures leaves { let ended = pass (P.machine (P.setting passes.old)) sessions.now from (P.state passes.old) job in
+        OnOk result (Leaves (IsOwnJob (P.own (P.setting passes.old))) ended (P.state passes.new) progress.old progress.new) }
+{
+    match job {
+        Job::Ordinary(came) => make_ingress(alloc, passes, progress, sessions, from, came),
+        Job::IngressClone(port, came) => {
+            let held = passes.reparse(&came)?;
+            make_egress(passes, progress, sessions, from, held, port, came.instance)
+        }
+        Job::EgressClone(port, held) => {
+            make_egress(passes, progress, sessions, from, held, port, 2)
+        }
+    }
+}
+
+/// What becomes of a packet that comes in: its passes, and those of all that comes of it, at most `bound` of them. What
+/// still waits then is cut.
+///
+/// The octets of the arrival are copied once; from there on they are moved, and copied only where a clone and a
+/// resubmitted packet both need them. No memory is taken for the queue while one item waits at a time.
+///
+/// # Errors
+/// It fails for want of memory alone, and then the passes are not used again.
+pub fn serve<P: Passes>(
+    alloc: Global,
+    passes: &mut P,
+    sessions: &[Session],
+    arrival: &Arrival,
+    bound: u32,
+) -> Result<Fate, OutOfMemory>
+    requires sessions { AreSessions sessions.now }
+    requires from { IsPort arrival.now.port }
+    requires bound { IsBound bound }
+    ensures setting { OnOk result (P.setting passes.new ≡ P.setting passes.old) }
+    ensures fate { IfOk result (λ fate. fabric (P.machine (P.setting passes.old)) sessions.now bound (P.state passes.old) arrival.now ≡ record { state = P.state passes.new; sent = fate.sent; cut = fate.cut }) }
+{
+    let kept = passes.nothing()?;
+    let from = arrival.port;
+    let came = Item {
+        octets: Octets::from_slice(alloc, arrival.octets.as_slice())?,
+        port: from,
+        instance: 0,
+        kept,
+    };
+    let mut progress = Progress {
+        queue: Queue::new(alloc),
+        sent: Rows::new(alloc),
+    };
+    progress.queue.push(Job::Ordinary(came))?;
+    let mut left = bound;
+    while left > 0 {
+        match progress.queue.pop() {
+            None => break,
+            Some(job) => {
+                left -= 1;
+                make_pass(alloc, passes, &mut progress, sessions, from, job)?;
+            }
+        }
+    }
+    let cut = progress.queue.count();
+    Ok(Fate {
+        sent: progress.sent,
+        cut,
+    })
+}
