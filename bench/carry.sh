@@ -7,7 +7,7 @@ set -eu
 top=$(cd "$(dirname "$0")/.." && pwd)
 work=$(mktemp -d)
 trap 'rm -rf "$work"' EXIT
-for crate in p4x_bits p4x_fault text_lines p4x_io state_store match_core fabric pcap_io node_lists p416_ast command_words file_work run_stream p4x_cmd p4x; do
+for crate in $("$top/bench/below.sh" p4x); do
     mkdir -p "$work/crates/$crate"
     for part in src specs proofs data; do
         if [ -e "$top/crates/$crate/$part" ]; then cp -r "$top/crates/$crate/$part" "$work/crates/$crate"; fi

@@ -1,7 +1,7 @@
 #!/bin/sh
 # Times look-ups, CRCs and sums, beside the plain scan of match_core and beside BTreeMap of plain Rust, and prints a table of
 # what is done in a second: the best of three runs. Then fields.sh times fields of bits, reading.sh the reading of P4_14, judging.sh
-# the rules of declarations, and carry.sh the command itself.
+# the rules of declarations, carry.sh the command `carry`, and check.sh `check` and `order`.
 # It wants rt and rustc. The gate doesn't run it. The program is proved first, in a scratch copy of the crates that it calls.
 set -eu
 top=$(cd "$(dirname "$0")/.." && pwd)
@@ -38,3 +38,4 @@ for _ in 1 2 3; do out/bench_tables; "$work/baseline"; done | awk '
 "$top/bench/reading.sh"
 "$top/bench/judging.sh"
 "$top/bench/carry.sh"
+"$top/bench/check.sh"

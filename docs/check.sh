@@ -77,6 +77,9 @@ printf "$ZEROS\000\000\000\000" >zeros.pcap
 printf "\324\303\262\241$ZEROS" >version.pcap
 printf "$HEAD\000" >short.pcap
 printf "$HEAD\001\000\000\000\002\000\000\000\000\000\001\000\000\000\001\000" >long.pcap
+printf '$' >dollar.p4
+printf header >header.p4
+truncate -s 1048577 big.p4
 truncate -s 4194305 big.txt
 truncate -s 1073741825 big.pcap
 
@@ -109,6 +112,16 @@ carry 5 'refused K4' text 24 0 p1.p4 entries.txt short.pcap
 carry 5 'refused K5' text 24 0 p1.p4 entries.txt long.pcap
 carry 6 'limit ports' none none none p1.p4 entries.txt in.pcap --ports big.txt
 carry 6 'limit capture' text 0 0 p1.p4 entries.txt big.pcap
+expect 0 accepted none none none check p1.p4
+expect 0 eth none none none order p1.p4
+for command in check order; do
+    expect 1 fault none none none $command none.p4
+    expect 2 usage none none none $command p1.p4 entries.txt
+    expect 3 'refused L1 at 1:1' none none none $command dollar.p4
+    expect 3 'refused S1 at 1:7' none none none $command header.p4
+    expect 3 'refused C2' none none none $command empty.p4
+    expect 6 'limit program' none none none $command big.p4
+done
 
 # docs/CARRY14.md
 changed 2 '/* one header */ header eth_t eth;'

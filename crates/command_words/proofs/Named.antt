@@ -3,7 +3,7 @@ use Rattle.std.proofs.Common.{◌≡◌, ℕ, Bool, true, false, ◌&&◌, if◌
 use Rattle.std.specs.Option.{option_map, option_and_then}
 use Rattle.std.specs.Str.{bytes_eq}
 use Rattle.command_words.specs.Apart.{are_apart, AreApart}
-use Rattle.command_words.specs.Words.{CarryFiles, Command, carry, carry_inputs, carry_outputs, inputs_of, outputs_of, is_name, is_value, are_ports, are_names, Options, no_options, options_in, carry_with, carry_form, form}
+use Rattle.command_words.specs.Words.{CarryFiles, Command, carry, check, order, carry_inputs, carry_outputs, inputs_of, outputs_of, is_name, is_value, are_ports, are_names, Options, no_options, options_in, carry_with, carry_form, program_form, form}
 use Rattle.command_words.proofs.Distinct.{last, apart_is}
 
 named : (f : CarryFiles) → are_names f ≡ true → AreApart (carry_inputs f) (carry_outputs f)
@@ -47,10 +47,24 @@ by_form : (words : List (List ℕ)) (c : Command) (o : Option CarryFiles) → ca
 by_form words c None here is = absurd (cc is)
 by_form words c (Some g) here is = let same : carry g ≡ c = cc is in subst (λ (x : Command). AreApart (inputs_of x) (outputs_of x)) same (carry_apart words g here)
 
-by_word : (words : List (List ℕ)) (c : Command) (b : Bool) → (if b then option_map (λ f. carry f) (carry_form words) else None) ≡ Some c → AreApart (inputs_of c) (outputs_of c)
-by_word words c true is = by_form words c (carry_form words) refl is
-by_word words c false is = absurd (cc is)
+-- commands that write no file
+by_check : (c : Command) (o : Option (List ℕ)) → option_map (λ p. check p) o ≡ Some c → AreApart (inputs_of c) (outputs_of c)
+by_check c None is = absurd (cc is)
+by_check c (Some program) is = let same : check program ≡ c = cc is in subst (λ (x : Command). AreApart (inputs_of x) (outputs_of x)) same tt
+
+by_order : (c : Command) (o : Option (List ℕ)) → option_map (λ p. order p) o ≡ Some c → AreApart (inputs_of c) (outputs_of c)
+by_order c None is = absurd (cc is)
+by_order c (Some program) is = let same : order program ≡ c = cc is in subst (λ (x : Command). AreApart (inputs_of x) (outputs_of x)) same tt
+
+by_word : (words : List (List ℕ)) (c : Command) (is_carry is_check is_order : Bool)
+    → (if is_carry then option_map (λ f. carry f) (carry_form words)
+    else (if is_check then option_map (λ p. check p) (program_form words) else (if is_order then option_map (λ p. order p) (program_form words) else None))) ≡ Some c
+    → AreApart (inputs_of c) (outputs_of c)
+by_word words c true is_check is_order is = by_form words c (carry_form words) refl is
+by_word words c false true is_order is = by_check c (program_form words) is
+by_word words c false false true is = by_order c (program_form words) is
+by_word words c false false false is = absurd (cc is)
 
 pub form_apart : (words : List (List ℕ)) (c : Command) → form words ≡ Some c → AreApart (inputs_of c) (outputs_of c)
 form_apart [] c is = absurd (cc is)
-form_apart (command ∷ words) c is = by_word words c (bytes_eq command (codes "carry")) is
+form_apart (command ∷ words) c is = by_word words c (bytes_eq command (codes "carry")) (bytes_eq command (codes "check")) (bytes_eq command (codes "order")) is

@@ -2,8 +2,8 @@
 use Rattle.std.specs.Prelude.{option_map}
 use Rattle.command_words.specs.declared.command.CarryNames.{CarryNames}
 use Rattle.command_words.specs.declared.command.Command.{Command as Read}
-use Rattle.command_words.specs.declared.command.Command.TheVariants.{Carry}
-use Rattle.command_words.specs.Words.{CarryFiles, Command, carry}
+use Rattle.command_words.specs.declared.command.Command.TheVariants.{Carry, Check, Order}
+use Rattle.command_words.specs.Words.{CarryFiles, Command, carry, check, order}
 
 -- the files that names are of
 abbrev pub files_of : CarryNames → CarryFiles
@@ -20,3 +20,5 @@ files_of n = record {
 -- the command that was read
 abbrev pub command_of : Read → Command
 command_of (Carry names) = carry (files_of names)
+command_of (Check program) = check program.now
+command_of (Order program) = order program.now

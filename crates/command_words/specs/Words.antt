@@ -16,6 +16,8 @@ pub record CarryFiles : Type 0 where
 -- a command with its names and options
 pub data Command : Type 0 where
   carry : (files : CarryFiles) → Command
+  check : (program : List ℕ) → Command
+  order : (program : List ℕ) → Command
 
 -- the files that `carry` reads
 abbrev pub carry_inputs : CarryFiles → List (List ℕ)
@@ -28,10 +30,14 @@ carry_outputs f = f.text ∷ f.sent ∷ f.report ∷ []
 -- the files that a command reads
 abbrev pub inputs_of : Command → List (List ℕ)
 inputs_of (carry files) = carry_inputs files
+inputs_of (check program) = program ∷ []
+inputs_of (order program) = program ∷ []
 
 -- the files that a command writes
 abbrev pub outputs_of : Command → List (List ℕ)
 outputs_of (carry files) = carry_outputs files
+outputs_of (check program) = []
+outputs_of (order program) = []
 
 -- the name of an input file that is no option's isn't empty and doesn't begin with two dashes
 abbrev pub is_name : List ℕ → Bool
@@ -108,8 +114,19 @@ carry_form (program ∷ entries ∷ capture ∷ words) =
     (options_in words no_options)
 carry_form words = None
 
+-- a word that is the name of a file
+abbrev pub named : List ℕ → Option (List ℕ)
+named program = if is_name program then Some program else None
+
+-- PROGRAM, and no more
+abbrev pub program_form : List (List ℕ) → Option (List ℕ)
+program_form (program ∷ []) = named program
+program_form words = None
+
 -- The command that words are a form of: its name, and the words of its form behind it.
 abbrev pub form : List (List ℕ) → Option Command
 form (command ∷ words) =
-    if bytes_eq command (codes "carry") then option_map (λ f. carry f) (carry_form words) else None
+    if bytes_eq command (codes "carry") then option_map (λ f. carry f) (carry_form words)
+    else (if bytes_eq command (codes "check") then option_map (λ p. check p) (program_form words)
+    else (if bytes_eq command (codes "order") then option_map (λ p. order p) (program_form words) else None))
 form [] = None

@@ -7,6 +7,10 @@ ghost use Rattle.command_words.specs.Apart.{are_apart};
 pub enum Command<'a> {
     /// `carry PROGRAM ENTRIES CAPTURE --text F --sent F --report F [--ports F]`.
     Carry(CarryNames<'a>),
+    /// `check PROGRAM`.
+    Check(&'a str),
+    /// `order PROGRAM`.
+    Order(&'a str),
 }
 
 /// The files that `carry` names. No output is another output or an input.

@@ -1,7 +1,7 @@
 // The forms of the commands.
 ghost use Rattle.std.specs.Prelude.{◌≡◌, [], ◌∷◌, map, string_bytes, option_map, option_to_list, Some};
 ghost use Rattle.command_words.specs.Apart.{are_apart, AreApart};
-ghost use Rattle.command_words.specs.Words.{Command as Called, inputs_of, outputs_of, is_name, is_value, are_ports, carry_with, carry_form, form};
+ghost use Rattle.command_words.specs.Words.{Command as Called, inputs_of, outputs_of, is_name, is_value, are_ports, carry_with, carry_form, named, program_form, form};
 ghost use Rattle.command_words.specs.Views.{files_of, command_of};
 
 use crate::apart::are_apart;
@@ -108,6 +108,27 @@ fn read_carry(words: &[String]) -> Option<CarryNames<'_>>
     carry_with(inputs, found.text?, found.sent?, found.report?)
 }
 
+/// The file that the words behind `check` or `order` name; `None` exactly where they are no form of these: one name, and no more.
+fn read_program(words: &[String]) -> Option<&str>
+    ensures { option_map (λ name. name.now) result ≡ program_form (map string_bytes words.now) }
+{
+    let [program] = words else {
+        return None;
+    };
+    named(program.as_str())
+}
+
+// The name, where it is one of a file.
+fn named(program: &str) -> Option<&str>
+    ensures { option_map (λ name. name.now) result ≡ named program.now }
+{
+    if is_name(program) {
+        Some(program)
+    } else {
+        None
+    }
+}
+
 /// The command that the words are a form of; `None` exactly where they are a form of none. Its outputs are other files than its inputs and
 /// than each other.
 #[tactic(auto, using(crate::proofs::Named::form_apart))]
@@ -120,6 +141,8 @@ pub fn read_words(words: &[String]) -> Option<Command<'_>>
     };
     match command.as_str() {
         "carry" => Some(Command::Carry(read_carry(behind)?)),
+        "check" => Some(Command::Check(read_program(behind)?)),
+        "order" => Some(Command::Order(read_program(behind)?)),
         _ => None,
     }
 }

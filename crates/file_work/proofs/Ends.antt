@@ -3,7 +3,7 @@ use Rattle.std.proofs.Common.{◌≡◌, ◌⊎◌, inl, inr, ℕ, List, Option,
 use Rattle.p4x_fault.specs.declared.Fault.{Fault as Refusal}
 use Rattle.file_work.specs.declared.stop.Limited.{Limited}
 use Rattle.file_work.specs.declared.stop.Stop.{Stop}
-use Rattle.file_work.specs.declared.stop.Stop.TheVariants.{Fault, Usage, Program, Entries, Refused, Limit, Memory}
+use Rattle.file_work.specs.declared.stop.Stop.TheVariants.{Fault, Usage, Program, Judged, Entries, Refused, Limit, Memory}
 use Rattle.file_work.specs.Stops.{code_of, stop_code}
 use Rattle.file_work.specs.Works.{IsLoose}
 
@@ -26,6 +26,7 @@ pub not_done : (stop : Stop) → 0 ≡ stop_code stop → ⊥
 not_done Fault is = omega arith
 not_done Usage is = omega arith
 not_done Program is = omega arith
+not_done (Judged fault) is = omega arith
 not_done Entries is = omega arith
 not_done (Refused fault) is = omega arith
 not_done (Limit file) is = omega arith
@@ -37,6 +38,7 @@ is_fault (Ok line) is = absurd (omega arith)
 is_fault (Err Fault) is = refl
 is_fault (Err Usage) is = absurd (omega arith)
 is_fault (Err Program) is = absurd (omega arith)
+is_fault (Err (Judged fault)) is = absurd (omega arith)
 is_fault (Err Entries) is = absurd (omega arith)
 is_fault (Err (Refused fault)) is = absurd (omega arith)
 is_fault (Err (Limit file)) is = absurd (omega arith)
@@ -47,16 +49,22 @@ is_usage (Ok line) is = absurd (omega arith)
 is_usage (Err Fault) is = absurd (omega arith)
 is_usage (Err Usage) is = refl
 is_usage (Err Program) is = absurd (omega arith)
+is_usage (Err (Judged fault)) is = absurd (omega arith)
 is_usage (Err Entries) is = absurd (omega arith)
 is_usage (Err (Refused fault)) is = absurd (omega arith)
 is_usage (Err (Limit file)) is = absurd (omega arith)
 is_usage (Err Memory) is = absurd (omega arith)
 
-pub is_program : (end : Result (List ℕ) Stop) → code_of end ≡ 3 → end ≡ Err Program
+-- the program isn't taken, for whatever reason
+abbrev pub RefusesProgram : Result (List ℕ) Stop → Type 0
+RefusesProgram end = (end ≡ Err Program) ⊎ ((fault : Refusal) × (end ≡ Err (Judged fault)))
+
+pub is_program : (end : Result (List ℕ) Stop) → code_of end ≡ 3 → RefusesProgram end
 is_program (Ok line) is = absurd (omega arith)
 is_program (Err Fault) is = absurd (omega arith)
 is_program (Err Usage) is = absurd (omega arith)
-is_program (Err Program) is = refl
+is_program (Err Program) is = inl refl
+is_program (Err (Judged fault)) is = inr (fault, refl)
 is_program (Err Entries) is = absurd (omega arith)
 is_program (Err (Refused fault)) is = absurd (omega arith)
 is_program (Err (Limit file)) is = absurd (omega arith)
@@ -67,6 +75,7 @@ is_entries (Ok line) is = absurd (omega arith)
 is_entries (Err Fault) is = absurd (omega arith)
 is_entries (Err Usage) is = absurd (omega arith)
 is_entries (Err Program) is = absurd (omega arith)
+is_entries (Err (Judged fault)) is = absurd (omega arith)
 is_entries (Err Entries) is = refl
 is_entries (Err (Refused fault)) is = absurd (omega arith)
 is_entries (Err (Limit file)) is = absurd (omega arith)
@@ -77,6 +86,7 @@ is_refused (Ok line) is = absurd (omega arith)
 is_refused (Err Fault) is = absurd (omega arith)
 is_refused (Err Usage) is = absurd (omega arith)
 is_refused (Err Program) is = absurd (omega arith)
+is_refused (Err (Judged fault)) is = absurd (omega arith)
 is_refused (Err Entries) is = absurd (omega arith)
 is_refused (Err (Refused fault)) is = (fault, refl)
 is_refused (Err (Limit file)) is = absurd (omega arith)
@@ -87,6 +97,7 @@ is_limit (Ok line) is = absurd (omega arith)
 is_limit (Err Fault) is = absurd (omega arith)
 is_limit (Err Usage) is = absurd (omega arith)
 is_limit (Err Program) is = absurd (omega arith)
+is_limit (Err (Judged fault)) is = absurd (omega arith)
 is_limit (Err Entries) is = absurd (omega arith)
 is_limit (Err (Refused fault)) is = absurd (omega arith)
 is_limit (Err (Limit file)) is = (file, refl)

@@ -13,6 +13,8 @@ use p4x_io::{Failed, Sink, say};
 /// A file with a limit of its own that is over it.
 #[derive(Clone, Copy, Debug, PartialEq, Eq, Drop)]
 pub enum Limited {
+    /// The program.
+    Program,
     /// The ports file.
     Ports,
     /// The capture.
@@ -28,6 +30,8 @@ pub enum Stop {
     Usage,
     /// The program isn't one that is taken: status 3.
     Program,
+    /// The program breaks an L, S or C rule: status 3.
+    Judged(Fault),
     /// The entries aren't such as are taken: status 4.
     Entries,
     /// The ports break a P rule, or the capture a K rule: status 5.
@@ -73,6 +77,7 @@ fn say_stop<K: Sink>(out: &mut K, stop: Stop) -> u8
         Stop::Fault => say(out, b"fault\n", 1),
         Stop::Usage => say(out, b"usage\n", 2),
         Stop::Program => say_refusal(out, Rule::C(25), None, 3),
+        Stop::Judged(fault) => say_refusal(out, fault.rule, fault.place, 3),
         Stop::Entries => say_refusal(out, Rule::E(1), Some(START), 4),
         Stop::Refused(fault) => say_refusal(out, fault.rule, fault.place, 5),
         Stop::Limit(file) => say_limit(out, file),
@@ -85,6 +90,7 @@ fn say_limit<K: Sink>(out: &mut K, file: Limited) -> u8
     ensures { Says (limit_line file) 6 result (K.view out.old) (K.view out.new) }
 {
     match file {
+        Limited::Program => say(out, b"limit program\n", 6),
         Limited::Ports => say(out, b"limit ports\n", 6),
         Limited::Capture => say(out, b"limit capture\n", 6),
     }

@@ -1,16 +1,19 @@
 // What the person at the terminal is told beside the printed line. It is outside of every contract; its words are those of
 // docs/MESSAGES.md.
 
+use crate::rules::program_words;
 use std::{fmt, str};
 
 /// The forms of the commands.
 const FORMS: &str = "these words are no form of a command. The forms are:
   carry PROGRAM ENTRIES CAPTURE --text F --sent F --report F [--ports F]
-The three names come first, then the options, in any order and each at most once. A name isn't empty, and PROGRAM, ENTRIES and
+  check PROGRAM
+  order PROGRAM
+The names come first, then the options, in any order and each at most once. A name isn't empty, and PROGRAM, ENTRIES and
 CAPTURE don't begin with --. The outputs --text, --sent and --report are three other files than the inputs.";
 
-/// What a rule asks, and what was found in its place.
-fn rule_words(rule: &str) -> &'static str {
+/// What a rule of a file that `carry` reads asks, and what was found in its place.
+fn carry_words(rule: &str) -> &'static str {
     match rule {
         "C25" =>
             "the program isn't of the one form that is taken yet, or has more than 1,048,576 octets",
@@ -28,6 +31,23 @@ fn rule_words(rule: &str) -> &'static str {
     }
 }
 
+/// What a rule asks, by the command.
+fn rule_words(words: &[String], rule: &str) -> &'static str {
+    if is_carry(words) {
+        carry_words(rule)
+    } else {
+        program_words(rule).unwrap_or("the file breaks this rule")
+    }
+}
+
+/// Whether the command is `carry`.
+fn is_carry(words: &[String]) -> bool {
+    match words.first() {
+        Some(command) => command.as_str() == "carry",
+        None => false,
+    }
+}
+
 /// What is told of a call of the program that didn't end with status 0.
 #[derive(Clone, Copy, Drop)]
 pub enum Advice<'a> {
@@ -40,6 +60,7 @@ pub enum Advice<'a> {
         file: &'a str,
         rule: &'a str,
         place: Option<&'a str>,
+        asked: &'static str,
     },
     /// A file is over its limit, in octets.
     Over {
@@ -71,9 +92,16 @@ fn of_file<'a>(words: &'a [String], line: &'a str) -> Option<Advice<'a>> {
             None => (told, None),
         };
         let file = file_of(words, rule)?;
-        return Some(Advice::Refused { file, rule, place });
+        let asked = rule_words(words, rule);
+        return Some(Advice::Refused {
+            file,
+            rule,
+            place,
+            asked,
+        });
     }
     match line {
+        "limit program" => over(file_of(words, "C"), "1,048,576"),
         "limit ports" => over(file_of(words, "P"), "4,194,304"),
         "limit capture" => over(file_of(words, "K"), "1,073,741,824"),
         _ => None,
@@ -113,8 +141,13 @@ fn option_of<'a>(words: &'a [String], option: &str) -> Option<&'a str> {
 /// Tells of a fault, with the files that were in use.
 fn tell_fault<W: fmt::Write>(words: &[String], f: &mut fmt::Formatter<W>) -> fmt::Result {
     f.write_str("a file couldn't be read, made or written, or the line couldn't be printed")?;
-    if let [_, program, entries, capture, ..] = words {
-        write!(f, "; it reads {program}, {entries}, {capture}")?;
+    match words {
+        [_, program] => write!(f, "; it reads {program}")?,
+        [_, program, entries, capture, ..] => write!(
+            f,
+            "; it reads {program}, {entries}, {capture}"
+        )?,
+        _ => {}
     }
     if let Some(ports) = option_of(words, "--ports") {
         write!(f, ", {ports}")?;
@@ -135,13 +168,17 @@ impl fmt::Display for Advice<'_> {
         match *self {
             Advice::Fault(words) => tell_fault(words, f),
             Advice::Forms => f.write_str(FORMS),
-            Advice::Refused { file, rule, place } => {
+            Advice::Refused {
+                file,
+                rule,
+                place,
+                asked,
+            } => {
                 f.write_str(file)?;
                 if let Some(place) = place {
                     write!(f, ":{place}")?;
                 }
-                let words = rule_words(rule);
-                write!(f, ": {words} ({rule})")
+                write!(f, ": {asked} ({rule})")
             }
             Advice::Over { file, limit } => write!(
                 f,

@@ -3,6 +3,7 @@
 
 mod advice;
 mod heard;
+mod rules;
 #[cfg(test)]
 mod tests;
 

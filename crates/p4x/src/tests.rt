@@ -24,7 +24,19 @@ fn expect_told(
     for word in WORDS.iter().take(count) {
         words.push(String::from_str(alloc, *word)?)?;
     }
-    let told = match advice_on(&words, status, line.as_bytes()) {
+    expect_advice(rt, alloc, &words, status, line, expected)
+}
+
+/// What is told of a call with these words; nothing where the text is empty.
+fn expect_advice(
+    rt: &impl Abort,
+    alloc: Global,
+    words: &[String],
+    status: u8,
+    line: &str,
+    expected: &str,
+) -> Result<(), Fail> {
+    let told = match advice_on(words, status, line.as_bytes()) {
         Some(advice) => format!(in alloc; "{advice}")?,
         None => String::new(alloc),
     };
@@ -78,6 +90,40 @@ fn a_fault_tells_the_files_in_use(rt: HostRuntime) -> Result<(), Fail> {
     expect_told(&rt, alloc, 0, 1, "usag", cause)?;
     let files = format!(in alloc; "{cause}; it reads p, e, c, o, and writes t, s, r")?;
     expect_told(&rt, alloc, 12, 1, "fault\n", &files)
+}
+
+#[test]
+fn a_command_that_reads_a_program_tells_of_it(rt: HostRuntime) -> Result<(), Fail> {
+    let alloc = rt.alloc();
+    for (status, line, told) in [
+        (
+            3,
+            "refused S1 at 3:1\n",
+            "p4x: p:3:1: no program has this here, or none ends here (S1)",
+        ),
+        (
+            3,
+            "refused C25\n",
+            "p4x: p: the program has something that is left out of P4_14 here (C25)",
+        ),
+        (
+            6,
+            "limit program\n",
+            "p4x: p: the file has more than 1,048,576 octets",
+        ),
+        (
+            1,
+            "fault\n",
+            "p4x: a file couldn't be read, made or written, or the line couldn't be printed; it reads p",
+        ),
+        (0, "accepted\n", ""),
+    ] {
+        let mut words: Vec<String> = Vec::new(alloc);
+        words.push(String::from_str(alloc, "check")?)?;
+        words.push(String::from_str(alloc, "p")?)?;
+        expect_advice(&rt, alloc, &words, status, line, told)?;
+    }
+    Ok(())
 }
 
 #[test]

@@ -6,9 +6,9 @@ use Rattle.fabric.specs.Numbers.{IsArrival}
 use Rattle.fabric.specs.declared.packets.Arrival.{Arrival}
 use Rattle.match_core.specs.declared.signatures.Signature.{Signature}
 use Rattle.match_core.specs.Signatures.{IsSignature}
-use Rattle.command_words.specs.Words.{CarryFiles, Command, carry, carry_inputs, carry_outputs, inputs_of, outputs_of}
+use Rattle.command_words.specs.Words.{CarryFiles, Command, carry, check, order, carry_inputs, carry_outputs, inputs_of, outputs_of}
 use Rattle.file_work.specs.declared.stop.Stop.{Stop}
-use Rattle.file_work.specs.declared.stop.Stop.TheVariants.{Fault, Program, Entries}
+use Rattle.file_work.specs.declared.stop.Stop.TheVariants.{Fault, Program, Judged, Entries}
 use Rattle.file_work.specs.Clauses.{Ended, OwnRose, AsDue}
 use Rattle.file_work.specs.Stops.{code_of, line_of}
 use Rattle.file_work.specs.Works.{Due, Leaves, Tells, AllExact, AllKept}
@@ -28,6 +28,8 @@ use Rattle.p4x_cmd.specs.Runs.{default_bound, this_run, this_run14}
 use Rattle.p4x_cmd.proofs.Captured.{Whole, whole_capture, empty_reports}
 use Rattle.p4x_cmd.proofs.Filling.{no_entries_fit, signature_is}
 use Rattle.p4x_cmd.proofs.Judging.{program_first, entries_first, ports_first}
+use Rattle.p4x_cmd.proofs.ProgramCauses.{no_usage, program_ends, program_statuses, program_done, program_left}
+use Rattle.program_commands.specs.Lines.{PrintsAccepted, PrintsOrder}
 use Rattle.p4x_cmd.proofs.Reading14.{reads14_once}
 use Rattle.p4x_cmd.proofs.Statuses.{AllStatuses, KnownSo, due_ends, statuses_are, begins_not}
 
@@ -172,7 +174,10 @@ module _ (f : CarryFiles) (files : List ℕ → Option (List ℕ)) (old new : De
       keeps = e.is.3
 
       by_program : status ≡ 3 → AllKept (carry_outputs f) old new
-      by_program three = keeps.own Program (is_program e.end (due_status (line_of e.end) (code_of e.end) status 3 before after e.says (λ one. omega arith) three)) (inl (inl refl))
+      by_program three = elim (is_program e.end (due_status (line_of e.end) (code_of e.end) status 3 before after e.says (λ one. omega arith) three)) [
+        | inl is ↦ keeps.own Program is (inl (inl (inl refl)))
+        | inr (fault, is) ↦ keeps.own (Judged fault) is (inl (inl (inr (fault, refl))))
+      ]
 
       by_entries : status ≡ 4 → AllKept (carry_outputs f) old new
       by_entries four = keeps.own Entries (is_entries e.end (due_status (line_of e.end) (code_of e.end) status 4 before after e.says (λ one. omega arith) four)) (inl (inr refl))
@@ -188,6 +193,8 @@ not_second A B C never (inr (inr c)) = inr c
 fault_works : (found : Option Command) (old new : DeskView) (before after : SinkView) (end : Result (List ℕ) Stop) → WorksFor found old new end → end ≡ Err Fault → OwnRose (inputs_in found) (outputs_in found) old new before after
 fault_works None old new before after end works is = absurd (cc (works.0, is))
 fault_works (Some (carry f)) old new before after end works is = inl (works.0.cause.fault is)
+fault_works (Some (check program)) old new before after end works is = inl (works.works.cause.fault is)
+fault_works (Some (order program)) old new before after end works is = inl (works.works.cause.fault is)
 
 usages : (found : Option Command) (old new : DeskView) (before after : SinkView) (status : ℕ) → Ended (WorksFor found old new) before after status → Usages found old new before after status
 usages None old new before after status ended = (by_line, ended.is.1)
@@ -201,20 +208,30 @@ usages (Some (carry f)) old new before after status ended = λ two. elim ended.s
   | inl whole ↦ ended.is.0.cause.usage (is_usage ended.end (sym whole.0 ∙ two))
   | inr cut ↦ omega (arith, cut.0)
 ]
+usages (Some (check program)) old new before after status ended = no_usage PrintsAccepted program old new before after status ended
+usages (Some (order program)) old new before after status ended = no_usage PrintsOrder program old new before after status ended
 
 ends : (found : Option Command) (old new : DeskView) (end : Result (List ℕ) Stop) → WorksFor found old new end → IsEnd found old end
 ends None old new end works = works.0
+ends (Some (check program)) old new end works = program_ends PrintsAccepted program old new end works
+ends (Some (order program)) old new end works = program_ends PrintsOrder program old new end works
 ends (Some (carry f)) old new end works = ((λ files told. left_ends (carry_outputs f) (CarryDue f files) old new end (works.0.leaves files told)), works.2)
 
 only : (found : Option Command) (old new : DeskView) (end : Result (List ℕ) Stop) → WorksFor found old new end → (name : List ℕ) → NoneIs name (outputs_in found) → new.told name ≡ old.told name
 only None old new end works name none = ap (λ (d : DeskView). d.told name) works.1
 only (Some (carry f)) old new end works name none = works.0.moves.others name none
+only (Some (check program)) old new end works name none = works.works.moves.others name none
+only (Some (order program)) old new end works name none = works.works.moves.others name none
 
 statuses_of : (c : Command) (files : List ℕ → Option (List ℕ)) (old new : DeskView) (before after : SinkView) (status : ℕ) → Ended (WorksFor (Some c) old new) before after status → Statuses c old files status
 statuses_of (carry f) files old new before after status ended = each_status f files old new before after status ended
+statuses_of (check program) files old new before after status ended = program_statuses PrintsAccepted program old new before after status ended files
+statuses_of (order program) files old new before after status ended = program_statuses PrintsOrder program old new before after status ended files
 
 kept_of : (c : Command) (files : List ℕ → Option (List ℕ)) (old new : DeskView) (before after : SinkView) (status : ℕ) → Ended (WorksFor (Some c) old new) before after status → Kept c files old new status
 kept_of (carry f) files old new before after status ended = kept_first f files old new before after status ended
+kept_of (check program) files old new before after status ended = tt
+kept_of (order program) files old new before after status ended = tt
 
 -- what holds of the work of a command
 module _ (c : Command) (files : List ℕ → Option (List ℕ)) (old new : DeskView) (before after : SinkView) (status : ℕ) (ended : Ended (WorksFor (Some c) old new) before after status) (told : Tells (inputs_of c) old files) where
@@ -224,6 +241,8 @@ module _ (c : Command) (files : List ℕ → Option (List ℕ)) (old new : DeskV
       by_command : (c : Command) → Ended (WorksFor (Some c) old new) before after status → Tells (inputs_of c) old files → AreTold (outputs_of c) old → Done c files new before after
       by_command (carry f) e t m =
           carried f files old new t m before after e.end e.is.1 (left_done (carry_outputs f) (CarryDue f files) old new e.end (e.is.0.leaves files t) before after status e.says zero)
+      by_command (check program) e t m = program_done PrintsAccepted program old new before after status e files t zero
+      by_command (order program) e t m = program_done PrintsOrder program old new before after status e files t zero
 
   left_of : Left c files old new status
   left_of = by_command c ended told
@@ -232,12 +251,16 @@ module _ (c : Command) (files : List ℕ → Option (List ℕ)) (old new : DeskV
       by_command (carry f) e t =
           let leaves = e.is.0.leaves files t in
           files_left f files old new before after status e.end leaves (left_as_due (carry_outputs f) (CarryDue f files) old new e.end leaves before after status e.says)
+      by_command (check program) e t = program_left PrintsAccepted program old new before after status e files t
+      by_command (order program) e t = program_left PrintsOrder program old new before after status e files t
 
   taken_of : AcceptsAll c files → (status ≡ 0) ⊎ (status ≡ 1) ⊎ (status ≡ 7)
   taken_of taken = by_command c (statuses_of c files old new before after status ended) told taken
     where
       by_command : (c : Command) → Statuses c old files status → Tells (inputs_of c) old files → AcceptsAll c files → (status ≡ 0) ⊎ (status ≡ 1) ⊎ (status ≡ 7)
       by_command (carry f) s told t = (s.accepted told).1 t
+      by_command (check program) s told t = (s.accepted told).1 t
+      by_command (order program) s told t = (s.accepted told).1 t
 
 module _ (found : Option Command) (old new : DeskView) (before after : SinkView) (status : ℕ) (ended : Ended (WorksFor found old new) before after status) where
   pub fault_is : status ≡ 1 → OwnRose (inputs_in found) (outputs_in found) old new before after

@@ -5,9 +5,9 @@ use Rattle.p4x_io.specs.Files.{Says}
 use Rattle.p4x_fault.specs.declared.Fault.{Fault as Refusal}
 use Rattle.command_words.specs.Words.{CarryFiles}
 use Rattle.file_work.specs.declared.stop.Limited.{Limited}
-use Rattle.file_work.specs.declared.stop.Limited.TheVariants.{Ports, Capture}
+use Rattle.file_work.specs.declared.stop.Limited.TheVariants.{Program as TheProgram, Ports, Capture}
 use Rattle.file_work.specs.declared.stop.Stop.{Stop}
-use Rattle.file_work.specs.declared.stop.Stop.TheVariants.{Fault, Program, Entries, Refused, Limit}
+use Rattle.file_work.specs.declared.stop.Stop.TheVariants.{Fault, Program, Judged, Entries, Refused, Limit}
 use Rattle.file_work.specs.Clauses.{ComesWhere}
 use Rattle.file_work.specs.Phases.{StopsOrGoesOn}
 use Rattle.file_work.specs.Stops.{code_of, line_of, stop_code}
@@ -46,6 +46,11 @@ module _ (f : CarryFiles) (files : List ℕ → Option (List ℕ)) where
   over_ports (inr (inl entries)) = absurd (subst EntriesEnd entries.2 (entries_ends (files f.entries)))
   over_ports (inr (inr ports)) = ports
 
+  program_not : StopsBefore f files (Limit TheProgram) → ⊥
+  program_not (inl program) = elim (program_only (files f.program) (Limit TheProgram) program) [ inl is ↦ cc is | inr is ↦ cc is ]
+  program_not (inr (inl entries)) = subst EntriesEnd entries.2 (entries_ends (files f.entries))
+  program_not (inr (inr ports)) = subst PortsEnd ports.2 (ports_ends files f.ports)
+
   over_not : StopsBefore f files (Limit Capture) → ⊥
   over_not (inl program) = elim (program_only (files f.program) (Limit Capture) program) [ inl is ↦ cc is | inr is ↦ cc is ]
   over_not (inr (inl entries)) = subst EntriesEnd entries.2 (entries_ends (files f.entries))
@@ -53,6 +58,10 @@ module _ (f : CarryFiles) (files : List ℕ → Option (List ℕ)) where
 
   -- a limit that is passed is that of the ports, or they are taken
   over_or_on : (file : Limited) → StopsOrGoesOn {A = List ℕ} (StopsBefore f files) (TakesPorts f files) OfPorts (Err (Limit file)) → OverPorts f files ⊎ TakesPorts f files
+  over_or_on TheProgram so = elim (stops_or_on (StopsBefore f files) (TakesPorts f files) OfPorts (Limit TheProgram) (λ is. cc is) (λ is. cc is) so) [
+    | inl is ↦ absurd (program_not is)
+    | inr on ↦ inr on.0
+  ]
   over_or_on Ports so = inl (over_ports (stops_by_own (StopsBefore f files) (TakesPorts f files) OfPorts (Limit Ports) (λ is. cc is) (λ is. cc is) (inr refl) so))
   over_or_on Capture so = elim (stops_or_on (StopsBefore f files) (TakesPorts f files) OfPorts (Limit Capture) (λ is. cc is) (λ is. cc is) so) [
     | inl is ↦ absurd (over_not is)
@@ -72,10 +81,18 @@ module _ (f : CarryFiles) (files : List ℕ → Option (List ℕ)) where
     pub program_first : StopsOrGoesOn (StopsAtProgram f files) (TakesProgram f files) OfProgram end → ComesWhere status 3 (RefusesProgram f files)
     program_first so = (forth, back)
       where
+        so_at : (stop : Stop) → end ≡ Err stop → StopsOrGoesOn {A = List ℕ} (StopsAtProgram f files) (TakesProgram f files) OfProgram (Err stop)
+        so_at stop is = subst (λ (e : Result (List ℕ) Stop). StopsOrGoesOn (StopsAtProgram f files) (TakesProgram f files) OfProgram e) is so
+
+        by_end : (end ≡ Err Program) ⊎ ((fault : Refusal) × (end ≡ Err (Judged fault))) → RefusesProgram f files
+        by_end (inl is) = stops_by_own (StopsAtProgram f files) (TakesProgram f files) OfProgram Program (λ e. cc e) (λ e. cc e) (inl refl) (so_at Program is)
+        by_end (inr (fault, is)) =
+            let stops : StopsAtProgram f files (Judged fault) =
+            stops_by_own (StopsAtProgram f files) (TakesProgram f files) OfProgram (Judged fault) (λ e. cc e) (λ e. cc e) (inr (fault, refl)) (so_at (Judged fault) is) in
+            absurd (elim (program_only (files f.program) (Judged fault) stops) [ inl e ↦ cc e | inr e ↦ cc e ])
+
         forth : status ≡ 3 → RefusesProgram f files
-        forth three =
-            stops_by_own (StopsAtProgram f files) (TakesProgram f files) OfProgram Program (λ is. cc is) (λ is. cc is) refl
-            (subst (λ (e : Result (List ℕ) Stop). StopsOrGoesOn (StopsAtProgram f files) (TakesProgram f files) OfProgram e) (is_program end (due 3 (λ e. omega arith) three)) so)
+        forth three = by_end (is_program end (due 3 (λ e. omega arith) three))
 
         back : RefusesProgram f files → (status ≡ 3) ⊎ (status ≡ 1) ⊎ (status ≡ 7)
         back refuses =

@@ -15,6 +15,7 @@ pub mod Packets
 pub mod Pass16
 pub mod Phases
 pub mod Pieces16
+pub mod ProgramCauses
 pub mod Reading14
 pub mod Reading16
 pub mod Refused16

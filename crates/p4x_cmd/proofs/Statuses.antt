@@ -4,9 +4,9 @@ use Rattle.p4x_fault.specs.declared.Fault.{Fault as Refusal}
 use Rattle.pcap_io.specs.Ports.{ports_of}
 use Rattle.p4x_io.specs.Desk.{DeskView}
 use Rattle.p4x_cmd.specs.declared.one_table.OneTable14.{OneTable14}
-use Rattle.file_work.specs.declared.stop.Limited.TheVariants.{Ports, Capture}
+use Rattle.file_work.specs.declared.stop.Limited.TheVariants.{Program as TheProgram, Ports, Capture}
 use Rattle.file_work.specs.declared.stop.Stop.{Stop}
-use Rattle.file_work.specs.declared.stop.Stop.TheVariants.{Fault, Usage, Program, Entries, Refused, Limit, Memory}
+use Rattle.file_work.specs.declared.stop.Stop.TheVariants.{Fault, Usage, Program, Judged, Entries, Refused, Limit, Memory}
 use Rattle.p4x_cmd.specs.Calls.{CarryStatuses, Accepts, RefusesProgram, RefusesEntries, RefusesPorts, RefusesCapture, OverPorts, OverCapture}
 use Rattle.p4x_cmd.specs.Carry.{CarryDue, ProgramIs, IsRefused, HasProgram, Begins, StopsBefore, entries_stop, taken_ports, ports_in, ports_end, ports_limit, program_limit}
 use Rattle.file_work.specs.Clauses.{ComesWhere}
@@ -27,6 +27,7 @@ pub program_stops : (o : Option (List ℕ)) (stop : Stop) → ProgramIs o (Err s
 program_stops None Fault is = refl
 program_stops None Usage is = absurd is
 program_stops None Program is = absurd is
+program_stops None (Judged fault) is = absurd is
 program_stops None Entries is = absurd is
 program_stops None (Refused fault) is = absurd is
 program_stops None (Limit file) is = absurd is
@@ -34,6 +35,7 @@ program_stops None Memory is = absurd is
 program_stops (Some text) Fault is = absurd is
 program_stops (Some text) Usage is = absurd is
 program_stops (Some text) Program is = refl
+program_stops (Some text) (Judged fault) is = absurd is
 program_stops (Some text) Entries is = absurd is
 program_stops (Some text) (Refused fault) is = absurd is
 program_stops (Some text) (Limit file) is = absurd is
@@ -159,6 +161,7 @@ module _ (f : CarryFiles) (files : List ℕ → Option (List ℕ)) where
   entries_cause p taken Fault end is = tt
   entries_cause p taken Usage end is = absurd end
   entries_cause p taken Program end is = absurd end
+  entries_cause p taken (Judged fault) end is = absurd end
   entries_cause p taken Entries end is = (p, taken, is)
   entries_cause p taken (Refused fault) end is = absurd end
   entries_cause p taken (Limit file) end is = absurd end
@@ -168,8 +171,10 @@ module _ (f : CarryFiles) (files : List ℕ → Option (List ℕ)) where
   ports_cause p has Fault end is = tt
   ports_cause p has Usage end is = absurd end
   ports_cause p has Program end is = absurd end
+  ports_cause p has (Judged fault) end is = absurd end
   ports_cause p has Entries end is = absurd end
   ports_cause p has (Refused fault) end is = inl (p, has, (fault, is))
+  ports_cause p has (Limit TheProgram) end is = absurd end
   ports_cause p has (Limit Ports) end is = inl (p, has, is)
   ports_cause p has (Limit Capture) end is = absurd end
   ports_cause p has Memory end is = absurd end
@@ -184,8 +189,10 @@ module _ (f : CarryFiles) (files : List ℕ → Option (List ℕ)) where
   capture_cause p ports begins (Some Fault) is = tt
   capture_cause p ports begins (Some Usage) is = absurd is
   capture_cause p ports begins (Some Program) is = absurd is
+  capture_cause p ports begins (Some (Judged fault)) is = absurd is
   capture_cause p ports begins (Some Entries) is = absurd is
   capture_cause p ports begins (Some (Refused fault)) is = inr (p, ports, begins, (fault, is))
+  capture_cause p ports begins (Some (Limit TheProgram)) is = absurd is
   capture_cause p ports begins (Some (Limit Ports)) is = absurd is
   capture_cause p ports begins (Some (Limit Capture)) is = inr (p, ports, begins, is)
   capture_cause p ports begins (Some Memory) is = absurd is

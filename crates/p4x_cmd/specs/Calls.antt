@@ -1,14 +1,20 @@
 -- What the clauses of `p4x` say, by its words (this project's own).
-use Rattle.std.specs.Prelude.{◌≡◌, ◌⊎◌, ◌<◌, ◌≤◌, ◌%◌, ◌^◌, ℕ, Bool, List, [], ◌∷◌, All, length, Option, Some, None, Result, Ok, Err, OnOk}
+use Rattle.std.specs.Prelude.{◌≡◌, ◌⊎◌, ◌<◌, ◌≤◌, ◌%◌, ◌^◌, ℕ, Bool, List, [], ◌∷◌, All, length, Option, Some, None, Result, Ok, Err, IfErr, OnOk}
 use Rattle.p416_ast.specs.declared.syntax.Syntax16.{Syntax16}
 use Rattle.p4x_fault.specs.declared.Fault.{Fault as Refusal}
 use Rattle.p4x_io.specs.Desk.{DeskView, SinkView, Rose, put, said}
-use Rattle.command_words.specs.Words.{CarryFiles, Command, carry, carry_inputs, carry_outputs, inputs_of, outputs_of}
+use Rattle.command_words.specs.Words.{CarryFiles, Command, carry, check, order, carry_inputs, carry_outputs, inputs_of, outputs_of}
 use Rattle.file_work.specs.declared.stop.Limited.TheVariants as limited
 use Rattle.file_work.specs.declared.stop.Stop.{Stop}
-use Rattle.file_work.specs.declared.stop.Stop.TheVariants.{Usage, Program, Entries, Refused, Limit}
+use Rattle.file_work.specs.declared.stop.Stop.TheVariants.{Usage, Program, Judged, Entries, Refused, Limit}
 use Rattle.file_work.specs.Clauses.{ComesWhere, ComesFirst, EndsAsDue, OnlyThese, Fronts, AsDue}
 use Rattle.file_work.specs.Works.{Held, Due, Works, AllKept, Tells}
+use Rattle.p414_ast.specs.declared.syntax.Syntax14.{Syntax14}
+use Rattle.p414_reader.specs.Reading.{Reads14 as Reads}
+use Rattle.program_commands.specs.Programs.{IsProgramStop, ReadsOnce}
+use Rattle.program_commands.specs.Programs as programs
+use Rattle.program_commands.specs.Lines.{PrintsAccepted, PrintsOrder}
+use Rattle.program_commands.specs.Commands.{ProgramDue, CheckDue, OrderDue, EndsByFile}
 use Rattle.fabric.specs.Numbers.{IsArrival}
 use Rattle.fabric.specs.declared.packets.Arrival.{Arrival}
 use Rattle.pcap_io.specs.Captures.{IsCapture, reading_of, arrivals_of, refused, refusal}
@@ -76,9 +82,22 @@ pub record Carried (f : CarryFiles) (files : Held) (new : DeskView) (before afte
   pub line_is : after.printed
       ≡ said before.printed (carried_line_of (length arrivals) (length ran.sent) (ran.cut % 2 ^ 64))
 
+-- The program was taken: its file reads as it and as no other, within the limit, and it breaks no rule. What was printed
+-- is what the command prints of it.
+pub record Printed (Prints : Syntax14 → List ℕ → Type 0) (program : List ℕ) (files : Held) (before after : SinkView)
+    : Type 0 where
+  pub source : Syntax14
+  pub line : List ℕ
+  pub taken : programs.ProgramIs (files program) (Ok source)
+  pub only : (read : List ℕ) (other : Syntax14) → files program ≡ Some read → Reads read other → other ≡ source
+  pub prints : Prints source line
+  pub line_is : after.printed ≡ said before.printed line
+
 -- what status 0 says of a command
 abbrev pub Done : Command → Held → DeskView → SinkView → SinkView → Type 0
 Done (carry f) files new before after = Carried f files new before after
+Done (check program) files new before after = Printed PrintsAccepted program files before after
+Done (order program) files new before after = Printed PrintsOrder program files before after
 
 -- The clauses `statuses` and `complete`: the cause of each status.
 
@@ -141,13 +160,41 @@ pub record CarryStatuses (f : CarryFiles) (old : DeskView) (files : Held) (statu
   pub limit : Tells (carry_inputs f) old files → ComesWhere status 6 (OverPorts f files ⊎ OverCapture f files)
   pub accepted : Tells (carry_inputs f) old files → ComesWhere status 0 (Accepts f files)
 
+-- the program's file is taken
+abbrev pub TakesText : List ℕ → Held → Type 0
+TakesText program files = (s : Syntax14) × programs.ProgramIs (files program) (Ok s)
+
+-- it is refused: it breaks an L rule, S1 or a C rule
+abbrev pub RefusesText : List ℕ → Held → Type 0
+RefusesText program files = (fault : Refusal) × programs.ProgramIs (files program) (Err (Judged fault))
+
+-- it is over its limit
+abbrev pub OverText : List ℕ → Held → Type 0
+OverText program files = programs.ProgramIs (files program) (Err (Limit limited.Program))
+
+-- the statuses that a command which reads a program and writes no file can have
+abbrev pub IsProgramStatus : ℕ → Type 0
+IsProgramStatus status = (status ≡ 0) ⊎ (status ≡ 1) ⊎ (status ≡ 3) ⊎ (status ≡ 6) ⊎ (status ≡ 7)
+
+-- The statuses of such a command, each with its cause, where the desk tells the program's file. It has no others,
+-- whatever the desk tells.
+pub record ProgramStatuses (program : List ℕ) (old : DeskView) (files : Held) (status : ℕ) : Type 0 where
+  pub accepted : Tells (program ∷ []) old files → ComesWhere status 0 (TakesText program files)
+  pub refused : Tells (program ∷ []) old files → ComesWhere status 3 (RefusesText program files)
+  pub limit : Tells (program ∷ []) old files → ComesWhere status 6 (OverText program files)
+  pub only : IsProgramStatus status
+
 -- the table of a command's statuses
 abbrev pub Statuses : Command → DeskView → Held → ℕ → Type 0
 Statuses (carry f) old files status = CarryStatuses f old files status
+Statuses (check program) old files status = ProgramStatuses program old files status
+Statuses (order program) old files status = ProgramStatuses program old files status
 
 -- all input files of a command are taken
 abbrev pub AcceptsAll : Command → Held → Type 0
 AcceptsAll (carry f) files = Accepts f files
+AcceptsAll (check program) files = TakesText program files
+AcceptsAll (order program) files = TakesText program files
 
 -- The clauses `usage` and `fault`.
 
@@ -207,13 +254,17 @@ pub record CarryLeft (f : CarryFiles) (files : Held) (old new : DeskView) (statu
   pub fronts : Fronts (carry_outputs f) (CarryDue f files) old new
   pub as_due : AsDue (CarryDue f files) old new status
 
--- the output files of a command
+-- the output files of a command, if it has any
 abbrev pub Left : Command → Held → DeskView → DeskView → ℕ → Type 0
 Left (carry f) files old new status = CarryLeft f files old new status
+Left (check program) files old new status = AsDue (CheckDue program files) old new status
+Left (order program) files old new status = AsDue (OrderDue program files) old new status
 
 -- the output files of a command that are kept
 abbrev pub Kept : Command → Held → DeskView → DeskView → ℕ → Type 0
 Kept (carry f) files old new status = CarryKept f files old new status
+Kept (check program) files old new status = Unit {0}
+Kept (order program) files old new status = Unit {0}
 
 -- No file but the outputs changes. These are kept where the work stops before it writes; and where the inputs are told,
 -- they hold this.
@@ -227,10 +278,14 @@ pub record FilesLeft (found : Option Command) (old new : DeskView) (status : ℕ
 -- what is due for what the input files of a command hold
 abbrev pub DueOf : Command → Held → Due → Type 0
 DueOf (carry f) files d = CarryDue f files d
+DueOf (check program) files d = CheckDue program files d
+DueOf (order program) files d = OrderDue program files d
 
--- how the work of a command ends by the files that it reads first
+-- how the work of a command ends by the files that it reads first; or, where it reads a program alone, what can stop it
 abbrev pub EndsInOrder : Command → DeskView → Result (List ℕ) Stop → Type 0
 EndsInOrder (carry f) old end = InOrder f old end
+EndsInOrder (check program) old end = IfErr end IsProgramStop
+EndsInOrder (order program) old end = IfErr end IsProgramStop
 
 -- How the work of any words ends: as it is due, or with a fault or want of memory. Where the desk tells only files that
 -- are read first, it ends as these say.
@@ -245,9 +300,19 @@ PacketsFit f old end = OnOk end ((files : Held) (octets ports : List ℕ) → Te
     → files f.capture ≡ Some octets → ports_end files f.ports ≡ Ok ports
     → All IsArrival (arrivals_of ports (reading_of octets).records))
 
+-- The work of a command that reads a program, prints of it and writes no file.
+pub record WorksOnProgram (Prints : Syntax14 → List ℕ → Type 0) (program : List ℕ) (old new : DeskView)
+    (end : Result (List ℕ) Stop) : Type 0 where
+  pub works : Works (program ∷ []) [] (ProgramDue Prints program) old new end
+  pub by_file : (files : Held) → Tells (program ∷ []) old files → EndsByFile Prints program files end
+  pub once : OnOk end ((text : List ℕ) → old.told program ≡ Some (Some text) → ReadsOnce text)
+  pub only : IfErr end IsProgramStop
+
 -- the work of any words: that of a command, or words that are no form
 abbrev pub WorksFor : Option Command → DeskView → DeskView → Result (List ℕ) Stop → Type 0
 WorksFor None old new end = (end ≡ Err Usage) × (new ≡ old)
 WorksFor (Some (carry f)) old new end =
     Works (carry_inputs f) (carry_outputs f) (CarryDue f) old new end × PacketsFit f old end
     × EndsInOrder (carry f) old end × KeepsInOrder f old new end
+WorksFor (Some (check program)) old new end = WorksOnProgram PrintsAccepted program old new end
+WorksFor (Some (order program)) old new end = WorksOnProgram PrintsOrder program old new end

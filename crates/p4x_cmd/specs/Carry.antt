@@ -7,7 +7,7 @@ use Rattle.pcap_io.specs.Ports.{ports_of}
 use Rattle.p4x_cmd.specs.declared.one_table.OneTable14.{OneTable14}
 use Rattle.file_work.specs.declared.stop.Limited.TheVariants as limited
 use Rattle.file_work.specs.declared.stop.Stop.{Stop}
-use Rattle.file_work.specs.declared.stop.Stop.TheVariants.{Fault, Program, Entries, Refused, Limit}
+use Rattle.file_work.specs.declared.stop.Stop.TheVariants.{Fault, Program, Judged, Entries, Refused, Limit}
 use Rattle.p4x_cmd.specs.Carries.{Carries}
 use Rattle.p4x_cmd.specs.Typed16.{is_well_typed}
 use Rattle.p4x_cmd.specs.FirstCut.{is_first_cut}
@@ -113,7 +113,7 @@ StopsAtEntries f files stop =
 
 -- what stops the command at these files and nowhere behind them
 abbrev pub OfProgram : Stop → Type 0
-OfProgram stop = stop ≡ Program
+OfProgram stop = (stop ≡ Program) ⊎ ((fault : Refusal) × (stop ≡ Judged fault))
 
 abbrev pub OfEntries : Stop → Type 0
 OfEntries stop = OfProgram stop ⊎ (stop ≡ Entries)

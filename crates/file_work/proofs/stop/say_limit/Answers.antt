@@ -1,7 +1,10 @@
 use Rattle.file_work.proofs.stop.say_limit.Goals as goal
 
+pub returns-in-Program : goal.returns-in-Program
+returns-in-Program g c = rw c.in-Program.is c.say.ensures
+
 pub returns-in-Ports : goal.returns-in-Ports
-returns-in-Ports g c = rw c.in-Ports.is c.say.ensures
+returns-in-Ports g c = rw c.in-Ports.is c.say-in-Ports.ensures
 
 pub returns-in-Capture : goal.returns-in-Capture
 returns-in-Capture g c = rw c.in-Capture.is c.say-in-Capture.ensures

@@ -1,0 +1,4 @@
+pub mod Exits
+pub mod Files
+pub mod Rules
+pub mod Texts

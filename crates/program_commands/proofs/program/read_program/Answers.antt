@@ -1,0 +1,18 @@
+use Rattle.std.proofs.Common.{ℕ, List, Option, Some, OnOk, sym, subst}
+use Rattle.program_commands.specs.internal.Judged.{AnswersText, AnswersFile}
+use Rattle.program_commands.specs.Programs.{ReadsOnce}
+use Rattle.program_commands.proofs.Files.{file_within}
+use Rattle.program_commands.proofs.Texts.{once_told}
+use Rattle.program_commands.proofs.program.read_program.Goals as goal
+
+pub returns-clause-gives : goal.returns-clause-gives
+returns-clause-gives g c = λ file told.
+    let read = c.in-Ok.ensures.gives file told in
+    subst (λ (f : Option (List ℕ)). AnswersFile f c.program_of.result) (sym read.0)
+    (file_within c.in-Ok.text.items c.program_of.result read.1 (subst (λ (t : List ℕ). AnswersText t c.program_of.result) c.deref.ensures.value c.program_of.ensures.is))
+
+pub returns-clause-once : goal.returns-clause-once
+returns-clause-once g c =
+    once_told c.program_of.result _ c.in-Ok.text.items
+    (λ other told. let read = (c.in-Ok.ensures.gives (Some other) told).0 in cc read)
+    (subst (λ (t : List ℕ). OnOk c.program_of.result (ReadsOnce t)) c.deref.ensures.value c.program_of.ensures.once)

@@ -1,0 +1,9 @@
+//! The commands that read a P4_14 program and write no file: `check`, which says whether it is taken, and `order`, which says
+//! in which order its headers leave.
+#![tactic(auto)]
+
+mod commands;
+mod headers;
+mod program;
+
+pub use commands::{check, order};
