@@ -36,6 +36,7 @@ for _ in 1 2 3; do out/bench_tables; "$work/baseline"; done | awk '
     }'
 "$top/bench/fields.sh"
 "$top/bench/reading.sh"
+"$top/bench/reading16.sh"
 "$top/bench/judging.sh"
 "$top/bench/carry.sh"
 "$top/bench/check.sh"

@@ -1,0 +1,15 @@
+-- A token as it lies in the text, as the grammar sees it.
+use Rattle.p416_ast.specs.Grammar.Tokens.{Seen16, id, quoted, number, mark, string, annotation, include_line, joined, opens}
+use Rattle.p416_reader.specs.declared.token.TokenView.{TokenView}
+use Rattle.p416_reader.specs.declared.token.TokenView.TheVariants as view
+
+abbrev pub seen_of : TokenView → Seen16
+seen_of (view.Name octets) = id octets.now
+seen_of (view.Word word) = quoted word
+seen_of (view.Number n) = number n
+seen_of (view.Mark m) = mark m
+seen_of (view.String octets) = string octets.now
+seen_of (view.At a) = annotation a
+seen_of (view.Include i) = include_line i
+seen_of view.Joined = joined
+seen_of view.Opens = opens
