@@ -116,7 +116,7 @@ word_bare (property.Key ks) = refl
 word_bare (property.Actions names) = refl
 word_bare (property.Size n) = refl
 word_bare (property.Counters text) = refl
-word_bare (property.DefaultAction a arguments) = refl
+word_bare (property.DefaultAction a given) = refl
 
 pub texts_bare : (ps : List Property) → property_texts (map bare_property ps) ≡ property_texts ps
 texts_bare [] = refl
