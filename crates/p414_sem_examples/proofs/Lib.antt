@@ -1,0 +1,4 @@
+mod Examples
+mod Further
+mod Conditional
+mod Routes
