@@ -10,6 +10,7 @@ use Rattle.p414_ast.specs.declared.node.BinaryOperator.{BinaryOperator}
 use Rattle.p414_ast.specs.declared.node.BinaryOperator.TheVariants.{Multiply, Add, Subtract, ShiftLeft, ShiftRight, BitAnd, BitXor, BitOr, Less, LessEqual, Greater, GreaterEqual, Equal, NotEqual, And, Or}
 use Rattle.p414_ast.specs.declared.syntax.Decl.{Decl}
 use Rattle.p414_ast.specs.Tree.{Expr, valid, truth, field, number, parenthesized, unary, binary}
+use Rattle.p414_rules.specs.Primitives.{is_standard}
 use Rattle.p414_sem.specs.Slots.{slot_of, bits_of_ref, element_of}
 use Rattle.p414_sem.specs.State.{State, read}
 use Rattle.p414_sem.specs.Effects.{is_valid_at}
@@ -95,9 +96,9 @@ binary_truth And a b compared = a && b
 binary_truth Or a b compared = a || b
 binary_truth _ a b compared = compared
 
--- whether a condition holds
+-- whether a condition holds; metadata is always valid, and `standard_metadata` with it
 abbrev pub holds : List Decl → State → Expr → Bool
-holds ds s (valid i) = is_valid_at s (element_of ds i)
+holds ds s (valid i) = is_standard i.name || is_valid_at s (element_of ds i)
 holds ds s (truth b) = b
 holds ds s (field r) = false
 holds ds s (number n) = false

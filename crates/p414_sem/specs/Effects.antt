@@ -73,7 +73,7 @@ pub data Effect : Type 0 where
   take_colour : (object index : ℕ) (target : Target) (live : Bool) → Effect
   put_request : (kind : RequestKind) (request : Request14) → Effect
 
--- a field's effect: none where its header is invalid
+-- a field's effect: none where its header is invalid when the operands are read
 abbrev pub field_effect : List Decl → List ℕ → Moment → Bool → Target → Term → List Effect
 field_effect ds arguments r sums target term =
     if is_live r.state target.slot then
@@ -88,11 +88,12 @@ header_of s at = header_at s at.instance at.element
 abbrev pub is_valid_at : State → Element → Bool
 is_valid_at s at = is_valid s at.instance at.element
 
--- elements moved up by so many, of which the first ones become valid with fields 0; the last ones are gone
+-- elements moved up by so many, of which the first ones, at most all, become valid with fields 0; the last ones are gone,
+-- and the stack's place stays (this project's own)
 abbrev pub pushed : ℕ → List Header → List Header
 pushed count elements = take (length elements) (map (cleared true) (take count elements) ++ elements)
 
--- elements moved down by so many, of which the last ones become invalid
+-- elements moved down by so many, of which the last ones, at most all, become invalid; the stack's place stays
 abbrev pub popped : ℕ → List Header → List Header
 popped count elements = drop count elements ++ map (cleared false) (take count elements)
 

@@ -4,7 +4,7 @@ use Rattle.std.specs.Prelude.{◌≡◌, ℕ, ◌^◌, ◌<◌, ◌≤◌, true,
 use Rattle.std.specs.List.{AllZip}
 use Rattle.p4x_bits.specs.BitLists.{IsOctets}
 use Rattle.p414_lexemes.specs.declared.lexeme.Literal.{Literal}
-use Rattle.state_store.specs.Ports.{IsPort}
+use Rattle.fabric.specs.declared.items.Event.{Event}
 use Rattle.p414_ast.specs.declared.syntax.Decl.{Decl}
 use Rattle.p414_ast.specs.declared.syntax.Decl.TheVariants as decl
 use Rattle.p414_ast.specs.declared.syntax.Sort.TheVariants as sort
@@ -53,11 +53,17 @@ pub record FitsRequest (ds : List Decl) (r : Request14) : Type 0 where
   pub session : r.session < 2 ^ 32
   pub list : IfSome r.list (λ number. number < length (lists ds))
 
+-- an application of a table, whose numbers have 32 bits
+pub record FitsEvent (e : Event) : Type 0 where
+  pub table : e.table < 2 ^ 32
+  pub entry : IfSome e.entry (λ number. number < 2 ^ 32)
+  pub action : IfSome e.action (λ number. number < 2 ^ 32)
+
 -- a state of the program
 pub record IsState (ds : List Decl) (s : State) : Type 0 where
   pub instances : AllZip (FitsInstance ds) (declared_in sort.Instance ds) s.instances
   pub unparsed : IsOctets s.unparsed
-  pub ingress_port : IsPort s.ingress_port
+  pub ingress_port : s.ingress_port < 2 ^ 9
   pub egress_spec : s.egress_spec < 2 ^ 9
   pub egress_port : s.egress_port < 2 ^ 9
   pub packet_length : s.packet_length < 2 ^ 32
@@ -66,6 +72,7 @@ pub record IsState (ds : List Decl) (s : State) : Type 0 where
   pub clone_e2e : IfSome s.clone_e2e (FitsRequest ds)
   pub resubmit : IfSome s.resubmit (FitsRequest ds)
   pub recirculate : IfSome s.recirculate (FitsRequest ds)
+  pub events : All FitsEvent s.events
 
 -- a preserved set of the program: a number for each field of metadata, and none for a header
 abbrev pub FitsPreserved : List Decl → Decl → List ℕ → Type 0

@@ -137,10 +137,11 @@ list_at ds i n = named (slice_get i.arguments n) where
 abbrev pub writes : List Decl → Invocation → (Source → Source → Term) → Primitive
 writes ds i term = write false (target ds i 0) (term (source ds i 1) (source ds i 2))
 
+-- the same where what is written is a sum or a difference
 abbrev pub writes_sum : List Decl → Invocation → (Source → Source → Term) → Primitive
 writes_sum ds i term = write true (target ds i 0) (term (source ds i 1) (source ds i 2))
 
--- the target gets a term of its own number and the source behind it
+-- the target gets a sum or a difference of its own number and the source behind it
 abbrev pub changes : List Decl → Invocation → (Source → Source → Term) → Primitive
 changes ds i term = write true (target ds i 0) (term (field (target ds i 0).slot) (source ds i 1))
 
@@ -154,6 +155,7 @@ egress_spec = record { slot = standard EgressSpec; width = 9; saturating = false
 abbrev pub clones : List Decl → Invocation → RequestKind → Primitive
 clones ds i kind = ask kind (source ds i 0) (list_at ds i 1)
 
+-- a request of resubmit or recirculate
 abbrev pub repeats_packet : List Decl → Invocation → RequestKind → Primitive
 repeats_packet ds i kind = ask kind (number (pos 0)) (list_at ds i 0)
 

@@ -109,6 +109,7 @@ asked_clone ds x s request = (request.session, preserved ds x s request)
 abbrev pub handed_on : State → Held
 handed_on s = record { state = record (without_requests s) { events = [] }; failed = false }
 
+-- after ingress: a resubmitted packet ends the pass, then a dropped one, and else the packet goes on to egress
 abbrev pub next_after : List Decl → Expanded → State → Option Request14 → IngressNext Preserved Held
 next_after ds x s (Some request) = after_ingress.Resubmit (preserved ds x s request)
 next_after ds x s None = if s.egress_spec == drop_port then after_ingress.Drop else after_ingress.Go s.egress_spec (handed_on s)
@@ -128,6 +129,7 @@ ingress_end ds x m = record {
 abbrev pub dropped : Contents → Ended (IngressEnd Preserved Held)
 dropped store = record { answer = record { clone = None; next = after_ingress.Drop }; store = store; events = [] }
 
+-- after parsing: an exception drops the packet, a sum that is wrong too, and else the control `ingress` runs
 abbrev pub after_parsing : Setting → Contents → Parse → Ended (IngressEnd Preserved Held)
 after_parsing c store p =
     if is_accepted p.end then
@@ -170,7 +172,8 @@ egress_begins s port kind =
     record (without_requests s) { egress_spec = 0; egress_port = port; instance_type = kind; events = [] }
 
 -- A clone made behind egress has the headers, the octets that weren't parsed, the packet's length and its port of
--- arrival; its metadata is what is preserved.
+-- arrival; its metadata is what is preserved. Its stacks keep their places, and the other fields of `standard_metadata`
+-- are 0 until its egress begins.
 abbrev pub cloned : List Decl → Preserved → State → Held
 cloned ds q s = record {
   state =

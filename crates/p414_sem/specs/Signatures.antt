@@ -44,7 +44,7 @@ use Rattle.p414_sem.specs.Operations.{in_order, object_number}
 abbrev pub indexed : List Name
 indexed = codes "count" ∷ codes "register_read" ∷ codes "register_write" ∷ codes "execute_meter" ∷ clones
 
--- the bits of the field that a call writes, and of the register that it writes to
+-- the bits of the field that a call writes
 abbrev pub target_bits : List Decl → PlacedArgument → Option ℕ
 target_bits ds a = bits_at a.wanted a.argument where
   bits_at : ArgumentPlace → Argument → Option ℕ
@@ -58,6 +58,7 @@ register_in _ = None
 abbrev pub register_width : List Decl → Name → ℕ
 register_width ds name = option_map_or literal_value (option_and_then register_in (declaration_of sort.Object ds name)) 0
 
+-- the bits of the register that a call writes to
 abbrev pub register_bits : List Decl → PlacedArgument → Option ℕ
 register_bits ds a = bits_at a.wanted a.argument where
   bits_at : ArgumentPlace → Argument → Option ℕ
@@ -129,7 +130,7 @@ parameter_widths ds action = option_map_or (λ (a : Action). widths_from ds acti
 
 -- tables
 
--- a key of kind valid is one bit that is matched exactly; a kind that isn't known is left out
+-- a key of kind valid is one bit that is matched exactly; a kind that isn't known, which C11 refuses, counts as exact
 abbrev pub kind_named : Name → KeyKind
 kind_named name =
     if bytes_eq name (codes "ternary") then Ternary

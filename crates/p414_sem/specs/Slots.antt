@@ -37,7 +37,7 @@ pub record Target : Type 0 where
   pub width : ℕ
   pub saturating : Bool
 
--- the element that an index names: `next` and `last` are told by what parses, and stand nowhere else
+-- the element that an index names: `next` is told by what parses, and stands nowhere else; `last` is left out
 abbrev pub element_number : Option Index → ℕ
 element_number (Some (At n)) = n.value
 element_number (Some Next) = 0

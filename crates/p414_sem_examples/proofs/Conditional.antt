@@ -1,5 +1,5 @@
 -- Conditions at the greatest width of both sides, and a packet that is resubmitted.
-use Rattle.std.proofs.Common.{◌≡◌, ℕ, false, List, [], ◌∷◌, Some, refl}
+use Rattle.std.proofs.Common.{◌≡◌, ℕ, false, List, [], ◌∷◌, Some, None, refl}
 use Rattle.std.specs.Prelude.{codes}
 use Rattle.p4x_bits.specs.BitLists.{num, bits}
 use Rattle.fabric.specs.declared.items.IngressNext.TheVariants as after_ingress
@@ -9,7 +9,7 @@ use Rattle.p414_ast.specs.declared.parsers.Return.TheVariants as end_of
 use Rattle.p414_ast.specs.declared.syntax.Decl.{Decl}
 use Rattle.p414_ast.specs.declared.syntax.Decl.TheVariants as decl
 use Rattle.p414_ast.specs.declared.syntax.Rule14.TheVariants.{Sequential}
-use Rattle.p414_ast.specs.Tree.{Stmt, Expr, apply, if_then, no_else, else_block, number, binary}
+use Rattle.p414_ast.specs.Tree.{Stmt, Expr, apply, if_then, no_else, else_block, number, binary, valid}
 use Rattle.p414_ast.specs.Tree.{field as field_operand}
 use Rattle.p414_sem.specs.Parsing.{parsed}
 use Rattle.p414_sem.specs.Signatures.{signature14}
@@ -35,6 +35,14 @@ sums_at_16_bits = refl
 keeps_the_carry : sent (setting (p3 []) (simply (p3 []) if_sum_is_x) Sequential []) (0x00 ∷ 0x00 ∷ 0xff ∷ 0x01 ∷ []) ≡ Some (0, 0x00 ∷ 0x00 ∷ 0xff ∷ 0x01 ∷ [])
 unfolding num bits parsed signature14 ingress14 egress14
 keeps_the_carry = refl
+
+-- if (valid(standard_metadata)) { apply(t); }: metadata is always valid
+abbrev if_standard : Stmt
+if_standard = if_then (valid (record { name = codes "standard_metadata"; index = None })) applies_t no_else
+
+standard_metadata_is_valid : sent (setting (p3 []) (simply (p3 []) if_standard) Sequential []) (0x01 ∷ 0x00 ∷ 0xff ∷ 0x01 ∷ []) ≡ Some (3, 0x01 ∷ 0x00 ∷ 0xff ∷ 0x01 ∷ [])
+unfolding num bits parsed signature14 ingress14 egress14
+standard_metadata_is_valid = refl
 
 -- Metadata m of k, l and n, of which l begins with 5. While m.k is 0 the packet is resubmitted with m.k preserved, which
 -- is 1 then.
