@@ -1,7 +1,7 @@
 -- What the rules judge in declarations, and the scopes of their parts (P4_16 1.2, "Name resolution", "Derived types",
 -- "Packet parsing", "Control blocks", "Actions", "Tables"). At the top, and among the declarations of a parser or a control,
 -- a name may be used before it is declared.
-use Rattle.std.specs.Prelude.{ℕ, ◌+◌, Bool, true, List, [], ◌∷◌, ◌++◌, length, map, flat_map, filter_map, option_to_list, zip, Option, Some, None, codes}
+use Rattle.std.specs.Prelude.{ℕ, ◌+◌, Bool, true, List, [], ◌∷◌, ◌++◌, length, map, replicate, flat_map, filter_map, option_to_list, zip, Option, Some, None, codes}
 use Rattle.std.specs.Option.{option_map_or}
 use Rattle.std.specs.Str.{bytes_eq}
 use Rattle.p416_lexemes.specs.declared.lexeme.Literal16.{Literal16}
@@ -39,7 +39,7 @@ use Rattle.p416_ast.specs.declared.grammar.program.Decl16.TheVariants as decl
 use Rattle.p416_ast.specs.Grammar.Properties.{keys_of, actions_of, size_of, counters_of, default_action_of, default_arguments_of}
 use Rattle.p416_ast.specs.Grammar.Tree.{Exp16, Stmt16}
 use Rattle.p416_rules.specs.Names.{Name}
-use Rattle.p416_rules.specs.Kinds.{counter_type, meter_type, counter, direct_counter, register, meter, Kind, bits, header, struct}
+use Rattle.p416_rules.specs.Kinds.{counter_type, meter_type, counter, direct_counter, register, meter, Kind, bits, header, struct, unknown}
 use Rattle.p416_rules.specs.Scopes.{Handed, Sort, a_type, a_value, an_object, an_action, a_table, a_state, a_block, Known, known, called_of, FieldKind, Layout, in_parser, in_apply, in_action, in_key, elsewhere, Scope, sort_of, inside, kind_of_type, known_parameter, handed, plane_name}
 use Rattle.p416_rules.specs.BuiltIn.{built_in, standard_layout, field}
 use Rattle.p416_rules.specs.Calls.{Place, value, literal_of, select_key, table_key}
@@ -173,9 +173,13 @@ keyset_parts (keyset.One part) = part ∷ []
 abbrev pub compared_uses : Scope → Kind × Simple → List Use
 compared_uses s pair = simple_uses s pair.0 pair.1
 
+-- each part of a keyset with its key; a part for which there is no key is of no kind that is known
+abbrev pub with_keys : List Kind → List Simple → List (Kind × Simple)
+with_keys keys parts = zip (keys ++ replicate (length parts) unknown) parts
+
 abbrev pub case_uses : Scope → List Kind → SelectCase → List Use
 case_uses s keys c =
-    a_keyset keys c.keyset ∷ flat_map (compared_uses s) (zip keys (keyset_parts c.keyset)) ++ target_uses s c.target
+    a_keyset keys c.keyset ∷ flat_map (compared_uses s) (with_keys keys (keyset_parts c.keyset)) ++ target_uses s c.target
 
 abbrev pub transition_uses : Scope → Transition → List Use
 transition_uses s (transition.Go t) = target_uses s t

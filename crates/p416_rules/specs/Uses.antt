@@ -1,7 +1,7 @@
 -- What the rules judge, one after another: each expression with all within it, each type, number and name of a declaration,
 -- with the scope that it stands in and what its place asks for (P4_16 1.2, "Expressions", "Statements"; the division is
 -- this project's own). Parentheses change nothing.
-use Rattle.std.specs.Prelude.{ℕ, Bool, if◌then◌else◌, nat_eq, List, [], ◌∷◌, ◌++◌, reverse, replicate, take, Option, Some, None}
+use Rattle.std.specs.Prelude.{ℕ, Bool, ◌&&◌, if◌then◌else◌, nat_eq, List, [], ◌∷◌, ◌++◌, reverse, replicate, take, Option, Some, None}
 use Rattle.p416_lexemes.specs.declared.lexeme.Literal16.{Literal16}
 use Rattle.p416_ast.specs.declared.grammar.parts.Type16.{Type16}
 use Rattle.p416_ast.specs.declared.grammar.parts.Type16.TheVariants.{Bit, Bool as BoolType, Named}
@@ -19,7 +19,7 @@ use Rattle.p416_ast.specs.declared.grammar.parsers.Keyset.{Keyset}
 use Rattle.p416_ast.specs.declared.grammar.controls.Table16.{Table16}
 use Rattle.p416_ast.specs.Grammar.Tree.{Exp16, member, index, slice, call, lookahead, cast, unary, binary, choice, parenthesized, argument, listed}
 use Rattle.p416_rules.specs.Names.{Name}
-use Rattle.p416_rules.specs.Kinds.{Enumeration, Kind, bits, boolean, error_code}
+use Rattle.p416_rules.specs.Kinds.{Enumeration, Kind, bits, unsized, boolean, error_code, is_unsized}
 use Rattle.p416_rules.specs.Scopes.{Scope}
 use Rattle.p416_rules.specs.Calls.{Place, value, any_bits, one_bit, bits_or_boolean, owner, written_owner, a_stack, callee, unasked, Signature, method_signature}
 use Rattle.p416_rules.specs.Expressions.{kind_of, signature_of, argument_count, is_chosen}
@@ -68,11 +68,13 @@ pub data Use : Type 0 where
 
 -- the places of the parts of expressions
 
--- operands that have to have one width: that of the first that has one, else that of the place of the whole
+-- operands that have to have one width: that of the first that has one; where both are numbers without a width, that of the
+-- place of the whole
 abbrev pub joint_place : Place → Kind → Kind → Place
 joint_place p (bits v) b = value (bits v)
 joint_place p a (bits w) = value (bits w)
-joint_place p a b = p
+joint_place p unsized unsized = p
+joint_place p a b = any_bits
 
 -- the same for `==` and `!=`, which compare truth values and errors too
 abbrev pub compared_place : Kind → Kind → Place
@@ -81,9 +83,11 @@ compared_place boolean b = value boolean
 compared_place error_code b = value error_code
 compared_place a b = joint_place any_bits a b
 
--- the same for `c ? a : b`
+-- the same for `c ? a : b`; what is no value can't be chosen
 abbrev pub chosen_place : Place → Kind → Kind → Place
-chosen_place p a b = if is_chosen a then value a else if is_chosen b then value b else p
+chosen_place p a b =
+    if is_chosen a then value a else if is_chosen b then value b
+    else if is_unsized a && is_unsized b then p else any_bits
 
 abbrev pub unary_place : Place → UnaryOperator → Kind → Place
 unary_place p Not k = value boolean

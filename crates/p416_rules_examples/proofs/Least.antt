@@ -29,11 +29,12 @@ use Rattle.p416_ast.specs.declared.grammar.controls.Local.TheVariants as local
 use Rattle.p416_ast.specs.declared.grammar.node.CastType.TheVariants as cast_to
 use Rattle.p416_ast.specs.declared.grammar.parsers.Keyset.TheVariants as keyset
 use Rattle.p416_ast.specs.declared.grammar.parsers.Simple.TheVariants as simple
+use Rattle.p416_ast.specs.declared.grammar.node.CaseLabel.TheVariants as case_label
 use Rattle.p416_ast.specs.declared.grammar.node.BinaryOperator.TheVariants.{Add, ShiftLeft, Equal, Concatenate}
 use Rattle.p416_ast.specs.declared.grammar.program.Decl16.{Decl16}
 use Rattle.p416_ast.specs.declared.grammar.program.Decl16.TheVariants as decl
 use Rattle.p416_ast.specs.declared.grammar.program.Syntax16.{Syntax16}
-use Rattle.p416_ast.specs.Grammar.Tree.{Exp16, literal, error, name, member, index, slice, call, cast, choice, truth, binary, no_arguments, argument, listed, Stmt16, no_statements, then, block, var, var_is, assign, expression, if_then}
+use Rattle.p416_ast.specs.Grammar.Tree.{Exp16, literal, error, name, member, index, slice, call, cast, choice, truth, binary, no_arguments, argument, listed, Stmt16, no_statements, then, block, var, var_is, assign, expression, if_then, switch, no_cases, case_of}
 use Rattle.p416_rules.specs.Names.{Name}
 use Rattle.p416_rules.specs.Declarations.{declaration_uses}
 use Rattle.p416_rules.specs.Uses.{Use}
@@ -50,7 +51,7 @@ use Rattle.p416_rules.specs.Externs.{is_outside_block}
 use Rattle.p416_rules.specs.Main.{is_main}
 use Rattle.p416_rules.specs.Totals.{depth, is_too_deep, has_large_headers, has_large_variables, has_bad_cells}
 use Rattle.p416_rules.specs.Breaks.{program_uses, is_no_block, scope_of}
-use Rattle.p416_rules_examples.specs.Samples.{number, sized, bit_field, named, one, given, hdr, field, egress_spec, hs_param, parser_of, ingress_of, program, extract, none, sets, least, applies_t, action_of, table_of, lists_x, key_of, calls_x, direct_d, counts_d, in_ingress, two, condition, declares, with_stack, stack_s, with_table, with_action, value_v, selects, value_of, nots}
+use Rattle.p416_rules_examples.specs.Samples.{number, sized, bit_field, named, one, given, hdr, field, egress_spec, hs_param, parser_of, ingress_of, program, extract, none, sets, least, applies_t, action_of, table_of, lists_x, key_of, calls_x, direct_d, counts_d, in_ingress, two, condition, declares, with_stack, stack_s, with_table, with_action, value_v, selects, value_of, nots, with_table_and}
 
 pub q1_breaks_none : least none ≡ 0
 q1_breaks_none = refl
@@ -319,6 +320,23 @@ directed_behind = refl
 pub direct_call : least (record none { ingress_locals = action_of (codes "x") (hs_param In ∷ value_v ∷ []) no_statements ∷ []; ingress = one (expression (call (name (codes "x")) (argument (given (name (codes "hdr"))) (literal (number 5))))) }) ≡ 0
 direct_call = refl
 
+-- what stands within an argument for which there is no parameter is judged
+pub boolean_sum_too_much : least (record none { ingress_locals = action_of (codes "x") [] no_statements ∷ []; ingress = one (expression (call (name (codes "x")) (given (binary Add (truth true) (truth true))))) }) ≡ 3
+boolean_sum_too_much = refl
+
+pub number_sum_too_much : least (record none { ingress_locals = action_of (codes "x") [] no_statements ∷ []; ingress = one (expression (call (name (codes "x")) (given (binary Add (literal (number 1)) (literal (number 2)))))) }) ≡ 6
+number_sum_too_much = refl
+
+-- a label that names no action, and one whose name is hidden by a variable
+pub unknown_label : least (with_table_and (one (switch (codes "t") (case_of no_cases (case_label.Action (codes "nosuch")) no_statements)))) ≡ 1
+unknown_label = refl
+
+pub hidden_label : least (with_table_and ((then) (one (var (Bit (number 8)) (codes "x"))) (switch (codes "t") (case_of no_cases (case_label.Action (codes "x")) no_statements)))) ≡ 1
+hidden_label = refl
+
+pub fit_label : least (with_table_and (one (switch (codes "t") (case_of no_cases (case_label.Action (codes "x")) no_statements)))) ≡ 0
+fit_label = refl
+
 pub call_too_short : least (record none { ingress_locals = action_of (codes "x") (hs_param In ∷ value_v ∷ []) no_statements ∷ []; ingress = one (expression (call (name (codes "x")) (given (name (codes "hdr"))))) }) ≡ 6
 call_too_short = refl
 
@@ -354,6 +372,12 @@ selects_mask = refl
 
 pub selects_two : least (selects (keyset.Tuple (simple.Any ∷ simple.Any ∷ []) ∷ [])) ≡ 3
 selects_two = refl
+
+pub selects_two_with_a_name : least (selects (keyset.Tuple (simple.Any ∷ simple.Value (name (codes "nosuch")) ∷ []) ∷ [])) ≡ 1
+selects_two_with_a_name = refl
+
+pub selects_two_with_a_slice : least (selects (keyset.Tuple (simple.Any ∷ simple.Value (slice (field (codes "c")) (number 99) (number 0)) ∷ []) ∷ [])) ≡ 2
+selects_two_with_a_slice = refl
 
 pub selects_one : least (selects (keyset.Tuple (simple.Any ∷ []) ∷ [])) ≡ 0
 selects_one = refl

@@ -233,6 +233,10 @@ stack_s = name (codes "s")
 abbrev pub with_table : List Property → Change
 with_table ps = record none { ingress_locals = action_of (codes "x") [] no_statements ∷ table_of (lists_x ∷ ps) ∷ [] }
 
+-- the same, with these statements in ingress
+abbrev pub with_table_and : Stmt16 → Change
+with_table_and body = record (with_table []) { ingress = body }
+
 abbrev pub with_action : List Param → Stmt16 → Change
 with_action ps body = record none { ingress_locals = action_of (codes "x") ps body ∷ table_of (lists_x ∷ []) ∷ [] }
 
