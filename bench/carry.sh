@@ -5,18 +5,10 @@
 # program is proved first, in a scratch copy.
 set -eu
 top=$(cd "$(dirname "$0")/.." && pwd)
-work=$(mktemp -d)
-trap 'rm -rf "$work"' EXIT
-for crate in $("$top/bench/below.sh" p4x); do
-    mkdir -p "$work/crates/$crate"
-    for part in src specs proofs data; do
-        if [ -e "$top/crates/$crate/$part" ]; then cp -r "$top/crates/$crate/$part" "$work/crates/$crate"; fi
-    done
-    grep "^$crate:" "$top/crates.txt" >>"$work/crates.txt"
-done
+. "$top/bench/scratch.sh"
+copy_crates p4x
 cd "$work/crates/p4x"
-rt run -- carry data/p1.p4 data/entries.txt data/in.pcap --text text --sent sent --report report >"$work/log" 2>&1 ||
-    { cat "$work/log"; exit 1; }
+run_once -- carry data/p1.p4 data/entries.txt data/in.pcap --text text --sent sent --report report
 cat >"$work/carry.py" <<'END'
 import os, struct, subprocess, time
 

@@ -5,20 +5,13 @@
 # checks where none was kept. It wants python3, and rt where it is to prove. The gate doesn't run it.
 set -eu
 top=$(cd "$(dirname "$0")/.." && pwd)
-work=$(mktemp -d)
-trap 'rm -rf "$work"' EXIT
+. "$top/bench/scratch.sh"
 if [ $# -gt 0 ]; then
     program=$(cd "$(dirname "$1")" && pwd)/$(basename "$1")
 else
-    for crate in $("$top/bench/below.sh" p4x); do
-        mkdir -p "$work/crates/$crate"
-        for part in src specs proofs data; do
-            if [ -e "$top/crates/$crate/$part" ]; then cp -r "$top/crates/$crate/$part" "$work/crates/$crate"; fi
-        done
-        grep "^$crate:" "$top/crates.txt" >>"$work/crates.txt"
-    done
+    copy_crates p4x
     cd "$work/crates/p4x"
-    rt run -- check data/p1.p4 >"$work/log" 2>&1 || { cat "$work/log"; exit 1; }
+    run_once -- check data/p1.p4
     program=$work/crates/p4x/out/p4x
 fi
 cd "$work"

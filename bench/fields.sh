@@ -3,15 +3,9 @@
 # runs. It wants rt and rustc. run.sh may call it; the gate doesn't run it. The program is proved first, in a scratch copy.
 set -eu
 top=$(cd "$(dirname "$0")/.." && pwd)
-work=$(mktemp -d)
-trap 'rm -rf "$work"' EXIT
-mkdir -p "$work/crates/bench_fields/src" "$work/crates/p4x_bits"
-for part in src specs proofs; do cp -r "$top/crates/p4x_bits/$part" "$work/crates/p4x_bits"; done
-grep '^p4x_bits:' "$top/crates.txt" >"$work/crates.txt"
-echo 'bench_fields: p4x_bits anyhow' >>"$work/crates.txt"
-cp "$top/bench/fields.rattle" "$work/crates/bench_fields/src/main.rt"
-cd "$work/crates/bench_fields"
-rt run >"$work/log" 2>&1 || { cat "$work/log"; exit 1; }
+. "$top/bench/scratch.sh"
+make_program fields p4x_bits
+run_once
 rustc --edition 2024 -O -C target-cpu=x86-64-v2 -o "$work/fields" "$top/bench/fields.rs"
 for _ in 1 2 3; do out/bench_fields; "$work/fields"; done | awk '
     { way = $1 " " $2; time = $4 / $3; if (!(way in best) || time < best[way]) best[way] = time; sum[way] = $5 }

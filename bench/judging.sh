@@ -4,19 +4,9 @@
 # checks of p414_reader and p414_decl_check where none was kept. run.sh calls it; the gate doesn't run it.
 set -eu
 top=$(cd "$(dirname "$0")/.." && pwd)
-work=$(mktemp -d)
-trap 'rm -rf "$work"' EXIT
-mkdir -p "$work/crates/bench_judging/src"
-for crate in p4x_bits digraph p4x_fault token_division predictive_parser text_reading p414_lexemes p414_tok node_lists p414_ast p414_rules \
-    p414_names p414_uses p414_list_check p414_decl_check name_numbers parse_graph least_order deparse_order p414_reader; do
-    mkdir "$work/crates/$crate"
-    for part in src specs proofs; do [ ! -d "$top/crates/$crate/$part" ] || cp -r "$top/crates/$crate/$part" "$work/crates/$crate"; done
-    grep "^$crate:" "$top/crates.txt" >>"$work/crates.txt"
-done
-echo 'bench_judging: p4x_bits p414_ast p414_reader p414_decl_check parse_graph deparse_order anyhow' >>"$work/crates.txt"
-cp "$top/bench/judging.rattle" "$work/crates/bench_judging/src/main.rt"
-cd "$work/crates/bench_judging"
-rt run >"$work/log" 2>&1 || { cat "$work/log"; exit 1; }
+. "$top/bench/scratch.sh"
+make_program judging p4x_bits p414_ast p414_reader p414_decl_check parse_graph deparse_order
+run_once
 for _ in 1 2 3; do out/bench_judging; done | awk '
     function least(of, name, time) { if (!(name in of) || time < of[name]) of[name] = time }
     $1 ~ /^order/ { states[$1] = $2; least(ordered, $1, $3); found[$1] = $4; next }

@@ -4,18 +4,9 @@
 # as the check of p414_reader where none was kept. run.sh calls it; the gate doesn't run it.
 set -eu
 top=$(cd "$(dirname "$0")/.." && pwd)
-work=$(mktemp -d)
-trap 'rm -rf "$work"' EXIT
-mkdir -p "$work/crates/bench_reading/src"
-for crate in p4x_bits p4x_fault token_division predictive_parser text_reading p414_lexemes p414_tok node_lists p414_ast p414_reader; do
-    mkdir "$work/crates/$crate"
-    for part in src specs proofs; do cp -r "$top/crates/$crate/$part" "$work/crates/$crate"; done
-    grep "^$crate:" "$top/crates.txt" >>"$work/crates.txt"
-done
-echo 'bench_reading: p414_tok p414_reader anyhow' >>"$work/crates.txt"
-cp "$top/bench/reading.rattle" "$work/crates/bench_reading/src/main.rt"
-cd "$work/crates/bench_reading"
-rt run >"$work/log" 2>&1 || { cat "$work/log"; exit 1; }
+. "$top/bench/scratch.sh"
+make_program reading p414_tok p414_reader
+run_once
 for _ in 1 2 3; do out/bench_reading; done | awk '
     function least(of, name, time) { if (!(name in of) || time < of[name]) of[name] = time }
     { octets[$1] = $2; count[$1] = $3; least(lexed, $1, $4); least(read, $1, $5); told[$1] = $6 }

@@ -4,19 +4,10 @@
 # as the check of p416_reader where none was kept. run.sh calls it; the gate doesn't run it.
 set -eu
 top=$(cd "$(dirname "$0")/.." && pwd)
-work=$(mktemp -d)
-trap 'rm -rf "$work"' EXIT
-mkdir -p "$work/crates/bench_reading/src"
-for crate in p4x_bits p4x_fault token_division predictive_parser text_reading node_lists p416_lexemes p416_tok p416_ast p416_reader; do
-    mkdir "$work/crates/$crate"
-    for part in src specs proofs; do cp -r "$top/crates/$crate/$part" "$work/crates/$crate"; done
-    grep "^$crate:" "$top/crates.txt" >>"$work/crates.txt"
-done
-echo 'bench_reading: p416_tok p416_reader anyhow' >>"$work/crates.txt"
-cp "$top/bench/reading16.rattle" "$work/crates/bench_reading/src/main.rt"
-cd "$work/crates/bench_reading"
-rt run >"$work/log" 2>&1 || { cat "$work/log"; exit 1; }
-for _ in 1 2 3; do out/bench_reading; done | awk '
+. "$top/bench/scratch.sh"
+make_program reading16 p416_tok p416_reader
+run_once
+for _ in 1 2 3; do out/bench_reading16; done | awk '
     function least(of, name, time) { if (!(name in of) || time < of[name]) of[name] = time }
     { octets[$1] = $2; count[$1] = $3; least(lexed, $1, $4); least(read, $1, $5); told[$1] = $6 }
     function row(name, title) {

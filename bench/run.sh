@@ -5,20 +5,13 @@
 # It wants rt and rustc. The gate doesn't run it. The program is proved first, in a scratch copy of the crates that it calls.
 set -eu
 top=$(cd "$(dirname "$0")/.." && pwd)
-work=$(mktemp -d)
-trap 'rm -rf "$work"' EXIT
-mkdir -p "$work/crates/bench_tables/src" "$work/crates/bench_tables/proofs/fill" "$work/crates/bench_tables/proofs/fill_pairs"
-for crate in p4x_bits state_store match_core calc_core; do
-    mkdir "$work/crates/$crate"
-    for part in src specs proofs; do cp -r "$top/crates/$crate/$part" "$work/crates/$crate"; done
-    grep "^$crate:" "$top/crates.txt" >>"$work/crates.txt"
+. "$top/bench/scratch.sh"
+make_program tables p4x_bits match_core calc_core
+for way in fill fill_pairs; do
+    mkdir -p "proofs/$way"
+    cp "$top/bench/$way.rattle" "proofs/$way/Invariants.antt"
 done
-echo 'bench_tables: p4x_bits match_core calc_core anyhow' >>"$work/crates.txt"
-cp "$top/bench/tables.rattle" "$work/crates/bench_tables/src/main.rt"
-cp "$top/bench/fill.rattle" "$work/crates/bench_tables/proofs/fill/Invariants.antt"
-cp "$top/bench/fill_pairs.rattle" "$work/crates/bench_tables/proofs/fill_pairs/Invariants.antt"
-cd "$work/crates/bench_tables"
-rt run >"$work/log" 2>&1 || { cat "$work/log"; exit 1; }
+run_once
 rustc --edition 2024 -O -C target-cpu=x86-64-v2 -o "$work/baseline" "$top/bench/baseline.rs"
 for _ in 1 2 3; do out/bench_tables; "$work/baseline"; done | awk '
     { way = $1 " " $2; rate = $3 * 1e9 / $4; if (rate > best[way]) best[way] = rate; sum[way] = $5 }
