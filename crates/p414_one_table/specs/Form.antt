@@ -28,7 +28,7 @@ use Rattle.p414_ast.specs.declared.syntax.Decl.TheVariants as decl
 use Rattle.p414_ast.specs.declared.syntax.Syntax14.{Syntax14}
 use Rattle.p414_ast.specs.Conditions.{is_bare}
 use Rattle.p414_ast.specs.Tree.{Stmt, no_statements, then as followed_by, apply}
-use Rattle.p414_ast.specs.Views.{HeaderTypeTree, TailTree, ControlTree}
+use Rattle.p414_ast.specs.Views.{HeaderTypeTree, ControlTree}
 use Rattle.p414_one_table.specs.declared.program.Field.{Field}
 use Rattle.p414_one_table.specs.declared.program.OneTable14.{OneTable14}
 use Rattle.p414_one_table.specs.Programs.{is_one_table}
@@ -139,15 +139,11 @@ applies t other = false
 abbrev pub is_ingress_of : List ℕ → ControlTree → Bool
 is_ingress_of t c = bytes_eq c.name (codes "ingress") && applies t c.body
 
--- the program, where its names and numbers are such as it may have
-abbrev pub judged : OneTable14 → Option OneTable14
-judged p = if is_one_table p then Some p else None
-
--- the program whose action sends to this port, if it sends to one
+-- what the parts name, with the port that the action sends to, if it sends to one
 abbrev pub with_port : HeaderTypeTree → Header → Action → Table → Option ℕ → Option OneTable14
 with_port t h a b None = None
 with_port t h a b (Some port) =
-    judged (record { fields = map plain_field t.fields; instance = h.name; action = a.name; port = port; table = b.name })
+    Some (record { fields = map plain_field t.fields; instance = h.name; action = a.name; port = port; table = b.name })
 
 -- the parts name each other as those of a program do
 abbrev pub are_parts : HeaderTypeTree → Header → Parser → Action → Table → ControlTree → Bool
@@ -155,7 +151,7 @@ are_parts t h p a b c =
     is_plain_type t && is_header_of t.name h && is_start_of h.name p && are_attributes_of a.name b.attributes
     && is_ingress_of b.name c
 
--- the program of six declarations, if they are its parts
+-- the names and numbers of six declarations, if they are the parts of a program
 abbrev pub of_parts : HeaderTypeTree → Header → Parser → Action → Table → ControlTree → Option OneTable14
 of_parts t h p a b c = if are_parts t h p a b c then with_port t h a b (port_of a) else None
 
@@ -163,6 +159,11 @@ abbrev pub of_decls : List Decl → Option OneTable14
 of_decls (decl.HeaderType t ∷ decl.Header h ∷ decl.Parser p ∷ decl.Action a ∷ decl.Table b ∷ decl.Control c ∷ []) =
     of_parts t h p a b c
 of_decls decls = None
+
+-- the program with these names and numbers, if it may have them
+abbrev pub judged : Option OneTable14 → Option OneTable14
+judged None = None
+judged (Some p) = if is_one_table p then Some p else None
 
 -- The program of the one-table form that a syntax is, if it is one:
 --
@@ -173,4 +174,4 @@ of_decls decls = None
 --   table t { actions { a ; } default_action : a ( ) ; }
 --   control ingress { apply ( t ) ; }
 abbrev pub one_table_of : Syntax14 → Option OneTable14
-one_table_of s = of_decls s.decls
+one_table_of s = judged (of_decls s.decls)

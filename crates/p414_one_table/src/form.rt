@@ -12,16 +12,6 @@ use p4x_bits::{OutOfMemory, Text};
 use p414_ast::{Action, Control, Decl, Header, HeaderType, Parser, Syntax14, Table};
 use std::alloc::Global;
 
-fn judged(program: OneTable14) -> Option<OneTable14>
-    ensures { result ≡ form.judged program }
-{
-    if is_one_table(&program) {
-        Some(program)
-    } else {
-        None
-    }
-}
-
 fn with_port(
     alloc: Global,
     header_type: &HeaderType,
@@ -35,14 +25,13 @@ fn with_port(
     let Some(port) = port else {
         return Ok(None);
     };
-    let program = OneTable14 {
+    Ok(Some(OneTable14 {
         fields: plain_fields(alloc, header_type.fields())?,
         instance: Text::from_slice(alloc, header.name.as_slice())?,
         action: Text::from_slice(alloc, action.name.as_slice())?,
         port,
         table: Text::from_slice(alloc, table.name.as_slice())?,
-    };
-    Ok(judged(program))
+    }))
 }
 
 fn are_parts(
@@ -62,13 +51,11 @@ fn are_parts(
         && is_ingress_of(table.name.as_slice(), control)
 }
 
-/// The program of the one-table form that a syntax is, if it is one, in a layout of any kind and with its numbers written in any
-/// way. The one error is want of memory. (P4_14 1.0.5, "Headers and Fields", "Parser Specification", "Actions", "Table
-/// Declarations", "Packet Processing and Control Flow".)
-pub fn one_table_of(alloc: Global, syntax: &Syntax14) -> Result<Option<OneTable14>, OutOfMemory>
-    ensures { IfOk result (λ found. found ≡ form.one_table_of syntax.now) }
+/// What the declarations name, where they are the parts of a program.
+fn candidate(alloc: Global, decls: &[Decl]) -> Result<Option<OneTable14>, OutOfMemory>
+    ensures { IfOk result (λ found. found ≡ form.of_decls decls.now) }
 {
-    match syntax.decls.as_slice() {
+    match decls {
         [
             Decl::HeaderType(header_type),
             Decl::Header(header),
@@ -85,4 +72,30 @@ pub fn one_table_of(alloc: Global, syntax: &Syntax14) -> Result<Option<OneTable1
         }
         _ => Ok(None),
     }
+}
+
+/// The program with these names and numbers, where it may have them.
+fn judged(found: Option<OneTable14>) -> Option<OneTable14>
+    ensures { result ≡ form.judged found }
+{
+    match found {
+        Some(program) => {
+            if is_one_table(&program) {
+                Some(program)
+            } else {
+                None
+            }
+        }
+        None => None,
+    }
+}
+
+/// The program of the one-table form that a syntax is, if it is one: in any layout, and with its numbers written in any way. The one
+/// error is want of memory. (P4_14 1.0.5, "Headers and Fields", "Parser Specification", "Actions", "Table Declarations", "Packet
+/// Processing and Control Flow".)
+pub fn one_table_of(alloc: Global, syntax: &Syntax14) -> Result<Option<OneTable14>, OutOfMemory>
+    ensures { IfOk result (λ found. found ≡ form.one_table_of syntax.now) }
+{
+    let found = candidate(alloc, syntax.decls.as_slice())?;
+    Ok(judged(found))
 }
