@@ -78,28 +78,40 @@ fn queue_egress_clone<Q: Drop, H: Drop>(
     Ok(())
 }
 
-/// Queues the clone that is made at the end of ingress, if any, and behind it the resubmitted packet. The octets are
-/// copied only where both need them.
-fn queue_resubmitted<Q: Drop, H: Drop>(
+/// Ends the pass of an item that is resubmitted: queues the clone that is made at the end of ingress, if any, and behind
+/// it the item with what is preserved now. The octets are copied only where both need them.
+fn end_resubmitted<Q: Drop, H: Drop>(
     alloc: Global,
     queue: &mut Queue<Job<Q, H>>,
-    octets: Octets,
+    came: Item<Q>,
     from: u16,
     clone: Option<(u16, Q)>,
     kept: Q,
 ) -> Result<(), OutOfMemory>
-    ensures { OnOk result (queue.new ≡ queue.old ++ (ingress_clones octets from clone ++ resubmitted octets from kept ∷ [])) }
+    ensures { OnOk result (queue.new ≡ queue.old ++ (ingress_clones came.octets from clone ++ resubmitted came.octets from kept ∷ [])) }
 {
     if clone.is_some() {
-        let copied = Octets::from_slice(alloc, octets.as_slice())?;
+        let copied = Octets::from_slice(alloc, came.octets.as_slice())?;
         queue_ingress_clone(queue, copied, from, clone)?;
     }
     queue.push(Job::Ordinary(Item {
-        octets,
+        octets: came.octets,
         port: from,
         instance: 6,
         kept,
     }))
+}
+
+/// Ends the pass of an item that ingress dropped: queues the clone that is made at the end of ingress, if any.
+fn end_dropped<Q: Drop, H: Drop>(
+    queue: &mut Queue<Job<Q, H>>,
+    came: Item<Q>,
+    from: u16,
+    clone: Option<(u16, Q)>,
+) -> Result<(), OutOfMemory>
+    ensures { OnOk result (queue.new ≡ queue.old ++ ingress_clones came.octets from clone) }
+{
+    queue_ingress_clone(queue, came.octets, from, clone)
 }
 
 /// Egress of what is held, and what comes of the packet after it.
@@ -159,14 +171,13 @@ fn make_ingress<P: Passes>(
     let clone = clone_of(sessions, ended.clone);
     match ended.next {
         IngressNext::Resubmit(kept) => {
-            queue_resubmitted(alloc, &mut progress.queue, came.octets, from, clone, kept)?;
+            end_resubmitted(alloc, &mut progress.queue, came, from, clone, kept)?;
         }
-        IngressNext::Drop => {
-            queue_ingress_clone(&mut progress.queue, came.octets, from, clone)?;
-        }
+        IngressNext::Drop => end_dropped(&mut progress.queue, came, from, clone)?,
         IngressNext::Go(port, held) => {
-            queue_ingress_clone(&mut progress.queue, came.octets, from, clone)?;
-            make_egress(passes, progress, sessions, from, held, port, came.instance)?;
+            let instance = came.instance;
+            end_dropped(&mut progress.queue, came, from, clone)?;
+            make_egress(passes, progress, sessions, from, held, port, instance)?;
         }
     }
     Ok(())
