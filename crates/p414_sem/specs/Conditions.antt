@@ -12,20 +12,19 @@ use Rattle.p414_ast.specs.declared.syntax.Decl.{Decl}
 use Rattle.p414_ast.specs.Tree.{Expr, valid, truth, field, number, parenthesized, unary, binary}
 use Rattle.p414_rules.specs.Primitives.{is_standard}
 use Rattle.p414_sem.specs.Slots.{slot_of, bits_of_ref, element_of}
-use Rattle.p414_sem.specs.State.{State, read}
-use Rattle.p414_sem.specs.Effects.{is_valid_at}
+use Rattle.p414_sem.specs.State.{State, is_valid_at, read}
 
 -- how many bits a number needs, at least 1, counted up to a limit that no literal passes
-abbrev pub bits_needed_up_to : ℕ → ℕ → ℕ
-bits_needed_up_to zero n = 1
-bits_needed_up_to (suc limit) n = if nat_lt n (2 ^ (suc limit)) then bits_needed_up_to limit n else suc (suc limit)
+abbrev pub bit_length_within : ℕ → ℕ → ℕ
+bit_length_within zero n = 1
+bit_length_within (suc limit) n = if nat_lt n (2 ^ (suc limit)) then bit_length_within limit n else suc (suc limit)
 
-abbrev pub bits_needed : ℕ → ℕ
-bits_needed n = bits_needed_up_to 127 n
+abbrev pub bit_length : ℕ → ℕ
+bit_length n = bit_length_within 127 n
 
 -- the width of a literal: that of its prefix, or as many bits as its number needs
 abbrev pub literal_width : Literal → ℕ
-literal_width n = unwrap_or n.width (bits_needed n.value)
+literal_width n = unwrap_or n.width (bit_length n.value)
 
 -- the greatest width among the operands of an expression
 abbrev pub operand_width : List Decl → Expr → ℕ

@@ -28,10 +28,10 @@ use Rattle.p414_rules.specs.Names.{Name, find_name, names_in}
 use Rattle.p414_rules.specs.Arguments.{action_number}
 use Rattle.p414_sem.specs.Wholes.{whole, wrapped}
 use Rattle.p414_sem.specs.Slots.{slot_of, element_of}
-use Rattle.p414_sem.specs.State.{State, read, with_event}
-use Rattle.p414_sem.specs.Expanded.{Expanded, primitives_at}
+use Rattle.p414_sem.specs.State.{State, is_valid_at, read, with_event}
+use Rattle.p414_sem.specs.Expanded.{Expanded}
 use Rattle.p414_sem.specs.Operations.{in_order}
-use Rattle.p414_sem.specs.Effects.{Moment, is_valid_at, acted}
+use Rattle.p414_sem.specs.Effects.{Moment, acted_by}
 use Rattle.p414_sem.specs.Conditions.{holds}
 use Rattle.p414_sem.specs.Signatures.{parameter_widths, actions_in_order, table_sig, table_of}
 
@@ -117,7 +117,7 @@ run_chosen c t None m = m
 run_chosen c t (Some k) m = runs (action_number c.decls (chosen_name t k)) where
   runs : Option ℕ → Moment
   runs None = m
-  runs (Some action) = acted c.decls c.expanded c.rule k.arguments (primitives_at c.expanded action) m
+  runs (Some action) = acted_by c.decls c.expanded c.rule action k.arguments m
 
 -- a direct counter counts the entry of a hit, and nothing on a miss
 abbrev pub counted : Option ℕ → Option ℕ → Moment → Moment
@@ -141,8 +141,8 @@ pub record Applied : Type 0 where
   pub action : Option Name
   pub moment : Moment
 
-abbrev pub applied_by : Setting → Table → Option ℕ → Moment → Applied
-applied_by c t entry m =
+abbrev pub application_of : Setting → Table → Option ℕ → Moment → Applied
+application_of c t entry m =
     let k = chosen c t entry in
     let before = noted (signature_number c.decls t) entry k m in
     record {
@@ -155,7 +155,7 @@ abbrev pub applied : Setting → Name → Moment → Applied
 applied c table m = applies (table_of c.decls table) where
   applies : Option Table → Applied
   applies None = record { hit = false; action = None; moment = m }
-  applies (Some t) = applied_by c t (found c m.state t) m
+  applies (Some t) = application_of c t (found c m.state t) m
 
 -- branches
 

@@ -14,8 +14,8 @@ use Rattle.p414_rules.specs.Arguments.{Invocation}
 use Rattle.p414_sem.specs.declared.requests.Request14.{Request14}
 use Rattle.p414_sem.specs.Wholes.{wrapped, kept, natural, and_ℤ, or_ℤ, xor_ℤ, masked}
 use Rattle.p414_sem.specs.Slots.{Slot, Element, Target}
-use Rattle.p414_sem.specs.State.{Header, State, instance_at, header_at, is_valid, read, is_live, with_header, with_elements, written, with_request, cleared}
-use Rattle.p414_sem.specs.Expanded.{Expanded}
+use Rattle.p414_sem.specs.State.{Header, State, header_of, is_valid_at, elements_at, read, is_live, with_header, with_elements, written, with_request, cleared}
+use Rattle.p414_sem.specs.Expanded.{Expanded, primitives_at}
 use Rattle.p414_sem.specs.Calculations.{result_of}
 use Rattle.p414_sem.specs.Operations.{Source, number, field, parameter, Term, just, on_mask, sum, difference, conjunction, disjunction, exclusive, left_shift, right_shift, cell, hashed, Primitive, write, add_header, remove_header, copy_header, push, pop, count_cell, write_cell, execute_meter, ask, nothing, primitive_of}
 
@@ -27,39 +27,39 @@ pub record Moment : Type 0 where
 -- numbers
 
 -- the whole number of a source; a parameter's is an argument
-abbrev pub value_of : List ℕ → State → Source → ℤ
-value_of arguments s (number value) = value
-value_of arguments s (field slot) = pos (read s slot)
-value_of arguments s (parameter n) = pos (slice_index arguments n)
+abbrev pub source_number : List ℕ → State → Source → ℤ
+source_number arguments s (number value) = value
+source_number arguments s (field slot) = pos (read s slot)
+source_number arguments s (parameter n) = pos (slice_index arguments n)
 
 -- a number that isn't negative, and an index or a session, which is kept modulo 2 ^ 32
 abbrev pub natural_of : List ℕ → State → Source → ℕ
-natural_of arguments s source = natural (value_of arguments s source)
+natural_of arguments s source = natural (source_number arguments s source)
 
 abbrev pub index_of : List ℕ → State → Source → ℕ
-index_of arguments s source = wrapped 32 (value_of arguments s source)
+index_of arguments s source = wrapped 32 (source_number arguments s source)
 
 -- the base and the result modulo the bound, or the base where the bound is 0
-abbrev pub in_range : ℕ → ℕ → ℕ → ℕ
-in_range base result bound = if bound == 0 then base else base + result % bound
+abbrev pub offset_of : ℕ → ℕ → ℕ → ℕ
+offset_of base result bound = if bound == 0 then base else base + result % bound
 
 -- the number that a term gives to the field at this slot
 abbrev pub term_number : List Decl → List ℕ → Moment → Slot → Term → ℤ
-term_number ds arguments r slot (just a) = value_of arguments r.state a
+term_number ds arguments r slot (just a) = source_number arguments r.state a
 term_number ds arguments r slot (on_mask a mask) =
-    masked (pos (read r.state slot)) (value_of arguments r.state a) (value_of arguments r.state mask)
-term_number ds arguments r slot (sum a b) = value_of arguments r.state a +ℤ value_of arguments r.state b
-term_number ds arguments r slot (difference a b) = value_of arguments r.state a -ℤ value_of arguments r.state b
-term_number ds arguments r slot (conjunction a b) = and_ℤ (value_of arguments r.state a) (value_of arguments r.state b)
-term_number ds arguments r slot (disjunction a b) = or_ℤ (value_of arguments r.state a) (value_of arguments r.state b)
-term_number ds arguments r slot (exclusive a b) = xor_ℤ (value_of arguments r.state a) (value_of arguments r.state b)
+    masked (pos (read r.state slot)) (source_number arguments r.state a) (source_number arguments r.state mask)
+term_number ds arguments r slot (sum a b) = source_number arguments r.state a +ℤ source_number arguments r.state b
+term_number ds arguments r slot (difference a b) = source_number arguments r.state a -ℤ source_number arguments r.state b
+term_number ds arguments r slot (conjunction a b) = and_ℤ (source_number arguments r.state a) (source_number arguments r.state b)
+term_number ds arguments r slot (disjunction a b) = or_ℤ (source_number arguments r.state a) (source_number arguments r.state b)
+term_number ds arguments r slot (exclusive a b) = xor_ℤ (source_number arguments r.state a) (source_number arguments r.state b)
 term_number ds arguments r slot (left_shift a count) =
     pos (natural_of arguments r.state a * 2 ^ natural_of arguments r.state count)
 term_number ds arguments r slot (right_shift a count) =
     pos (natural_of arguments r.state a / 2 ^ natural_of arguments r.state count)
 term_number ds arguments r slot (cell object index) = pos (read_cell r.store object (index_of arguments r.state index))
 term_number ds arguments r slot (hashed base calculation bound) =
-    pos (in_range (natural_of arguments r.state base) (result_of ds r.state calculation) (natural_of arguments r.state bound))
+    pos (offset_of (natural_of arguments r.state base) (result_of ds r.state calculation) (natural_of arguments r.state bound))
 
 -- effects
 
@@ -82,12 +82,6 @@ field_effect ds arguments r sums target term =
     ∷ []
     else []
 
-abbrev pub header_of : State → Element → Header
-header_of s at = header_at s at.instance at.element
-
-abbrev pub is_valid_at : State → Element → Bool
-is_valid_at s at = is_valid s at.instance at.element
-
 -- elements moved up by so many, of which the first ones, at most all, become valid with fields 0; the last ones are gone,
 -- and the stack's place stays (this project's own)
 abbrev pub pushed : ℕ → List Header → List Header
@@ -97,9 +91,6 @@ pushed count elements = take (length elements) (map (cleared true) (take count e
 abbrev pub popped : ℕ → List Header → List Header
 popped count elements = drop count elements ++ map (cleared false) (take count elements)
 
-abbrev pub elements_of : State → ℕ → List Header
-elements_of s stack = (instance_at s stack).elements
-
 -- the effects of a primitive whose operands are read in r
 abbrev pub effects : List Decl → List ℕ → Moment → Primitive → List Effect
 effects ds arguments r (write sums target term) = field_effect ds arguments r sums target term
@@ -107,12 +98,12 @@ effects ds arguments r (add_header header) =
     if is_valid_at r.state header then [] else put_header header (cleared true (header_of r.state header)) ∷ []
 effects ds arguments r (remove_header header) = put_header header (cleared false (header_of r.state header)) ∷ []
 effects ds arguments r (copy_header header from) = put_header header (header_of r.state from) ∷ []
-effects ds arguments r (push stack count) = put_stack stack (pushed count (elements_of r.state stack)) ∷ []
-effects ds arguments r (pop stack count) = put_stack stack (popped count (elements_of r.state stack)) ∷ []
+effects ds arguments r (push stack count) = put_stack stack (pushed count (elements_at r.state stack)) ∷ []
+effects ds arguments r (pop stack count) = put_stack stack (popped count (elements_at r.state stack)) ∷ []
 effects ds arguments r (count_cell object index) = count_packet object (index_of arguments r.state index) ∷ []
 effects ds arguments r (write_cell object index value) =
     put_cell object (index_of arguments r.state index)
-    (wrapped (width_of (shape_at r.store.shapes object)) (value_of arguments r.state value))
+    (wrapped (width_of (shape_at r.store.shapes object)) (source_number arguments r.state value))
     ∷ []
 effects ds arguments r (execute_meter object index target) =
     take_colour object (index_of arguments r.state index) target (is_live r.state target.slot) ∷ []
@@ -163,3 +154,7 @@ in_parallel ds x arguments r (i ∷ rest) m =
 abbrev pub acted : List Decl → Expanded → Rule14 → List ℕ → List Invocation → Moment → Moment
 acted ds x Sequential arguments primitives m = in_sequence ds x arguments primitives m
 acted ds x Parallel arguments primitives m = in_parallel ds x arguments m primitives m
+
+-- the action with this number, in the order of declaration, called with these arguments
+abbrev pub acted_by : List Decl → Expanded → Rule14 → ℕ → List ℕ → Moment → Moment
+acted_by ds x rule action arguments m = acted ds x rule arguments (primitives_at x action) m

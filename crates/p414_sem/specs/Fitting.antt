@@ -5,6 +5,7 @@ use Rattle.std.specs.List.{AllZip}
 use Rattle.p4x_bits.specs.BitLists.{IsOctets}
 use Rattle.p414_lexemes.specs.declared.lexeme.Literal.{Literal}
 use Rattle.fabric.specs.declared.items.Event.{Event}
+use Rattle.match_core.specs.Fits.{Fits}
 use Rattle.p414_ast.specs.declared.syntax.Decl.{Decl}
 use Rattle.p414_ast.specs.declared.syntax.Decl.TheVariants as decl
 use Rattle.p414_ast.specs.declared.syntax.Sort.TheVariants as sort
@@ -13,7 +14,10 @@ use Rattle.p414_rules.specs.Totals.{elements_of}
 use Rattle.p414_rules.specs.Expansion.{lists}
 use Rattle.p414_sem.specs.declared.requests.Request14.{Request14}
 use Rattle.p414_sem.specs.State.{Header, Instance, State}
-use Rattle.p414_sem.specs.Packing.{widths_of}
+use Rattle.p414_sem.specs.Packing.{widths_of_type}
+use Rattle.p414_sem.specs.Expanded.{IsExpanded}
+use Rattle.p414_sem.specs.Signatures.{signature14}
+use Rattle.p414_sem.specs.Controls.{Setting}
 use Rattle.p414_sem.specs.Passes.{Preserved, Held}
 
 -- one number for each of these widths, below 2 ^ width
@@ -44,8 +48,8 @@ pub record FitsMetadata (widths : List ℕ) (i : Instance) : Type 0 where
   pub fit : FitWidths widths numbers
 
 abbrev pub FitsInstance : List Decl → Decl → Instance → Type 0
-FitsInstance ds (decl.Header x) i = FitsElements (widths_of ds x.name) x.size i
-FitsInstance ds (decl.Metadata x) i = FitsMetadata (widths_of ds x.name) i
+FitsInstance ds (decl.Header x) i = FitsElements (widths_of_type ds x.header_type) x.size i
+FitsInstance ds (decl.Metadata x) i = FitsMetadata (widths_of_type ds x.header_type) i
 FitsInstance ds _ i = ⊥
 
 -- a session has 32 bits, and a list is one that the program declares
@@ -74,9 +78,14 @@ pub record IsState (ds : List Decl) (s : State) : Type 0 where
   pub recirculate : IfSome s.recirculate (FitsRequest ds)
   pub events : All FitsEvent s.events
 
+-- What a control runs with is of one program: what the declarations come to, and entries that fit their signature.
+pub record IsSetting (c : Setting) : Type 0 where
+  pub expanded : IsExpanded c.decls c.expanded
+  pub entries : Fits c.entries (signature14 c.decls)
+
 -- a preserved set of the program: a number for each field of metadata, and none for a header
 abbrev pub FitsPreserved : List Decl → Decl → List ℕ → Type 0
-FitsPreserved ds (decl.Metadata x) numbers = FitWidths (widths_of ds x.name) numbers
+FitsPreserved ds (decl.Metadata x) numbers = FitWidths (widths_of_type ds x.header_type) numbers
 FitsPreserved ds _ numbers = numbers ≡ []
 
 abbrev pub IsPreserved : List Decl → Preserved → Type 0

@@ -1,4 +1,4 @@
--- What a P4_14 program does with a packet. Read State first, then Passes, which names what the rest defines:
+-- What a P4_14 program does with a packet. Read State first, then Meanings and Passes, which name what the rest defines:
 --     Wholes            whole numbers, and what a field keeps of one
 --     Slots             what names of instances and fields mean by number
 --     State             the state of a packet
@@ -13,7 +13,9 @@
 --     Controls          tables and controls
 --     CalculatedFields  how calculated fields are verified and updated
 --     Passes            ingress, a second parsing, egress, and what is preserved
---     Fitting           which states, preserved sets and held values are those of a program
+--     Runs              what a list of packets leaves
+--     Meanings          Parse14, Act14, ListBits14, Control14, Verify14 and Update14, the meanings by their names
+--     Fitting           which states, settings, preserved sets and held values are those of a program
 --     Stages            how much a program asks of what runs or translates it
 pub mod Wholes
 pub mod Slots
@@ -29,5 +31,7 @@ pub mod Signatures
 pub mod Controls
 pub mod CalculatedFields
 pub mod Passes
+pub mod Runs
+pub mod Meanings
 pub mod Fitting
 pub mod Stages

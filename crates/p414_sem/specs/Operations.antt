@@ -19,7 +19,7 @@ use Rattle.p414_rules.specs.ParserGraph.{instance_number}
 use Rattle.p414_rules.specs.Arguments.{Argument, number_argument, field_argument, parameter_argument, name_argument, Invocation}
 use Rattle.p414_sem.specs.declared.standard.Standard.TheVariants.{EgressSpec}
 use Rattle.p414_sem.specs.Wholes.{whole}
-use Rattle.p414_sem.specs.Slots.{Slot, standard, declared, Element, Target, element_of, slot_of, target_of}
+use Rattle.p414_sem.specs.Slots.{Slot, standard, declared, Element, Target, element_of, slot_of, field_target}
 use Rattle.p414_sem.specs.Expanded.{Expanded}
 use Rattle.p414_sem.specs.Calculations.{Calculation, calculation_named}
 
@@ -88,7 +88,7 @@ source_of ds (parameter_argument n) = parameter n
 source_of ds (name_argument i) = number (pos 0)
 
 abbrev pub target_in : List Decl → Argument → Target
-target_in ds (field_argument r) = target_of ds r
+target_in ds (field_argument r) = field_target ds r
 target_in ds _ = no_target ds
 
 abbrev pub element_in : List Decl → Argument → Element

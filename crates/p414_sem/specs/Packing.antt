@@ -6,12 +6,17 @@ use Rattle.p4x_bits.specs.BitLists.{num, bits}
 use Rattle.p414_ast.specs.declared.syntax.Decl.{Decl}
 use Rattle.p414_ast.specs.Views.{HeaderTypeTree}
 use Rattle.p414_rules.specs.Names.{Name}
-use Rattle.p414_rules.specs.Fields.{instance_type, field_bits}
+use Rattle.p414_rules.specs.Fields.{type_of, instance_type, field_bits}
 
--- the widths of the fields of an instance, in order
+-- the widths of the fields of a header type, in order
 abbrev pub type_widths : HeaderTypeTree → List ℕ
 type_widths t = map field_bits t.fields
 
+-- those of the header type with this name
+abbrev pub widths_of_type : List Decl → Name → List ℕ
+widths_of_type ds name = option_map_or type_widths (type_of ds name) []
+
+-- those of the instance with this name
 abbrev pub widths_of : List Decl → Name → List ℕ
 widths_of ds instance = option_map_or type_widths (instance_type ds instance) []
 

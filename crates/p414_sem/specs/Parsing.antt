@@ -1,6 +1,6 @@
 -- How a packet is parsed (P4_14 1.0.5, "Parser Specification", "Standard Parser Exceptions"; what an exception does is
 -- this project's own). Parsing begins in the state `start` and ends in one of the four ways of `Parsed`.
-use Rattle.std.specs.Prelude.{ℕ, zero, suc, ◌+◌, ◌*◌, ◌/◌, ◌^◌, Bool, true, false, not, ◌&&◌, nat_lt, ◌==◌, if◌then◌else◌, ℤ, pos, bit_and, List, [], ◌∷◌, length, map, take, drop, slice_get, sum, Option, Some, None, codes, option_and_then}
+use Rattle.std.specs.Prelude.{ℕ, zero, suc, ◌+◌, ◌*◌, ◌/◌, ◌^◌, Bool, true, false, not, ◌&&◌, nat_lt, ◌==◌, if◌then◌else◌, ℤ, pos, bit_and, List, [], ◌∷◌, length, map, take, drop, slice_get, sum, Option, Some, None, codes, option_and_then, option_map}
 use Rattle.std.specs.List.{list_any, fold}
 use Rattle.std.specs.Option.{option_map_or}
 use Rattle.p4x_bits.specs.BitLists.{num, octet_bits}
@@ -33,7 +33,7 @@ use Rattle.p414_rules.specs.ParserGraph.{states, state_number, instance_number}
 use Rattle.p414_sem.specs.declared.parsed.Parsed.{Parsed}
 use Rattle.p414_sem.specs.declared.parsed.Parsed.TheVariants.{Accepted, OutOfPacket, OutOfBounds, UnhandledSelect}
 use Rattle.p414_sem.specs.Wholes.{whole, wrapped}
-use Rattle.p414_sem.specs.Slots.{Slot, declared, slot_of, target_of, element_number, field_number}
+use Rattle.p414_sem.specs.Slots.{Slot, declared, slot_of, field_target, element_number, field_number}
 use Rattle.p414_sem.specs.State.{State, Header, Instance, read, size_of, place_of, with_header, with_place, written, cleared}
 use Rattle.p414_sem.specs.Packing.{widths_of, numbers_in}
 
@@ -55,7 +55,7 @@ field_named instance field = record { instance = record { name = instance; index
 
 abbrev pub with_initial : List Decl → Name → State → Initial → State
 with_initial ds instance s i =
-    let target = target_of ds (field_named instance i.field) in
+    let target = field_target ds (field_named instance i.field) in
     written s target.slot (wrapped target.width (whole i.value))
 
 abbrev pub initialized : List Decl → State → Decl → State
@@ -75,9 +75,6 @@ pub record Latest : Type 0 where
   pub instance : Inst
   pub element : ℕ
 
-abbrev pub latest_instance : Latest → Inst
-latest_instance l = l.instance
-
 abbrev pub latest_slot : List Decl → Name → Latest → Slot
 latest_slot ds field l =
     declared (instance_number ds l.instance.name) l.element (field_number ds l.instance.name field)
@@ -94,11 +91,11 @@ abbrev pub current_bits : State → ℕ → ℕ → Option ℤ
 current_bits s offset width =
     if has_bits s (offset + width) then Some (pos (num (take width (drop offset (octet_bits s.unparsed))))) else None
 
-abbrev pub value_of : List Decl → Option Latest → State → PValue → Option ℤ
-value_of ds latest s (pvalue.Current offset width) = current_bits s offset.value width.value
-value_of ds latest s (pvalue.Latest field) = Some (option_map_or (latest_value ds s field) latest (pos 0))
-value_of ds latest s (pvalue.Field r) = Some (pos (read s (slot_of ds r)))
-value_of ds latest s (pvalue.Number n) = Some (whole n)
+abbrev pub parser_value : List Decl → Option Latest → State → PValue → Option ℤ
+parser_value ds latest s (pvalue.Current offset width) = current_bits s offset.value width.value
+parser_value ds latest s (pvalue.Latest field) = Some (option_map_or (latest_value ds s field) latest (pos 0))
+parser_value ds latest s (pvalue.Field r) = Some (pos (read s (slot_of ds r)))
+parser_value ds latest s (pvalue.Number n) = Some (whole n)
 
 -- statements
 
@@ -148,11 +145,11 @@ extracted ds i s =
 abbrev pub set : List Decl → Ref → Option Latest → State → Option ℤ → Progress
 set ds r latest s None = stops OutOfPacket s
 set ds r latest s (Some z) =
-    let target = target_of ds r in goes_on latest (written s target.slot (wrapped target.width z))
+    let target = field_target ds r in goes_on latest (written s target.slot (wrapped target.width z))
 
 abbrev pub does : List Decl → PStmt → Option Latest → State → Progress
 does ds (pstmt.Extract i) latest s = extracted ds i s
-does ds (pstmt.SetMetadata r v) latest s = set ds r latest s (value_of ds latest s v)
+does ds (pstmt.SetMetadata r v) latest s = set ds r latest s (parser_value ds latest s v)
 
 abbrev pub does_next : List Decl → Progress → PStmt → Progress
 does_next ds (goes_on latest s) statement = does ds statement latest s
@@ -160,7 +157,12 @@ does_next ds (stops end s) statement = stops end s
 
 -- selects
 
--- the values of a select joined, first value first; none where one of them goes past the end of the packet
+-- the instance that was extracted last, as it is written
+abbrev pub latest_instance : Latest → Inst
+latest_instance l = l.instance
+
+-- The number of the values of a select joined, first value first: those so far, then the bits of the next one. None
+-- where one of them goes past the end of the packet.
 abbrev pub joined : ℕ → Option ℤ → Option ℕ → Option ℕ
 joined width (Some z) (Some front) = Some (front * 2 ^ width + wrapped width z)
 joined width _ _ = None
@@ -168,20 +170,13 @@ joined width _ _ = None
 abbrev pub joined_from : List Decl → Option Latest → State → Option ℕ → List PValue → Option ℕ
 joined_from ds latest s front [] = front
 joined_from ds latest s front (v ∷ values) =
-    let width = value_bits ds (option_latest latest) v in
-    joined_from ds latest s (joined width (value_of ds latest s v) front) values where
-      option_latest : Option Latest → Option Inst
-      option_latest None = None
-      option_latest (Some l) = Some l.instance
+    joined_from ds latest s (joined (value_bits ds (option_map latest_instance latest) v) (parser_value ds latest s v) front) values
 
 abbrev pub key_of : List Decl → Option Latest → State → List PValue → Option ℕ
 key_of ds latest s values = joined_from ds latest s (Some 0) values
 
 abbrev pub key_width : List Decl → Option Latest → List PValue → ℕ
-key_width ds latest values = sum (map (value_bits ds (option_latest latest)) values) where
-  option_latest : Option Latest → Option Inst
-  option_latest None = None
-  option_latest (Some l) = Some l.instance
+key_width ds latest values = sum (map (value_bits ds (option_map latest_instance latest)) values)
 
 -- A value matches where it is the key, on the bits of its mask where one stands. One that doesn't fit the joined width
 -- never matches, whatever its mask.

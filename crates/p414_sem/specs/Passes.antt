@@ -46,18 +46,18 @@ abbrev pub none_preserved : List Decl → Preserved
 none_preserved ds = map (none_in ds) (declared_in sort.Instance ds)
 
 -- a number put into a preserved set; `standard_metadata` has no effect there, and headers have no place there
-abbrev pub put_slot : State → Preserved → Slot → Preserved
-put_slot s q (standard which) = q
-put_slot s q (declared i e f) = slice_set q i (slice_set (slice_index_or q i []) f (read s (declared i e f)))
+abbrev pub preserving_slot : State → Preserved → Slot → Preserved
+preserving_slot s q (standard which) = q
+preserving_slot s q (declared i e f) = slice_set q i (slice_set (slice_index_or q i []) f (read s (declared i e f)))
 
-abbrev pub put_item : List Decl → State → Preserved → Item → Preserved
-put_item ds s q (item.Field r) = put_slot s q (slot_of ds r)
-put_item ds s q _ = q
+abbrev pub preserving_item : List Decl → State → Preserved → Item → Preserved
+preserving_item ds s q (item.Field r) = preserving_slot s q (slot_of ds r)
+preserving_item ds s q _ = q
 
 -- what a request preserves: the fields of its list, if it has one, as they stand
 abbrev pub preserved_by : List Decl → Expanded → State → Option ℕ → Preserved
 preserved_by ds x s list =
-    fold (put_item ds s) (none_preserved ds) (option_map_or (items_in_list x) list [])
+    fold (preserving_item ds s) (none_preserved ds) (option_map_or (items_in_list x) list [])
 
 abbrev pub preserved : List Decl → Expanded → State → Request14 → Preserved
 preserved ds x s request = preserved_by ds x s request.list
@@ -156,15 +156,15 @@ reparse14 c store came = record { answer = held_of (parsed c.decls (begins c.dec
 abbrev pub header_octets : List ℕ → Header → List ℕ
 header_octets widths h = if h.valid then octets_in (bits_in widths h.numbers) else []
 
-abbrev pub instance_octets : List Decl → State → ℕ → List ℕ
-instance_octets ds s i =
+abbrev pub octets_of_instance : List Decl → State → ℕ → List ℕ
+octets_of_instance ds s i =
     flat_map (header_octets (option_map_or (λ (name : Name). widths_of ds name) (instance_name i) []))
     (slice_index_or s.instances i (record { elements = []; place = 0 })).elements where
       instance_name : ℕ → Option Name
       instance_name n = option_map_or (name_in sort.Instance) (numbered sort.Instance ds n) None
 
 abbrev pub deparsed : List Decl → Expanded → State → List ℕ
-deparsed ds x s = flat_map (instance_octets ds s) x.order ++ s.unparsed
+deparsed ds x s = flat_map (octets_of_instance ds s) x.order ++ s.unparsed
 
 -- as egress begins: on this port, of this kind, with nothing requested
 abbrev pub egress_begins : State → ℕ → ℕ → State

@@ -81,26 +81,26 @@ bits_asked ds i wanted =
     else if bytes_eq i.callee (codes "register_write") then first_of (filter_map (register_bits ds) (placed_in ds i))
     else first_of (filter_map (target_bits ds) (placed_in ds i))
 
-abbrev pub is_parameter : ℕ → Argument → Bool
-is_parameter p (parameter_argument n) = n == p
-is_parameter p _ = false
+abbrev pub is_use_of : ℕ → Argument → Bool
+is_use_of p (parameter_argument n) = n == p
+is_use_of p _ = false
 
 -- The bits that the uses of the parameter p among arguments ask, of which the first stands at the place k. `inner` is
 -- the width of the parameter at a place of the action that is called, if an action is.
-abbrev pub asked_at : (ℕ → ℕ) → ℕ → ℕ → List PlacedArgument → List ℕ
-asked_at bits p k [] = []
-asked_at bits p k (a ∷ rest) =
-    if is_parameter p a.argument then bits k ∷ asked_at bits p (k + 1) rest else asked_at bits p (k + 1) rest
+abbrev pub use_widths_from : (ℕ → ℕ) → ℕ → ℕ → List PlacedArgument → List ℕ
+use_widths_from bits p k [] = []
+use_widths_from bits p k (a ∷ rest) =
+    if is_use_of p a.argument then bits k ∷ use_widths_from bits p (k + 1) rest else use_widths_from bits p (k + 1) rest
 
 abbrev pub wanted_at : List PlacedArgument → ℕ → ArgumentPlace
 wanted_at arguments k = option_map_or (λ (a : PlacedArgument). a.wanted) (slice_get arguments k) place.Source
 
-abbrev pub bits_by : List Decl → (ℕ → ℕ → ℕ) → Invocation → Option ℕ → ℕ → ℕ
-bits_by ds inner i (Some callee) k = inner callee k
-bits_by ds inner i None k = bits_asked ds i (wanted_at (placed_in ds i) k)
+abbrev pub use_width : List Decl → (ℕ → ℕ → ℕ) → Invocation → Option ℕ → ℕ → ℕ
+use_width ds inner i (Some callee) k = inner callee k
+use_width ds inner i None k = bits_asked ds i (wanted_at (placed_in ds i) k)
 
-abbrev pub asked_in : List Decl → (ℕ → ℕ → ℕ) → ℕ → Invocation → List ℕ
-asked_in ds inner p i = asked_at (bits_by ds inner i (action_number ds i.callee)) p 0 (placed_in ds i)
+abbrev pub use_widths : List Decl → (ℕ → ℕ → ℕ) → ℕ → Invocation → List ℕ
+use_widths ds inner p i = use_widths_from (use_width ds inner i (action_number ds i.callee)) p 0 (placed_in ds i)
 
 -- the greatest of these, and 8 where there is none
 abbrev pub greatest : List ℕ → ℕ
@@ -115,7 +115,7 @@ calls_of ds action = option_map_or invocations_of (slice_get (actions ds) action
 abbrev pub width_within : List Decl → ℕ → ℕ → ℕ → ℕ
 width_within ds zero action p = 8
 width_within ds (suc calls) action p =
-    greatest (flat_map (asked_in ds (width_within ds calls) p) (calls_of ds action))
+    greatest (flat_map (use_widths ds (width_within ds calls) p) (calls_of ds action))
 
 abbrev pub parameter_width : List Decl → ℕ → ℕ → ℕ
 parameter_width ds action p = width_within ds (length (actions ds)) action p

@@ -92,6 +92,6 @@ is_saturating_ref ds r =
 abbrev pub bits_of_ref : List Decl → Ref → ℕ
 bits_of_ref ds r = unwrap_or (ref_width ds r) 0
 
-abbrev pub target_of : List Decl → Ref → Target
-target_of ds r =
+abbrev pub field_target : List Decl → Ref → Target
+field_target ds r =
     record { slot = slot_of ds r; width = bits_of_ref ds r; saturating = is_saturating_ref ds r }

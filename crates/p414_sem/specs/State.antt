@@ -1,8 +1,9 @@
 -- The state of a packet: a map that gives each instance and each element of a stack its validity and a number per field,
 -- with what belongs to the packet beside it (P4_14 1.0.5, "Headers and Fields", "Standard Intrinsic Metadata",
--- "Parser Specification"; requests and events are this project's own). Instances stand in the order of declaration, and
+-- "Parser Specification"; requests and events, and that a field reads 0 where the standard leaves it undefined, are this
+-- project's own). Instances stand in the order of declaration, and
 -- fields in the order of their header type. Metadata is always valid, and the fields of an invalid header are 0.
-use Rattle.std.specs.Prelude.{ℕ, ◌%◌, ◌^◌, Bool, true, false, if◌then◌else◌, List, [], ◌∷◌, ◌++◌, length, map, replicate, slice_index, slice_index_or, slice_set, Option, None}
+use Rattle.std.specs.Prelude.{ℕ, ◌%◌, ◌^◌, Bool, true, false, not, if◌then◌else◌, List, [], ◌∷◌, ◌++◌, length, drop, map, replicate, slice_index, slice_index_or, slice_set, Option, None}
 use Rattle.fabric.specs.declared.items.Event.{Event}
 use Rattle.fabric.specs.declared.items.RequestKind.{RequestKind}
 use Rattle.fabric.specs.declared.items.RequestKind.TheVariants.{CloneI2E, CloneE2E, Resubmit, Recirculate}
@@ -14,7 +15,7 @@ use Rattle.p414_rules.specs.Totals.{elements_of, fields_of_type}
 use Rattle.p414_sem.specs.declared.requests.Request14.{Request14}
 use Rattle.p414_sem.specs.declared.standard.Standard.{Standard}
 use Rattle.p414_sem.specs.declared.standard.Standard.TheVariants.{IngressPort, EgressSpec, EgressPort, PacketLength, InstanceType}
-use Rattle.p414_sem.specs.Slots.{Slot, standard, declared}
+use Rattle.p414_sem.specs.Slots.{Slot, standard, declared, Element}
 
 -- a header, an element of a stack, or metadata
 pub record Header : Type 0 where
@@ -61,6 +62,17 @@ header_at s i e = slice_index_or (instance_at s i).elements e no_header
 
 abbrev pub is_valid : State → ℕ → ℕ → Bool
 is_valid s i e = (header_at s i e).valid
+
+-- the header, the element or the metadata that is meant
+abbrev pub header_of : State → Element → Header
+header_of s at = header_at s at.instance at.element
+
+abbrev pub is_valid_at : State → Element → Bool
+is_valid_at s at = is_valid s at.instance at.element
+
+-- the elements of a stack, in order
+abbrev pub elements_at : State → ℕ → List Header
+elements_at s i = (instance_at s i).elements
 
 abbrev pub place_of : State → ℕ → ℕ
 place_of s i = (instance_at s i).place
@@ -132,9 +144,25 @@ with_request s Recirculate r = record s { recirculate = r }
 abbrev pub with_event : State → Event → State
 with_event s e = record s { events = s.events ++ e ∷ [] }
 
+abbrev pub without_events : State → State
+without_events s = record s { events = [] }
+
+-- so many octets taken off the front of those that aren't parsed
+abbrev pub skipped : State → ℕ → State
+skipped s count = record s { unparsed = drop count s.unparsed }
+
 -- a header with all fields 0, valid or not
 abbrev pub cleared : Bool → Header → Header
 cleared valid h = record { valid = valid; numbers = replicate (length h.numbers) 0 }
+
+-- a header's validity: where it changes, its fields become 0, and else nothing does
+abbrev pub is_same : Bool → Bool → Bool
+is_same true b = b
+is_same false b = not b
+
+abbrev pub with_valid : State → ℕ → ℕ → Bool → State
+with_valid s i e valid =
+    if is_same (is_valid s i e) valid then s else with_header s i e (cleared valid (header_at s i e))
 
 -- states in which nothing is parsed: all headers invalid, all stacks at place 0, all metadata 0
 

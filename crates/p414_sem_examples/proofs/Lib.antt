@@ -2,3 +2,4 @@ mod Examples
 mod Further
 mod Conditional
 mod Routes
+mod Again
