@@ -8,9 +8,10 @@ use Rattle.p416_rules.specs.Kinds.{Enumeration, hash_algorithm, clone_type, Obje
 use Rattle.p416_rules.specs.Scopes.{Handed}
 use Rattle.p416_rules.specs.BuiltIn.{standard}
 
--- What the place of an expression asks for.
+-- What the place of an expression asks for. A number without a width is taken where the width is known; a place that is
+-- written takes one too, since T5 refuses it.
 pub data Place : Type 0 where
-  -- a value of this kind; the same, and it is written too
+  -- what is of this kind; the same, and it is written too. Where the kind is `unknown`, nothing fits.
   value : (kind : Kind) → Place
   written : (kind : Kind) → Place
   -- bits, whatever their width; the same, and they are written
@@ -19,11 +20,12 @@ pub data Place : Type 0 where
   -- what a cast to `bool`, and one to `bit<1>`, is of
   one_bit : Place
   bits_or_boolean : Place
-  -- a header that is written; a header or a stack, of which headers leave
+  -- a header that is written; a header or a stack, whose headers are put into the packet
   written_header : Place
   emitted : Place
-  -- a literal of this kind
+  -- a literal of this kind; one of any kind
   literal_of : (kind : Kind) → Place
+  any_literal : Place
   -- a list in braces; a member of this enumeration
   item_list : Place
   member_place : (of : Enumeration) → Place
@@ -36,13 +38,13 @@ pub data Place : Type 0 where
   owner : Place
   written_owner : Place
   a_stack : Place
-  -- what is called; a call as a statement; an argument for which there is no parameter
+  -- what is called; a call as a statement; what nothing is asked of, as an argument for which there is no parameter
   callee : Place
   statement : Place
   unasked : Place
 
--- Where a call may stand: anywhere, at these places of `main`, in the actions of the direct counter's table, or where the
--- member of `CloneType` says.
+-- Where a call may stand: anywhere; in a block at these places of `main`; in an action of a block that stands in `main` (that
+-- its table has the direct counter is left to T9); or in a block at the place that the member of `CloneType` says.
 pub data Stand : Type 0 where
   anywhere : Stand
   at_positions : (positions : List ℕ) → Stand
@@ -170,7 +172,3 @@ place_of h = if h.is_written then written h.kind else value h.kind
 
 abbrev pub action_signature : List Handed → Signature
 action_signature parameters = method false (map place_of parameters) nothing
-
--- `lookahead` to a type
-abbrev pub lookahead_signature : Kind → Signature
-lookahead_signature to = record { wanted = []; gives = to; writes_owner = false; stands = at_positions (parser_position ∷ []) }

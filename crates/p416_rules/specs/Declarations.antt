@@ -42,9 +42,9 @@ use Rattle.p416_rules.specs.Names.{Name}
 use Rattle.p416_rules.specs.Kinds.{counter_type, meter_type, counter, direct_counter, register, meter, Kind, bits, header, struct, unknown}
 use Rattle.p416_rules.specs.Scopes.{Handed, Sort, a_type, a_value, an_object, an_action, a_table, a_state, a_block, Known, known, called_of, FieldKind, Layout, in_parser, in_apply, in_action, in_key, elsewhere, Scope, sort_of, inside, kind_of_type, known_parameter, handed, plane_name}
 use Rattle.p416_rules.specs.BuiltIn.{built_in, standard_layout, field}
-use Rattle.p416_rules.specs.Calls.{Place, value, literal_of, select_key, table_key}
+use Rattle.p416_rules.specs.Calls.{Place, value, literal_of, any_literal, select_key, table_key}
 use Rattle.p416_rules.specs.Expressions.{kind_of, argument_count}
-use Rattle.p416_rules.specs.Uses.{Use, a_name, some_action, some_state, some_direct_counter, names_of_scope, a_width, a_number, a_header, a_member, a_keyset, a_count, some_parameters, some_counters, a_table_of, a_body, of_field, of_variable, of_action_parameter, of_block_parameter, TypePlace, type_uses, uses, uses_at, arguments_at}
+use Rattle.p416_rules.specs.Uses.{Use, a_name, some_action, some_state, some_direct_counter, names_of_scope, a_width, a_number, a_header, a_member, a_keyset, a_count, some_parameters, some_counters, a_table_of, a_body, of_field, of_variable, of_action_parameter, of_block_parameter, TypePlace, type_uses, uses, uses_at, many}
 use Rattle.p416_rules.specs.Statements.{behind, declared_in, statement_uses, nesting}
 
 -- the names at the top
@@ -245,13 +245,13 @@ abbrev pub parameters_of : Scope → ActionName → List Handed
 parameters_of s (action_name.Declared text) = sort_parameters (sort_of s text)
 parameters_of s action_name.NoAction = []
 
--- the arguments of a default action are literals
+-- the arguments of a default action are literals, also those for which there is no parameter
 abbrev pub default_place : Handed → Place
 default_place h = literal_of h.kind
 
 abbrev pub given_uses : Scope → List Handed → Exp16 → List Use
 given_uses s parameters given =
-    a_count (length parameters) (argument_count given) ∷ uses_at s (arguments_at (map default_place parameters) given) given
+    a_count (length parameters) (argument_count given) ∷ uses_at s (many (map default_place parameters) any_literal) given
 
 abbrev pub default_uses : Scope → ActionName → Option Exp16 → List Use
 default_uses s a given = action_name_uses s a ++ option_map_or (given_uses s (parameters_of s a)) given []

@@ -1,6 +1,8 @@
--- What each expression is, by what it is built of and the names in scope; what can be written; and the arguments of calls
--- (P4_16 1.2, "Expressions", "L-values"). An expression that is built against the rules on types is `unknown`.
-use Rattle.std.specs.Prelude.{ℕ, suc, ◌+◌, ◌-◌, Bool, true, false, if◌then◌else◌, nat_eq, List, [], ◌∷◌, codes, Option, Some, None}
+-- What each expression is, by what it is built of and the names in scope; what is called; what can be written; and how many
+-- arguments there are (P4_16 1.2, "Expressions", "L-values"). An expression whose parts don't fit each other, or whose width
+-- isn't one that T2 allows, is `unknown`; but a comparison, `!`, `&&` and `||` are truth values, whatever they are built of.
+-- No parentheses stand in the trees of a program, so nothing is said of them.
+use Rattle.std.specs.Prelude.{ℕ, suc, ◌+◌, ◌-◌, Bool, true, false, ◌||◌, if◌then◌else◌, nat_eq, nat_lt, nat_le, List, [], ◌∷◌, codes, Option, Some, None}
 use Rattle.std.specs.Option.{option_map_or}
 use Rattle.std.specs.Str.{bytes_eq}
 use Rattle.p416_lexemes.specs.declared.lexeme.Literal16.{Literal16}
@@ -10,7 +12,7 @@ use Rattle.p416_ast.specs.declared.grammar.node.UnaryOperator.{UnaryOperator}
 use Rattle.p416_ast.specs.declared.grammar.node.UnaryOperator.TheVariants.{Not, Complement, Negate}
 use Rattle.p416_ast.specs.declared.grammar.node.BinaryOperator.{BinaryOperator}
 use Rattle.p416_ast.specs.declared.grammar.node.BinaryOperator.TheVariants.{Multiply, Add, Subtract, SaturatingAdd, SaturatingSubtract, Concatenate, ShiftLeft, ShiftRight, BitAnd, BitXor, BitOr, Less, LessEqual, Greater, GreaterEqual, Equal, NotEqual, And, Or}
-use Rattle.p416_ast.specs.Grammar.Tree.{Exp16, literal, truth, error, name, member, index, slice, call, lookahead, cast, unary, binary, choice, parenthesized, argument, listed}
+use Rattle.p416_ast.specs.Grammar.Tree.{Exp16, literal, truth, error, name, member, index, slice, call, lookahead, cast, unary, binary, choice, argument, listed}
 use Rattle.p416_rules.specs.Names.{Name, has_name}
 use Rattle.p416_rules.specs.Kinds.{Kind, bits, unsized, boolean, error_code, header, stack, struct, packet_in, errors, enumeration, one_of, table, applied, object, items, unknown, is_same_kind}
 use Rattle.p416_rules.specs.Scopes.{Sort, a_value, an_enumeration, an_object, an_action, a_table, a_function, Scope, sort_of, kind_of_type, FieldKind, fields_in, Layout}
@@ -58,8 +60,9 @@ joint_bits unsized (bits w) = bits w
 joint_bits unsized unsized = unsized
 joint_bits _ _ = unknown
 
+-- more than 128 bits together are no width
 abbrev pub concatenated : Kind → Kind → Kind
-concatenated (bits v) (bits w) = bits (v + w)
+concatenated (bits v) (bits w) = if nat_lt 128 (v + w) then unknown else bits (v + w)
 concatenated _ _ = unknown
 
 -- an operand of arithmetic by itself
@@ -113,8 +116,12 @@ abbrev pub element_kind : Kind → Kind
 element_kind (stack type size) = header type
 element_kind _ = unknown
 
+-- the bits from `high` down to `low` aren't all among so many, counted from 0
+abbrev pub leaves_width : ℕ → Literal16 → Literal16 → Bool
+leaves_width w high low = nat_lt high.value low.value || nat_le w high.value
+
 abbrev pub slice_kind : Kind → Literal16 → Literal16 → Kind
-slice_kind (bits w) high low = bits (suc high.value - low.value)
+slice_kind (bits w) high low = if leaves_width w high low then unknown else bits (suc high.value - low.value)
 slice_kind _ high low = unknown
 
 abbrev pub cast_kind : CastType → Kind
@@ -127,9 +134,6 @@ abbrev pub sort_signature : Sort → Name → Option Signature
 sort_signature (an_action plane parameters) text = Some (action_signature parameters)
 sort_signature a_function text = function_signature text
 sort_signature _ text = None
-
-abbrev pub given_kind : Signature → Kind
-given_kind signature = signature.gives
 
 abbrev pub call_kind : Option Signature → Kind
 call_kind (Some signature) = signature.gives
@@ -159,7 +163,6 @@ kind_of s (cast to e) = cast_kind to
 kind_of s (unary operator e) = unary_kind operator (kind_of s e)
 kind_of s (binary operator a b) = binary_kind operator (kind_of s a) (kind_of s b)
 kind_of s (choice c a b) = same_choice (kind_of s a) (kind_of s b)
-kind_of s (parenthesized e) = kind_of s e
 kind_of s (listed es) = items
 kind_of s _ = unknown
 
@@ -167,7 +170,6 @@ kind_of s _ = unknown
 abbrev pub signature_of : Scope → Exp16 → Option Signature
 signature_of s (name text) = sort_signature (sort_of s text) text
 signature_of s (member e word) = method_signature (kind_of s e) word
-signature_of s (parenthesized e) = signature_of s e
 signature_of s _ = None
 
 -- a variable or a parameter that can be written, or a part of one ("L-values")
@@ -180,7 +182,6 @@ can_write s (name text) = of (sort_of s text)
 can_write s (member e word) = can_write s e
 can_write s (index e at) = can_write s e
 can_write s (slice e high low) = can_write s e
-can_write s (parenthesized e) = can_write s e
 can_write s _ = false
 
 -- how many arguments there are

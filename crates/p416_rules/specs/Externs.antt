@@ -5,7 +5,7 @@ use Rattle.std.specs.Prelude.{ℕ, Bool, true, false, not, ◌&&◌, nat_eq, Lis
 use Rattle.std.specs.List.{list_any, list_all}
 use Rattle.std.specs.Option.{option_map_or}
 use Rattle.std.specs.Str.{bytes_eq}
-use Rattle.p416_ast.specs.Grammar.Tree.{Exp16, member, call, lookahead, parenthesized}
+use Rattle.p416_ast.specs.Grammar.Tree.{Exp16, member, call, lookahead}
 use Rattle.p416_rules.specs.Names.{Name}
 use Rattle.p416_rules.specs.Kinds.{is_stack}
 use Rattle.p416_rules.specs.Scopes.{Scope, Part, in_parser, in_action}
@@ -39,7 +39,6 @@ clone_positions (member e word) = if_ingress (bytes_eq word (codes "I2E"))
     if_ingress : Bool → List ℕ
     if_ingress true = ingress_position ∷ []
     if_ingress false = egress_position ∷ []
-clone_positions (parenthesized e) = clone_positions e
 clone_positions _ = []
 
 abbrev pub first_clone_positions : List Exp16 → List ℕ

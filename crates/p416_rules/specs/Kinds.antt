@@ -52,7 +52,8 @@ enumeration_number clone_type = 3
 abbrev pub is_same_enumeration : Enumeration → Enumeration → Bool
 is_same_enumeration a b = nat_eq (enumeration_number a) (enumeration_number b)
 
--- two kinds are the same type of values, or members of one enumeration
+-- two kinds are the same type of values, or members of one enumeration; not where one is a packet, which is never handed
+-- on as a value, or a number without a width
 abbrev pub is_same_kind : Kind → Kind → Bool
 is_same_kind (bits v) (bits w) = nat_eq v w
 is_same_kind boolean boolean = true
@@ -93,8 +94,8 @@ is_packet packet_in = true
 is_packet packet_out = true
 is_packet _ = false
 
--- nothing that has members at all: a number, a truth value, an error, a member of an enumeration, a list in braces,
--- a call that gives nothing
+-- what has no members at all: a number, a truth value, an error, a member of an enumeration, a list in braces, a call that
+-- gives nothing, and what is unknown
 abbrev pub is_plain : Kind → Bool
 is_plain (bits w) = true
 is_plain unsized = true

@@ -9,22 +9,20 @@ use Rattle.p416_ast.specs.declared.grammar.parsers.Transition.{Transition}
 use Rattle.p416_ast.specs.declared.grammar.parsers.Transition.TheVariants as transition
 use Rattle.p416_ast.specs.declared.grammar.parsers.State.{State}
 use Rattle.p416_ast.specs.declared.grammar.parsers.Parser16.{Parser16}
-use Rattle.p416_ast.specs.Grammar.Tree.{Exp16, member, call, parenthesized, Stmt16, then, block, expression}
+use Rattle.p416_ast.specs.Grammar.Tree.{Exp16, member, call, Stmt16, then, block, expression}
 use Rattle.p416_rules.specs.Names.{Name, has_name}
 use Rattle.p416_rules.specs.Declarations.{state_name, target_name}
 
 -- a call of `extract`
 abbrev pub is_extract_method : Exp16 → Bool
 is_extract_method (member e word) = bytes_eq word (codes "extract")
-is_extract_method (parenthesized e) = is_extract_method e
 is_extract_method _ = false
 
 abbrev pub is_extract : Exp16 → Bool
 is_extract (call e given) = is_extract_method e
-is_extract (parenthesized e) = is_extract e
 is_extract _ = false
 
--- a statement extracts, whatever an `if` in it chooses
+-- a statement calls `extract` outside every `if`
 abbrev pub extracts : Stmt16 → Bool
 extracts ((then) before last) = extracts before || extracts last
 extracts (block body) = extracts body

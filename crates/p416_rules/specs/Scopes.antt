@@ -59,19 +59,13 @@ pub record Layout : Type 0 where
   pub called : Name
   pub fields : List FieldKind
 
-abbrev pub field_called : FieldKind → Name
-field_called f = f.called
-
-abbrev pub field_kind : FieldKind → Kind
-field_kind f = f.kind
-
 -- the fields of the type with this name
 abbrev pub fields_in : List Layout → Name → List FieldKind
 fields_in [] text = []
 fields_in (l ∷ layouts) text = if bytes_eq l.called text then l.fields else fields_in layouts text
 
--- the part of a declaration that something stands in: a parser; the statements of a control; the action with this name; a
--- key of a table; none of these
+-- the part of a declaration that something stands in: a parser; the action with this name; a key of a table; what else
+-- stands in a control; what stands in neither a parser nor a control
 pub data Part : Type 0 where
   in_parser : Part
   in_apply : Part

@@ -11,7 +11,7 @@ use Rattle.p416_ast.specs.declared.grammar.node.BinaryOperator.TheVariants.{Conc
 use Rattle.p416_ast.specs.Grammar.Tree.{Exp16, index, slice, binary}
 use Rattle.p416_rules.specs.Kinds.{Kind, bits, stack}
 use Rattle.p416_rules.specs.Scopes.{Scope}
-use Rattle.p416_rules.specs.Expressions.{kind_of}
+use Rattle.p416_rules.specs.Expressions.{kind_of, leaves_width}
 use Rattle.p416_rules.specs.Uses.{Use, an_expression, a_width, a_size, a_header}
 
 abbrev pub is_outside : ℕ → ℕ → Literal16 → Bool
@@ -44,7 +44,7 @@ leaves_stack (stack type size) at = nat_le size at.value
 leaves_stack _ at = false
 
 abbrev pub leaves_bits : Kind → Literal16 → Literal16 → Bool
-leaves_bits (bits w) high low = nat_lt high.value low.value || nat_le w high.value
+leaves_bits (bits w) high low = leaves_width w high low
 leaves_bits _ high low = false
 
 abbrev pub joins_too_many : BinaryOperator → Kind → Kind → Bool

@@ -11,7 +11,6 @@ use Rattle.std.specs.Str.{bytes_eq}
 use Rattle.p416_ast.specs.declared.grammar.parts.Param.{Param}
 use Rattle.p416_ast.specs.declared.grammar.node.CaseLabel.{CaseLabel}
 use Rattle.p416_ast.specs.declared.grammar.node.CaseLabel.TheVariants as label
-use Rattle.p416_ast.specs.declared.grammar.controls.Instance.{Instance}
 use Rattle.p416_ast.specs.declared.grammar.controls.ActionName.{ActionName}
 use Rattle.p416_ast.specs.declared.grammar.controls.ActionName.TheVariants as action_name
 use Rattle.p416_ast.specs.declared.grammar.controls.TableKey.{TableKey}

@@ -13,7 +13,7 @@ use Rattle.p416_ast.specs.declared.grammar.controls.Local.TheVariants as local
 use Rattle.p416_ast.specs.declared.grammar.program.Decl16.{Decl16}
 use Rattle.p416_ast.specs.declared.grammar.program.Decl16.TheVariants as decl
 use Rattle.p416_ast.specs.declared.grammar.program.Syntax16.{Syntax16}
-use Rattle.p416_ast.specs.Grammar.Tree.{Exp16, literal, member, index, slice, call, lookahead, cast, unary, binary, choice, parenthesized, no_arguments, argument, listed}
+use Rattle.p416_ast.specs.Grammar.Tree.{Exp16, literal, member, index, slice, call, lookahead, cast, unary, binary, choice, no_arguments, argument, listed}
 use Rattle.p416_rules.specs.Names.{Name}
 use Rattle.p416_rules.specs.Kinds.{Kind, bits, header, stack, struct, is_header, is_stack, is_struct}
 use Rattle.p416_rules.specs.Scopes.{Layout, FieldKind, fields_in, kind_of_type}
@@ -33,7 +33,6 @@ depth (cast to e) = 1 + depth e
 depth (unary operator e) = 1 + depth e
 depth (binary operator a b) = 1 + max (depth a) (depth b)
 depth (choice c a b) = 1 + max (depth c) (max (depth a) (depth b))
-depth (parenthesized e) = depth e
 depth no_arguments = 0
 depth (argument before last) = max (depth before) (depth last)
 depth (listed es) = 1 + depth es
@@ -115,7 +114,6 @@ has_large_variables layouts us =
 
 abbrev pub size_value : Exp16 → ℕ
 size_value (literal n) = n.value
-size_value (parenthesized e) = size_value e
 size_value _ = 0
 
 abbrev pub instance_cells : Instance → List ℕ

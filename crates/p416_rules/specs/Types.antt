@@ -12,10 +12,10 @@ use Rattle.p416_ast.specs.declared.grammar.parsers.Simple.{Simple}
 use Rattle.p416_ast.specs.declared.grammar.parsers.Simple.TheVariants as simple
 use Rattle.p416_ast.specs.declared.grammar.parsers.Keyset.{Keyset}
 use Rattle.p416_ast.specs.declared.grammar.parsers.Keyset.TheVariants as keyset
-use Rattle.p416_ast.specs.Grammar.Tree.{Exp16, literal, truth, name, member, parenthesized}
+use Rattle.p416_ast.specs.Grammar.Tree.{Exp16, literal, truth, name, member}
 use Rattle.p416_rules.specs.Kinds.{Enumeration, hash_algorithm, counter_type, meter_type, clone_type, is_same_enumeration, Kind, bits, error_code, items, one_of, unknown, is_same_kind, is_bits, is_unsized, is_boolean, is_header, is_stack, is_packet, is_plain}
 use Rattle.p416_rules.specs.Scopes.{kind_of_type}
-use Rattle.p416_rules.specs.Calls.{Place, value, written, any_bits, written_bits, one_bit, bits_or_boolean, written_header, emitted, literal_of, item_list, member_place, select_key, table_key, target, owner, written_owner, a_stack, callee, statement, unasked}
+use Rattle.p416_rules.specs.Calls.{Place, value, written, any_bits, written_bits, one_bit, bits_or_boolean, written_header, emitted, literal_of, any_literal, item_list, member_place, select_key, table_key, target, owner, written_owner, a_stack, callee, statement, unasked}
 use Rattle.p416_rules.specs.Expressions.{kind_of}
 use Rattle.p416_rules.specs.Uses.{Use, an_expression, a_type, a_member, a_keyset, TypePlace, of_field, of_variable, of_action_parameter, of_block_parameter, of_lookahead}
 
@@ -23,14 +23,12 @@ use Rattle.p416_rules.specs.Uses.{Use, an_expression, a_type, a_member, a_keyset
 abbrev pub is_literal : Exp16 → Bool
 is_literal (literal n) = true
 is_literal (truth b) = true
-is_literal (parenthesized e) = is_literal e
 is_literal _ = false
 
 -- only actions, functions and methods are called
 abbrev pub is_named_callee : Exp16 → Bool
 is_named_callee (name text) = true
 is_named_callee (member e word) = true
-is_named_callee (parenthesized e) = is_named_callee e
 is_named_callee _ = false
 
 abbrev pub is_items : Kind → Bool
@@ -56,6 +54,7 @@ takes bits_or_boolean e k = is_bits k || is_boolean k
 takes written_header e k = is_header k
 takes emitted e k = is_header k || is_stack k
 takes (literal_of wanted) e k = is_literal e && takes_kind wanted k
+takes any_literal e k = is_literal e
 takes item_list e k = is_items k
 takes (member_place wanted) e k = is_same_kind (one_of wanted) k
 takes select_key e k = is_bits k || (is_boolean k || is_error_code k)

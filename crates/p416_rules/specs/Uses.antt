@@ -1,7 +1,7 @@
 -- What the rules judge, one after another: each expression with all within it, each type, number and name of a declaration,
 -- with the scope that it stands in and what its place asks for (P4_16 1.2, "Expressions", "Statements"; the division is
--- this project's own). Parentheses change nothing.
-use Rattle.std.specs.Prelude.{ℕ, Bool, ◌&&◌, if◌then◌else◌, nat_eq, List, [], ◌∷◌, ◌++◌, reverse, replicate, take, Option, Some, None}
+-- this project's own). No parentheses stand in the trees of a program, so nothing is said of them.
+use Rattle.std.specs.Prelude.{ℕ, ◌&&◌, if◌then◌else◌, nat_eq, List, [], ◌∷◌, ◌++◌, get_or, Option, Some, None}
 use Rattle.p416_lexemes.specs.declared.lexeme.Literal16.{Literal16}
 use Rattle.p416_ast.specs.declared.grammar.parts.Type16.{Type16}
 use Rattle.p416_ast.specs.declared.grammar.parts.Type16.TheVariants.{Bit, Bool as BoolType, Named}
@@ -17,7 +17,7 @@ use Rattle.p416_ast.specs.declared.grammar.node.BinaryOperator.{BinaryOperator}
 use Rattle.p416_ast.specs.declared.grammar.node.BinaryOperator.TheVariants.{Multiply, Add, Subtract, SaturatingAdd, SaturatingSubtract, Concatenate, ShiftLeft, ShiftRight, BitAnd, BitXor, BitOr, Less, LessEqual, Greater, GreaterEqual, Equal, NotEqual, And, Or}
 use Rattle.p416_ast.specs.declared.grammar.parsers.Keyset.{Keyset}
 use Rattle.p416_ast.specs.declared.grammar.controls.Table16.{Table16}
-use Rattle.p416_ast.specs.Grammar.Tree.{Exp16, member, index, slice, call, lookahead, cast, unary, binary, choice, parenthesized, argument, listed}
+use Rattle.p416_ast.specs.Grammar.Tree.{Exp16, member, index, slice, call, lookahead, cast, unary, binary, choice, argument, listed}
 use Rattle.p416_rules.specs.Names.{Name}
 use Rattle.p416_rules.specs.Kinds.{Enumeration, Kind, bits, unsized, boolean, error_code, is_unsized}
 use Rattle.p416_rules.specs.Scopes.{Scope}
@@ -136,29 +136,15 @@ abbrev pub owner_place : Place → Option Signature → Place
 owner_place callee signature = owner_by signature
 owner_place p signature = owner
 
--- the places of so many arguments, the last one first; those for which there is no parameter come behind the others
-abbrev pub places_back : List Place → ℕ → List Place
-places_back wanted count = reverse (take count (wanted ++ replicate count unasked))
-
 abbrev pub wanted_by : Option Signature → List Place
 wanted_by (Some signature) = signature.wanted
 wanted_by None = []
 
--- the places of one expression, or of an argument list, the last argument's first
+-- the place of one expression; or of the arguments of an argument list, the first one's first, and the place of each
+-- argument behind these
 pub data Places : Type 0 where
   one : (place : Place) → Places
-  many : (back : List Place) → Places
-
-abbrev pub arguments_at : List Place → Exp16 → Places
-arguments_at wanted given = many (places_back wanted (argument_count given))
-
-abbrev pub first_of_places : List Place → Place
-first_of_places [] = unasked
-first_of_places (p ∷ ps) = p
-
-abbrev pub rest_of_places : List Place → List Place
-rest_of_places [] = []
-rest_of_places (p ∷ ps) = ps
+  many : (wanted : List Place) (otherwise : Place) → Places
 
 -- types with their numbers
 
@@ -184,10 +170,10 @@ uses_at s (one p) (slice e high low) =
     an_expression s p (slice e high low) ∷ a_number high ∷ a_number low ∷ uses_at s (one any_bits) e
 uses_at s (one p) (call e given) =
     an_expression s p (call e given) ∷ uses_at s (one callee) e
-    ++ uses_at s (arguments_at (wanted_by (signature_of s e)) given) given
+    ++ uses_at s (many (wanted_by (signature_of s e)) unasked) given
 uses_at s (one p) (lookahead e to given) =
     an_expression s p (lookahead e to given) ∷ type_uses s of_lookahead to ++ uses_at s (one owner) e
-    ++ uses_at s (arguments_at [] given) given
+    ++ uses_at s (many [] unasked) given
 uses_at s (one p) (cast to e) =
     an_expression s p (cast to e) ∷ cast_numbers to ++ uses_at s (one (cast_place to)) e
 uses_at s (one p) (unary operator e) =
@@ -199,13 +185,11 @@ uses_at s (one p) (choice c a b) =
     an_expression s p (choice c a b) ∷ uses_at s (one (value boolean)) c
     ++ uses_at s (one (chosen_place p (kind_of s a) (kind_of s b))) a
     ++ uses_at s (one (chosen_place p (kind_of s a) (kind_of s b))) b
-uses_at s (one p) (parenthesized e) = uses_at s (one p) e
-uses_at s (one p) (listed es) =
-    an_expression s p (listed es) ∷ uses_at s (many (replicate (argument_count es) any_bits)) es
+uses_at s (one p) (listed es) = an_expression s p (listed es) ∷ uses_at s (many [] any_bits) es
 uses_at s (one p) e = an_expression s p e ∷ []
-uses_at s (many back) (argument before last) =
-    uses_at s (many (rest_of_places back)) before ++ uses_at s (one (first_of_places back)) last
-uses_at s (many back) e = []
+uses_at s (many wanted otherwise) (argument before last) =
+    uses_at s (many wanted otherwise) before ++ uses_at s (one (get_or wanted (argument_count before) otherwise)) last
+uses_at s (many wanted otherwise) e = []
 
 abbrev pub uses : Scope → Place → Exp16 → List Use
 uses s p e = uses_at s (one p) e

@@ -1,55 +1,28 @@
 -- Which rule is the least broken one, of those that are truth values (T1 to T6 and T8 to T10), and what the others
 -- compute to.
-use Rattle.std.specs.Prelude.{◌≡◌, ℕ, suc, Bool, true, false, List, [], ◌∷◌, codes, Option, Some, None, refl, flat_map}
+use Rattle.std.specs.Prelude.{◌≡◌, true, false, [], ◌∷◌, codes, Some, refl}
 use Rattle.std.specs.List.{list_any}
-use Rattle.p416_lexemes.specs.declared.lexeme.Literal16.{Literal16}
-use Rattle.p416_ast.specs.declared.grammar.parts.Note.{Note}
-use Rattle.p416_ast.specs.declared.grammar.parts.Type16.{Type16}
 use Rattle.p416_ast.specs.declared.grammar.parts.Type16.TheVariants.{Bit, Named}
-use Rattle.p416_ast.specs.declared.grammar.parts.Direction.{Direction}
-use Rattle.p416_ast.specs.declared.grammar.parts.Direction.TheVariants.{In, Out, InOut}
-use Rattle.p416_ast.specs.declared.grammar.parts.Param.{Param}
-use Rattle.p416_ast.specs.declared.grammar.parts.BitField.{BitField}
-use Rattle.p416_ast.specs.declared.grammar.parts.Member.TheVariants as member_of
-use Rattle.p416_ast.specs.declared.grammar.parts.CounterType.TheVariants as counter_type
-use Rattle.p416_ast.specs.declared.grammar.parts.StructField.{StructField}
-use Rattle.p416_ast.specs.declared.grammar.parsers.Target.{Target}
+use Rattle.p416_ast.specs.declared.grammar.parts.Direction.TheVariants.{In}
 use Rattle.p416_ast.specs.declared.grammar.parsers.Target.TheVariants as target_of
-use Rattle.p416_ast.specs.declared.grammar.parsers.Transition.{Transition}
 use Rattle.p416_ast.specs.declared.grammar.parsers.Transition.TheVariants as transition
-use Rattle.p416_ast.specs.declared.grammar.parsers.Parser16.{Parser16}
-use Rattle.p416_ast.specs.declared.grammar.controls.Control16.{Control16}
-use Rattle.p416_ast.specs.declared.grammar.controls.ActionName.{ActionName}
 use Rattle.p416_ast.specs.declared.grammar.controls.ActionName.TheVariants as action_name
-use Rattle.p416_ast.specs.declared.grammar.controls.Property.{Property}
 use Rattle.p416_ast.specs.declared.grammar.controls.Property.TheVariants as property
 use Rattle.p416_ast.specs.declared.grammar.controls.Instance.TheVariants as instance
-use Rattle.p416_ast.specs.declared.grammar.controls.Local.{Local}
 use Rattle.p416_ast.specs.declared.grammar.controls.Local.TheVariants as local
 use Rattle.p416_ast.specs.declared.grammar.node.CastType.TheVariants as cast_to
 use Rattle.p416_ast.specs.declared.grammar.parsers.Keyset.TheVariants as keyset
 use Rattle.p416_ast.specs.declared.grammar.parsers.Simple.TheVariants as simple
 use Rattle.p416_ast.specs.declared.grammar.node.CaseLabel.TheVariants as case_label
 use Rattle.p416_ast.specs.declared.grammar.node.BinaryOperator.TheVariants.{Add, ShiftLeft, Equal, Concatenate}
-use Rattle.p416_ast.specs.declared.grammar.program.Decl16.{Decl16}
 use Rattle.p416_ast.specs.declared.grammar.program.Decl16.TheVariants as decl
-use Rattle.p416_ast.specs.declared.grammar.program.Syntax16.{Syntax16}
-use Rattle.p416_ast.specs.Grammar.Tree.{Exp16, literal, error, name, member, index, slice, call, cast, choice, truth, binary, no_arguments, argument, listed, Stmt16, no_statements, then, block, var, var_is, assign, expression, if_then, switch, no_cases, case_of}
-use Rattle.p416_rules.specs.Names.{Name}
-use Rattle.p416_rules.specs.Declarations.{declaration_uses}
-use Rattle.p416_rules.specs.Uses.{Use}
-use Rattle.p416_rules.specs.Unknown.{is_misnamed, declares_twice, struct_graph}
-use Rattle.p416_rules.specs.Sizes.{leaves_size}
-use Rattle.p416_rules.specs.Types.{is_mistyped}
-use Rattle.p416_rules.specs.Literals.{overflows}
-use Rattle.p416_rules.specs.Writes.{writes_constant}
-use Rattle.p416_rules.specs.Arguments.{is_miscounted}
+use Rattle.p416_ast.specs.Grammar.Tree.{literal, error, name, member, index, slice, call, cast, choice, truth, binary, no_arguments, argument, listed, no_statements, then, block, var, var_is, assign, expression, if_then, switch, no_cases, case_of}
+use Rattle.p416_rules.specs.Unknown.{declares_twice, struct_graph}
 use Rattle.p416_rules.specs.ParserStates.{idle_graph, has_no_start}
-use Rattle.p416_rules.specs.Applications.{applies_wrongly, call_graph}
-use Rattle.p416_rules.specs.Tables.{is_bad_in_table, has_shared_names}
-use Rattle.p416_rules.specs.Externs.{is_outside_block}
+use Rattle.p416_rules.specs.Applications.{call_graph}
+use Rattle.p416_rules.specs.Tables.{has_shared_names}
 use Rattle.p416_rules.specs.Main.{is_main}
-use Rattle.p416_rules.specs.Totals.{depth, is_too_deep, has_large_headers, has_large_variables, has_bad_cells}
+use Rattle.p416_rules.specs.Totals.{depth, is_too_deep, has_large_headers, has_bad_cells}
 use Rattle.p416_rules.specs.Breaks.{program_uses, is_no_block, scope_of}
 use Rattle.p416_rules_examples.specs.Samples.{number, sized, bit_field, named, one, given, hdr, field, egress_spec, hs_param, parser_of, ingress_of, program, extract, none, sets, least, applies_t, action_of, table_of, lists_x, key_of, calls_x, direct_d, counts_d, in_ingress, two, condition, declares, with_stack, stack_s, with_table, with_action, value_v, selects, value_of, nots, with_table_and}
 
@@ -405,3 +378,36 @@ too_deep = refl
 
 pub control_twice : is_main (record (program none) { main = codes "P" ∷ codes "V" ∷ codes "I" ∷ codes "E" ∷ codes "C" ∷ codes "V" ∷ [] }) ≡ false
 control_twice = refl
+
+pub default_given_no_literal : least (with_table (property.DefaultAction (action_name.Declared (codes "x")) (given egress_spec) ∷ [])) ≡ 3
+default_given_no_literal = refl
+
+pub default_given_nowhere : least (with_table (property.DefaultAction (action_name.Declared (codes "x")) (given (name (codes "nosuch"))) ∷ [])) ≡ 1
+default_given_nowhere = refl
+
+pub assigned_packet : least (record none { start = two extract (assign (name (codes "p")) (name (codes "p"))) }) ≡ 3
+assigned_packet = refl
+
+pub hashes_into_number : least (in_ingress (expression (call (name (codes "hash")) (argument (argument (argument (argument (argument no_arguments (literal (number 5))) (member (name (codes "HashAlgorithm")) (codes "crc16"))) (literal (sized 16 0))) (listed no_arguments)) (literal (sized 16 7)))))) ≡ 5
+hashes_into_number = refl
+
+pub concatenates_128 : least (sets (slice (binary Concatenate (binary Concatenate (field (codes "a")) (field (codes "b"))) (cast (cast_to.Bit (number 32)) (field (codes "a")))) (number 8) (number 0))) ≡ 0
+concatenates_128 = refl
+
+pub concatenates_144 : least (sets (slice (binary Concatenate (binary Concatenate (field (codes "a")) (field (codes "b"))) (field (codes "a"))) (number 8) (number 0))) ≡ 2
+concatenates_144 = refl
+
+pub slices_turned_round : least (sets (slice (field (codes "c")) (number 3) (number 8))) ≡ 2
+slices_turned_round = refl
+
+pub switch_in_a_branch : least (with_table_and (one (if_then (truth true) (switch (codes "t") (case_of no_cases (case_label.Action (codes "x")) (one (var_is (Bit (number 9)) (codes "v") egress_spec))))))) ≡ 0
+switch_in_a_branch = refl
+
+pub branch_hides : least (in_ingress (if_then (truth true) (var_is (Bit (number 9)) (codes "hdr") (literal (number 5))))) ≡ 0
+branch_hides = refl
+
+pub seen_behind_a_branch : least (record none { ingress = two (if_then (truth true) (var_is (Bit (number 9)) (codes "v") (literal (number 5)))) (assign egress_spec (name (codes "v"))) }) ≡ 1
+seen_behind_a_branch = refl
+
+pub case_twice : least (with_table_and (one (switch (codes "t") (case_of no_cases (case_label.Action (codes "x")) (two (var (Bit (number 9)) (codes "v")) (var (Bit (number 9)) (codes "v"))))))) ≡ 1
+case_twice = refl

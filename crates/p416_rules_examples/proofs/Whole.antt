@@ -7,7 +7,7 @@ use Rattle.digraph.specs.Graphs.{Among, successors, Edge, Onward, Walk}
 use Rattle.digraph.specs.Expansions.{HasCycle}
 use Rattle.p416_ast.specs.declared.grammar.program.Decl16.{Decl16}
 use Rattle.p416_ast.specs.declared.grammar.program.Syntax16.{Syntax16}
-use Rattle.p416_rules.specs.declared.rule.ProgramRule.TheVariants.{T1, T2, T3, T4, T5, T6, T7, T8, T9, T10, T11, T12}
+use Rattle.p416_rules.specs.declared.rule.ProgramRule.TheVariants.{T2, T7, T8, T11}
 use Rattle.p416_rules.specs.Uses.{Use}
 use Rattle.p416_rules.specs.Unknown.{is_misnamed, struct_graph}
 use Rattle.p416_rules.specs.Sizes.{leaves_size}
@@ -18,7 +18,7 @@ use Rattle.p416_rules.specs.Arguments.{is_miscounted}
 use Rattle.p416_rules.specs.Tables.{is_bad_in_table}
 use Rattle.p416_rules.specs.Externs.{is_outside_block}
 use Rattle.p416_rules.specs.Totals.{is_too_deep}
-use Rattle.p416_rules.specs.Breaks.{SomeDeclaration, SomeBreaks, IsBroken, BreaksNone, program_rules, Breaks16, IsFirstBroken, scope_of, has_use}
+use Rattle.p416_rules.specs.Breaks.{SomeDeclaration, SomeBreaks, IsBroken, BreaksNone, program_rules, Breaks16, scope_of, has_use}
 use Rattle.p416_rules_examples.specs.Samples.{program, none, wide}
 
 -- laws

@@ -2,7 +2,6 @@
 use Rattle.std.specs.Prelude.{ℕ, zero, suc, Bool, true, false, List, [], ◌∷◌, map, codes, Option, Some, None}
 use Rattle.std.specs.List.{list_any}
 use Rattle.p416_lexemes.specs.declared.lexeme.Literal16.{Literal16}
-use Rattle.p416_ast.specs.declared.grammar.parts.Note.{Note}
 use Rattle.p416_ast.specs.declared.grammar.parts.Type16.{Type16}
 use Rattle.p416_ast.specs.declared.grammar.parts.Type16.TheVariants.{Bit, Named}
 use Rattle.p416_ast.specs.declared.grammar.parts.Direction.{Direction}
@@ -12,13 +11,11 @@ use Rattle.p416_ast.specs.declared.grammar.parts.BitField.{BitField}
 use Rattle.p416_ast.specs.declared.grammar.parts.Member.TheVariants as member_of
 use Rattle.p416_ast.specs.declared.grammar.parts.CounterType.TheVariants as counter_type
 use Rattle.p416_ast.specs.declared.grammar.parts.StructField.{StructField}
-use Rattle.p416_ast.specs.declared.grammar.parsers.Target.{Target}
 use Rattle.p416_ast.specs.declared.grammar.parsers.Target.TheVariants as target_of
 use Rattle.p416_ast.specs.declared.grammar.parsers.Transition.{Transition}
 use Rattle.p416_ast.specs.declared.grammar.parsers.Transition.TheVariants as transition
 use Rattle.p416_ast.specs.declared.grammar.parsers.Parser16.{Parser16}
 use Rattle.p416_ast.specs.declared.grammar.controls.Control16.{Control16}
-use Rattle.p416_ast.specs.declared.grammar.controls.ActionName.{ActionName}
 use Rattle.p416_ast.specs.declared.grammar.controls.ActionName.TheVariants as action_name
 use Rattle.p416_ast.specs.declared.grammar.controls.Property.{Property}
 use Rattle.p416_ast.specs.declared.grammar.controls.Property.TheVariants as property
@@ -30,27 +27,22 @@ use Rattle.p416_ast.specs.declared.grammar.parsers.Keyset.{Keyset}
 use Rattle.p416_ast.specs.declared.grammar.parsers.Keyset.TheVariants as keyset
 use Rattle.p416_ast.specs.declared.grammar.parsers.Simple.TheVariants as simple
 use Rattle.p416_ast.specs.declared.grammar.parsers.SelectCase.{SelectCase}
-use Rattle.p416_ast.specs.declared.grammar.node.BinaryOperator.TheVariants.{Add, ShiftLeft, Equal, Concatenate}
 use Rattle.p416_ast.specs.declared.grammar.program.Decl16.{Decl16}
 use Rattle.p416_ast.specs.declared.grammar.program.Decl16.TheVariants as decl
 use Rattle.p416_ast.specs.declared.grammar.program.Syntax16.{Syntax16}
-use Rattle.p416_ast.specs.Grammar.Tree.{Exp16, literal, error, name, member, index, slice, call, unary, binary, truth, no_arguments, argument, listed, Stmt16, no_statements, then, block, var, var_is, assign, expression, if_then}
+use Rattle.p416_ast.specs.Grammar.Tree.{Exp16, literal, name, member, call, unary, truth, no_arguments, argument, Stmt16, no_statements, then, block, var, assign, expression, if_then}
 use Rattle.p416_rules.specs.Names.{Name}
-use Rattle.p416_rules.specs.Declarations.{declaration_uses}
 use Rattle.p416_rules.specs.Uses.{Use}
-use Rattle.p416_rules.specs.Unknown.{is_misnamed, declares_twice, struct_graph}
+use Rattle.p416_rules.specs.Unknown.{is_misnamed}
 use Rattle.p416_rules.specs.Sizes.{leaves_size}
 use Rattle.p416_rules.specs.Types.{is_mistyped}
 use Rattle.p416_rules.specs.Literals.{overflows}
 use Rattle.p416_rules.specs.Writes.{writes_constant}
 use Rattle.p416_rules.specs.Arguments.{is_miscounted}
-use Rattle.p416_rules.specs.ParserStates.{idle_graph, has_no_start}
-use Rattle.p416_rules.specs.Applications.{applies_wrongly, call_graph}
-use Rattle.p416_rules.specs.Tables.{is_bad_in_table, has_shared_names}
+use Rattle.p416_rules.specs.Applications.{applies_wrongly}
+use Rattle.p416_rules.specs.Tables.{is_bad_in_table}
 use Rattle.p416_rules.specs.Externs.{is_outside_block}
-use Rattle.p416_rules.specs.Main.{is_main}
-use Rattle.p416_rules.specs.Totals.{is_too_deep, has_large_headers, has_large_variables, has_bad_cells}
-use Rattle.p416_rules.specs.Breaks.{program_uses, is_no_block, scope_of}
+use Rattle.p416_rules.specs.Breaks.{program_uses}
 
 -- pieces
 
