@@ -56,12 +56,12 @@ carry() {
         carry "$program14" "$entries" "$capture" --text out.p4 --sent out.pcap --report report.txt "$@"
 }
 
-# The program with one line changed, under the name whose sentence docs/MESSAGES.md has.
+# The program with one line changed is refused with this line, and the sentence is one of a rule that docs/MESSAGES.md has.
 changed() {
-    awk -v line="$1" -v put="$2" 'NR == line { print put; next } { print }' p1.p4 >changed.p4
-    cmp -s changed.p4 p1.p4 && { words=$2; wrong "nothing is changed"; }
-    mv changed.p4 empty.p4
-    carry 3 'refused C25' none none none empty.p4 entries.txt in.pcap
+    awk -v line="$2" -v put="$3" 'NR == line { print put; next } { print }' p1.p4 >changed.p4
+    cmp -s changed.p4 p1.p4 && { words=$3; wrong "nothing is changed"; }
+    "$program" carry changed.p4 entries.txt in.pcap --text out.p4 --sent out.pcap --report report.txt >printed 2>said
+    [ $? -eq 3 ] && [ "$(cat printed)" = "refused $1" ] && [ -s said ] || { words=$3; wrong "$(cat printed)"; }
 }
 
 HEAD='\324\303\262\241\002\000\004\000\000\000\000\000\000\000\000\000\377\377\000\000\001\000\000\000'
@@ -79,6 +79,7 @@ printf "$HEAD\000" >short.pcap
 printf "$HEAD\001\000\000\000\002\000\000\000\000\000\001\000\000\000\001\000" >long.pcap
 printf '$' >dollar.p4
 printf header >header.p4
+sed 's/modify_field(.*);/drop();/' p1.p4 >form.p4
 truncate -s 1048577 big.p4
 truncate -s 4194305 big.txt
 truncate -s 1073741825 big.pcap
@@ -101,7 +102,11 @@ mv kept.pcap in.pcap
 carry 0 'carried 0 0 0' text 24 24 p1.p4 entries.txt none.pcap
 carry 1 fault none none none none.p4 entries.txt in.pcap
 expect 2 usage none none none
-carry 3 'refused C25' none none none empty.p4 entries.txt in.pcap
+carry 3 'refused L1 at 1:1' none none none dollar.p4 entries.txt in.pcap
+carry 3 'refused S1 at 1:7' none none none header.p4 entries.txt in.pcap
+carry 3 'refused C2' none none none empty.p4 entries.txt in.pcap
+carry 3 'refused C25' none none none form.p4 entries.txt in.pcap
+carry 6 'limit program' none none none big.p4 entries.txt in.pcap
 carry 4 'refused E1 at 1:1' none none none p1.p4 line.txt in.pcap
 carry 5 'refused P1 at 1:1' none none none p1.p4 entries.txt in.pcap --ports x.txt
 carry 5 'refused P2 at 1:1' none none none p1.p4 entries.txt in.pcap --ports 511.txt
@@ -124,11 +129,13 @@ for command in check order; do
 done
 
 # docs/CARRY14.md
-changed 2 '/* one header */ header eth_t eth;'
-changed 4 'action out3() { modify_field(standard_metadata.egress_spec, 0x3); }'
-changed 4 'action out3() { drop(); }'
-changed 5 'table t { reads { eth.c : exact; } actions { out3; } default_action : out3(); }'
-changed 3 'parser start { extract(eth); return select(eth.c) { default : ingress; } }'
-changed 1 'header_type eth_t { fields { a : 48; b : 48; c : 15; } }'
+rm -f out.p4 out.pcap report.txt
+changed 'S1 at 3:1' 2 'header eth_t eth'
+changed C5 1 'header_type eth_t { fields { a : 48; b : 48; c : 15; } }'
+changed C25 4 'action out3() { drop(); }'
+changed C25 5 'table t { reads { eth.c : exact; } actions { out3; } default_action : out3(); }'
+changed C25 3 'parser start { extract(eth); return select(eth.c) { default : ingress; } }'
+changed C25 5 'table t { actions { out3; } default_action : out3(); size : 512; }'
+[ ! -e out.p4 ] && [ ! -e out.pcap ] && [ ! -e report.txt ] || { words='a refused program'; wrong 'an output is there'; }
 
 [ $wrong -eq 0 ] && echo 'all examples are as the documents say' || { echo "$wrong wrong"; exit 1; }

@@ -9,7 +9,7 @@ use Rattle.std.proofs.Math.Nat.{mod-eq_of_lt}
 use Rattle.p4x_bits.specs.BitLists.{num, bits, octet_bits, IsOctets}
 use Rattle.p4x_bits.proofs.BitLists.{length-octet_bits}
 use Rattle.state_store.specs.Ports.{drop_port}
-use Rattle.p4x_cmd.specs.declared.one_table.OneTable14.{OneTable14}
+use Rattle.p414_one_table.specs.declared.program.OneTable14.{OneTable14}
 use Rattle.fabric.specs.declared.packets.Arrival.{Arrival}
 use Rattle.p4x_cmd.specs.Entries.{no_entries}
 use Rattle.match_core.specs.declared.entries.Entries.{Entries}

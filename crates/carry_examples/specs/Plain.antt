@@ -1,6 +1,6 @@
 -- What a plain program that follows the meaning of P4_14 step by step answers (this project's own).
 use Rattle.std.specs.Prelude.{◌≡◌, ◌≤◌, ◌%◌, ℕ, List, map, sum, All}
-use Rattle.p4x_cmd.specs.declared.one_table.OneTable14.{OneTable14}
+use Rattle.p414_one_table.specs.declared.program.OneTable14.{OneTable14}
 use Rattle.fabric.specs.declared.packets.Arrival.{Arrival}
 use Rattle.fabric.specs.declared.packets.Sent.{Sent}
 use Rattle.p4x_cmd.specs.Entries.{no_entries}

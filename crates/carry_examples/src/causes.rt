@@ -205,9 +205,9 @@ fn expect_refused<'a>(
 fn a_refused_program_and_refused_entries(rt: HostRuntime) -> Result<(), Fail> {
     let alloc = rt.alloc();
     let other = b"control ingress { }";
-    expect_refused(&rt, alloc, other, b"", 100, 3, b"refused C25\n")?;
+    expect_refused(&rt, alloc, other, b"", 100, 3, b"refused C2\n")?;
     // The first cause in the order of the work counts.
-    expect_refused(&rt, alloc, other, b"\n", 100, 3, b"refused C25\n")?;
+    expect_refused(&rt, alloc, other, b"\n", 100, 3, b"refused C2\n")?;
     expect_refused(&rt, alloc, program(), b"\n", 100, 4, b"refused E1 at 1:1\n")?;
     // A sink that is full in the middle of the line.
     expect_refused(&rt, alloc, program(), b"#", 9, 1, b"refused E")

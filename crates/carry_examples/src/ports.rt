@@ -111,7 +111,7 @@ fn expect_first(
 #[test]
 fn program_entries_and_ports_come_before_the_capture(rt: HostRuntime) -> Result<(), Fail> {
     let alloc = rt.alloc();
-    let expected = stopped(3, b"refused C25\n");
+    let expected = stopped(3, b"refused C2\n");
     expect_first(&rt, alloc, b"control ingress { }", b"#", expected)?;
     let expected = stopped(4, b"refused E1 at 1:1\n");
     expect_first(&rt, alloc, program(), b"#", expected)?;

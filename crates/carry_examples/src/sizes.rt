@@ -25,10 +25,10 @@ fn a_program_of_1048576_octets_is_carried(rt: HostRuntime) -> Result<(), Fail> {
 }
 
 #[test]
-fn a_program_of_1048577_octets_is_refused(rt: HostRuntime) -> Result<(), Fail> {
+fn a_program_of_1048577_octets_is_over_its_limit(rt: HostRuntime) -> Result<(), Fail> {
     let alloc = rt.alloc();
     let text = padded(alloc, LIMIT + 1)?;
     let mut desk = desk(alloc, &text, b"", capture())?;
-    let expected = stopped(3, b"refused C25\n");
+    let expected = stopped(6, b"limit program\n");
     expect_run(&rt, alloc, &WORDS, &mut desk, expected)
 }

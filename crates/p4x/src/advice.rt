@@ -16,7 +16,7 @@ CAPTURE don't begin with --. The outputs --text, --sent and --report are three o
 fn carry_words(rule: &str) -> &'static str {
     match rule {
         "C25" =>
-            "the program isn't of the one form that is taken yet, or has more than 1,048,576 octets",
+            "the program has something that is left out of P4_14 here, or isn't of the one form that is carried yet",
         "E1" => "only an empty entries file is taken yet",
         "P1" => "the line isn't one decimal number",
         "P2" => "the port is over 510",
@@ -27,7 +27,7 @@ fn carry_words(rule: &str) -> &'static str {
         "K4" => "the capture ends inside a record; the packets in front of it were carried",
         "K5" =>
             "a record has a captured length over 65,535; the packets in front of it were carried",
-        _ => "the file breaks this rule",
+        _ => program_words(rule).unwrap_or("the file breaks this rule"),
     }
 }
 

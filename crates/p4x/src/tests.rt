@@ -51,7 +51,7 @@ fn a_refusal_tells_its_file_with_its_place(rt: HostRuntime) -> Result<(), Fail> 
         (
             3,
             "refused C25\n",
-            "p4x: p: the program isn't of the one form that is taken yet, or has more than 1,048,576 octets (C25)",
+            "p4x: p: the program has something that is left out of P4_14 here, or isn't of the one form that is carried yet (C25)",
         ),
         (
             4,

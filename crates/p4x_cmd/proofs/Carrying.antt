@@ -8,7 +8,7 @@ use Rattle.state_store.specs.State.{Contents}
 use Rattle.p4x_bits.specs.BitLists.{octet_bits, IsOctets}
 use Rattle.fabric.specs.declared.packets.Arrival.{Arrival}
 use Rattle.fabric.specs.declared.packets.Sent.{Sent}
-use Rattle.p4x_cmd.specs.declared.one_table.OneTable14.{OneTable14}
+use Rattle.p414_one_table.specs.declared.program.OneTable14.{OneTable14}
 use Rattle.p4x_cmd.specs.Headers.{numbers_in, bits_in, octets_in}
 use Rattle.p4x_cmd.specs.Entries.{no_fill, fill_at}
 use Rattle.match_core.specs.declared.entries.Entries.{Entries}
@@ -19,7 +19,7 @@ use Rattle.match_core.specs.Fits.{Fits, FitsFill, FitsCall}
 use Rattle.match_core.specs.Stores.{first_store}
 use Rattle.p4x_cmd.specs.Passes.{PassEnd, Pass, dropped, leaves, run_of, run_from, sent_from}
 use Rattle.p4x_cmd.specs.internal.Plain.{plain_pass, IsSized}
-use Rattle.p4x_cmd.specs.Forms14.{is_one_table}
+use Rattle.p414_one_table.specs.Programs.{is_one_table}
 use Rattle.p4x_cmd.specs.Forms16.{program16}
 use Rattle.p4x_cmd.specs.internal.Lowering.{lowered}
 use Rattle.p4x_cmd.specs.Meaning14.{Run14, table14, signature14, pass14, widths14, State14, start14, extract14, after_parser14, after_ingress14, apply14}

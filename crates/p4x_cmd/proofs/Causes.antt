@@ -2,6 +2,7 @@
 use Rattle.std.proofs.Common.{◌≡◌, ◌⊎◌, inl, inr, ℕ, All, OnOk, List, Option, Some, None, Result, Ok, Err, refl, sym, ◌∙◌, ap, subst, arith}
 use Rattle.p416_ast.specs.declared.syntax.Syntax16.{Syntax16}
 use Rattle.p4x_io.specs.Desk.{DeskView, SinkView, NoneIs, Rose, put, said}
+use Rattle.p4x_io.specs.Files.{Says}
 use Rattle.fabric.specs.Numbers.{IsArrival}
 use Rattle.fabric.specs.declared.packets.Arrival.{Arrival}
 use Rattle.match_core.specs.declared.signatures.Signature.{Signature}
@@ -11,34 +12,26 @@ use Rattle.file_work.specs.declared.stop.Stop.{Stop}
 use Rattle.file_work.specs.declared.stop.Stop.TheVariants.{Fault, Program, Judged, Entries}
 use Rattle.file_work.specs.Clauses.{Ended, OwnRose, AsDue}
 use Rattle.file_work.specs.Stops.{code_of, line_of}
-use Rattle.file_work.specs.Works.{Due, Leaves, Tells, AllExact, AllKept}
-use Rattle.file_work.proofs.Ends.{is_fault, is_usage, is_program, is_entries, not_done}
+use Rattle.file_work.specs.Works.{Due, Tells, IsLoose, AllExact, AllKept}
+use Rattle.file_work.proofs.Ends.{is_fault, is_usage, is_program, is_entries, loose_code, not_done}
 use Rattle.file_work.proofs.Files.{put_told}
 use Rattle.file_work.proofs.Laws.{IsDone, left_fronts, left_ends, left_as_due, left_done}
 use Rattle.file_work.proofs.Order.{due_status}
-use Rattle.p4x_cmd.specs.declared.one_table.OneTable14.{OneTable14}
-use Rattle.p4x_cmd.specs.Calls.{OnTold, OnForm, AreTold, Carried, Done, CarryStatuses, Statuses, AcceptsAll, Usages, CarryKept, Kept, CarryLeft, Left, FilesLeft, Translated, IsEnd, PacketsFit, WorksFor, inputs_in, outputs_in, RefusesCapture, OverCapture}
+use Rattle.p414_one_table.specs.declared.program.OneTable14.{OneTable14}
+use Rattle.p4x_cmd.specs.Calls.{OnTold, OnForm, AreTold, Carried, Done, CarryStatuses, Statuses, AcceptsAll, Usages, CarryKept, Kept, CarryLeft, Left, FilesLeft, Translated, IsEnd, PacketsFit, CarryWorks, WorksFor, inputs_in, outputs_in, RefusesCapture, OverCapture}
 use Rattle.p4x_cmd.specs.Carries.{SameRuns}
-use Rattle.p4x_cmd.specs.Carry.{CarryDue, ProgramIs, Begins, InOrder, KeepsInOrder, StopsBefore, Written, capture_reports, delivered}
+use Rattle.p4x_cmd.specs.Carry.{CarryDue, ComesOnce, Unless, Begins, KeepsInOrder, StopsBefore, Written, capture_reports, delivered, program_read}
 use Rattle.p4x_cmd.specs.Entries.{no_entries}
-use Rattle.p4x_cmd.specs.Forms14.{Reads14}
 use Rattle.p4x_cmd.specs.Meaning14.{signature14}
 use Rattle.p4x_cmd.specs.Meaning16.{Run16, signature16}
 use Rattle.p4x_cmd.specs.Runs.{default_bound, this_run, this_run14}
 use Rattle.p4x_cmd.proofs.Captured.{Whole, whole_capture, empty_reports}
 use Rattle.p4x_cmd.proofs.Filling.{no_entries_fit, signature_is}
 use Rattle.p4x_cmd.proofs.Judging.{program_first, entries_first, ports_first}
-use Rattle.p4x_cmd.proofs.ProgramCauses.{no_usage, program_ends, program_statuses, program_done, program_left}
+use Rattle.p4x_cmd.proofs.ProgramCauses.{one_program, no_usage, program_ends, program_statuses, program_done, program_left}
 use Rattle.program_commands.specs.Lines.{PrintsAccepted, PrintsOrder}
-use Rattle.p4x_cmd.proofs.Reading14.{reads14_once}
-use Rattle.p4x_cmd.proofs.Statuses.{AllStatuses, KnownSo, due_ends, statuses_are, begins_not}
-
--- a program that is taken is the only one that its text reads as
-one_program : (o : Option (List ℕ)) (p : OneTable14) → ProgramIs o (Ok p) → (read : List ℕ) (other : OneTable14) → o ≡ Some read → Reads14 read other → other ≡ p
-one_program None p taken read other is reads = absurd taken
-one_program (Some text) p taken read other is reads =
-    let same : read ≡ text = cc is in
-    reads14_once text other p (subst (λ (l : List ℕ). Reads14 l other) same reads) taken.reads
+use Rattle.program_commands.specs.Programs.{ReadsOnce}
+use Rattle.p4x_cmd.proofs.Statuses.{AllStatuses, KnownSo, due_ends, statuses_are, statuses_loose, comes_loose, first_loose, begins_not}
 
 begun_by : (f : CarryFiles) (files : List ℕ → Option (List ℕ)) → RefusesCapture f files ⊎ OverCapture f files → (p : OneTable14) × (ports : List ℕ) × Begins f files p ports
 begun_by f files (inl is) = (is.0, is.1, is.2)
@@ -50,14 +43,28 @@ same_run p text s written arrivals fit =
     subst (λ (g : Signature). SameRuns (this_run14 p arrivals) (Run16 s (no_entries g) default_bound arrivals)) written.carries.signatures
     (written.carries.runs (no_entries (signature14 p)) default_bound arrivals (no_entries_fit (signature14 p)) (omega arith, omega arith) fit)
 
+-- but for a fault or want of memory this holds
+loose_or : (P : Type 0) (end : Result (List ℕ) Stop) → Unless P end → IsLoose end ⊎ P
+loose_or P (Ok line) holds = inr holds
+loose_or P (Err stop) (inl fault) = inl (inl (ap (λ x. Err x) fault))
+loose_or P (Err stop) (inr (inl memory)) = inl (inr (ap (λ x. Err x) memory))
+loose_or P (Err stop) (inr (inr holds)) = inr holds
+
+loose_says : (end : Result (List ℕ) Stop) (status : ℕ) (before after : SinkView) → IsLoose end → Says (line_of end) (code_of end) status before after → (status ≡ 1) ⊎ (status ≡ 7)
+loose_says end status before after loose says = elim says.said [
+  | inl whole ↦ elim (loose_code end loose) [ inl one ↦ inl (whole.0 ∙ one) | inr seven ↦ inr (whole.0 ∙ seven) ]
+  | inr cut ↦ inl cut.0
+]
+
 of_ok : (end : Result (List ℕ) Stop) (P : Type 0) → 0 ≡ code_of end → OnOk end P → P
 of_ok (Ok line) P zero holds = holds
 of_ok (Err stop) P zero holds = absurd (not_done stop zero)
 
 module _ (f : CarryFiles) (files : List ℕ → Option (List ℕ)) (old new : DeskView) where
   -- a run that was done, from what was due
-  carried : (told : Tells (carry_inputs f) old files) (made : AreTold (carry_outputs f) old) (before after : SinkView) (end : Result (List ℕ) Stop) → PacketsFit f old end → IsDone (CarryDue f files) old new before after end → Carried f files new before after
-  carried told made before after end fit d = by_due d.due_is
+  carried : (told : Tells (carry_inputs f) old files) (made : AreTold (carry_outputs f) old) (before after : SinkView) (end : Result (List ℕ) Stop) → PacketsFit f old end
+      → OnOk end ((text : List ℕ) → old.told f.program ≡ Some (Some text) → ReadsOnce text) → IsDone (CarryDue f files) old new before after end → Carried f files new before after
+  carried told made before after end fit once d = by_due d.due_is
     where
       zero : 0 ≡ code_of d.what.end
       zero = d.zero ∙ ap code_of d.end_is
@@ -70,13 +77,17 @@ module _ (f : CarryFiles) (files : List ℕ → Option (List ℕ)) (old new : De
           whole_capture went.3 went.1 (files f.capture) (zero ∙ ap (λ (x : Due). code_of x.end) went.6) in
           let packets : All IsArrival run.arrivals =
           subst (λ (l : List Arrival). All IsArrival l) (sym run.whole.of_records) (of_ok end _ d.zero fit files run.octets went.1 told run.capture went.4.1) in
+          let program = went.4.0.0 in
           record {
+            syntax = program.0;
             source = went.0;
             ports = went.1;
             text = went.2;
             program = went.3;
             begins = went.4;
-            only = one_program (files f.program) went.0 went.4.0.0;
+            taken = program.1;
+            only = one_program (files f.program) program.0 program.1 (λ text here. of_ok end _ d.zero once text (told.0 ∙ ap (λ o. Some o) here));
+            form = program.2;
             written = went.5;
             octets = run.octets;
             link = run.link;
@@ -98,9 +109,9 @@ module _ (f : CarryFiles) (files : List ℕ → Option (List ℕ)) (old new : De
           }
 
   -- the outputs are as they are due where the work has begun
-  due_translated : (p : OneTable14) (ports : List ℕ) → Begins f files p ports → (d : Due) → CarryDue f files d → AllExact d.outs old new → Translated f files old new
-  due_translated p ports begins d (inl early) exact = absurd (begins_not f files p ports early.0 begins early.1)
-  due_translated p ports begins d (inr went) exact =
+  due_translated : ComesOnce (files f.program) → (p : OneTable14) (ports : List ℕ) → Begins f files p ports → (d : Due) → CarryDue f files d → AllExact d.outs old new → Translated f files old new
+  due_translated once p ports begins d (inl early) exact = absurd (begins_not f files once p ports early.0 begins early.1)
+  due_translated once p ports begins d (inr went) exact =
       let outs : AllExact (delivered f went.2 (capture_reports went.3 went.1 (files f.capture))).outs old new = subst (λ (x : Due). AllExact x.outs old new) went.6 exact in
       record {
         source = went.0;
@@ -117,52 +128,73 @@ module _ (f : CarryFiles) (files : List ℕ → Option (List ℕ)) (old new : De
             (outs.1.0 ∙ ap (put (old.told f.sent)) none.0, outs.1.1.0 ∙ ap (put (old.told f.report)) none.1);
       }
 
-  of_due_translated : RefusesCapture f files ⊎ OverCapture f files → (status : ℕ) → (status ≡ 5) ⊎ (status ≡ 6) → AsDue (CarryDue f files) old new status → Translated f files old new
-  of_due_translated refuses status five (inl one) = absurd (elim five [ inl x ↦ omega arith | inr x ↦ omega arith ])
-  of_due_translated refuses status five (inr (inl seven)) = absurd (elim five [ inl x ↦ omega arith | inr x ↦ omega arith ])
-  of_due_translated refuses status five (inr (inr due)) = let begun = begun_by f files refuses in due_translated begun.0 begun.1 begun.2 due.0 due.1 due.3
+  of_due_translated : ComesOnce (files f.program) → RefusesCapture f files ⊎ OverCapture f files → (status : ℕ) → (status ≡ 5) ⊎ (status ≡ 6) → AsDue (CarryDue f files) old new status → Translated f files old new
+  of_due_translated once refuses status five (inl one) = absurd (elim five [ inl x ↦ omega arith | inr x ↦ omega arith ])
+  of_due_translated once refuses status five (inr (inl seven)) = absurd (elim five [ inl x ↦ omega arith | inr x ↦ omega arith ])
+  of_due_translated once refuses status five (inr (inr due)) = let begun = begun_by f files refuses in due_translated once begun.0 begun.1 begun.2 due.0 due.1 due.3
 
   known_by : (status : ℕ) → AsDue (CarryDue f files) old new status → KnownSo f files status
   known_by status (inl one) = inl one
   known_by status (inr (inl seven)) = inr (inl seven)
   known_by status (inr (inr due)) = inr (inr (due_ends f files status due.0 due.1 due.2))
 
-  module _ (before after : SinkView) (status : ℕ) (end : Result (List ℕ) Stop) (leaves : Leaves (carry_outputs f) (CarryDue f files) end old new) (as_due : AsDue (CarryDue f files) old new status) where
-    statuses : AllStatuses f files status
-    statuses = statuses_are f files status (known_by status as_due)
+  not_loose : (status : ℕ) → (status ≡ 1) ⊎ (status ≡ 7) → (status ≡ 5) ⊎ (status ≡ 6) → ⊥
+  not_loose status (inl one) five = elim five [ inl x ↦ omega arith | inr x ↦ omega arith ]
+  not_loose status (inr seven) five = elim five [ inl x ↦ omega arith | inr x ↦ omega arith ]
 
-    files_left : CarryLeft f files old new status
-    files_left = record {
-      translated = λ refuses five. of_due_translated refuses status five as_due;
-      fronts = left_fronts (carry_outputs f) (CarryDue f files) old new end leaves;
-      as_due = as_due;
+  module _ (before after : SinkView) (status : ℕ) (e : Ended (CarryWorks f old new) before after status) where
+    -- a status of 1 or 7; or the program's file comes to one thing only
+    once_or : Tells (program_read f) old files → ((status ≡ 1) ⊎ (status ≡ 7)) ⊎ ComesOnce (files f.program)
+    once_or told = elim (loose_or _ e.end (e.is.order.once files told)) [
+      | inl loose ↦ inl (loose_says e.end status before after loose e.says)
+      | inr once ↦ inr once
+    ]
+
+    as_due : Tells (carry_inputs f) old files → AsDue (CarryDue f files) old new status
+    as_due told = left_as_due (carry_outputs f) (CarryDue f files) old new e.end (e.is.works.leaves files told) before after status e.says
+
+    all : Tells (carry_inputs f) old files → AllStatuses f files status
+    all told = elim (once_or (told.0, tt)) [
+      | inl loose ↦ statuses_loose f files status loose
+      | inr once ↦ statuses_are f files once status (known_by status (as_due told))
+    ]
+
+    files_left : Tells (carry_inputs f) old files → CarryLeft f files old new status
+    files_left told = record {
+      translated = λ refuses five. elim (once_or (told.0, tt)) [
+        | inl loose ↦ absurd (not_loose status loose five)
+        | inr once ↦ of_due_translated once refuses status five (as_due told)
+      ];
+      fronts = left_fronts (carry_outputs f) (CarryDue f files) old new e.end (e.is.works.leaves files told);
+      as_due = as_due told;
     }
 
-  -- each cause by the files that are read until it is found
-  each_status : (before after : SinkView) (status : ℕ) → Ended (WorksFor (Some (carry f)) old new) before after status → CarryStatuses f old files status
-  each_status before after status e = record {
-    program = λ told. program_first f files status before after e.end e.says (order.program files told);
-    entries = λ told. entries_first f files status before after e.end e.says (order.entries files told);
-    ports = λ told. ports_first f files status before after e.end e.says (order.ports files told);
-    refused = λ told. (all told).refused;
-    limit = λ told. (all told).limit;
-    accepted = λ told. (all told).accepted;
-  }
-    where
-      order : InOrder f old e.end
-      order = e.is.2
-
-      all : Tells (carry_inputs f) old files → AllStatuses f files status
-      all told =
-          let leaves = e.is.0.leaves files told in
-          statuses before after status e.end leaves (left_as_due (carry_outputs f) (CarryDue f files) old new e.end leaves before after status e.says)
+    -- each cause by the files that are read until it is found
+    each_status : CarryStatuses f old files status
+    each_status = record {
+      program = λ told. elim (once_or told) [
+        | inl loose ↦ record { refused = comes_loose status 3 _ loose (λ c. omega arith) (λ c. omega arith); limit = first_loose status 6 _ _ loose (λ c. omega arith) (λ c. omega arith) }
+        | inr once ↦ program_first f files once status before after e.end e.says (e.is.order.program files told)
+      ];
+      entries = λ told. elim (once_or (told.0, tt)) [
+        | inl loose ↦ comes_loose status 4 _ loose (λ c. omega arith) (λ c. omega arith)
+        | inr once ↦ entries_first f files once status before after e.end e.says (e.is.order.entries files told)
+      ];
+      ports = λ told. elim (once_or (told.0, tt)) [
+        | inl loose ↦ record { refused = first_loose status 5 _ _ loose (λ c. omega arith) (λ c. omega arith); limit = first_loose status 6 _ _ loose (λ c. omega arith) (λ c. omega arith) }
+        | inr once ↦ ports_first f files once status before after e.end e.says (e.is.order.ports files told)
+      ];
+      refused = λ told. (all told).refused;
+      limit = λ told. (all told).limit;
+      accepted = λ told. (all told).accepted;
+    }
 
   -- where the desk tells all inputs, the outputs are kept wherever the work stops before it writes
   pub all_kept : (status : ℕ) → CarryKept f files old new status → Tells (carry_inputs f) old files → (stop : Stop) → StopsBefore f files stop → AllKept (carry_outputs f) old new
   all_kept status kept told = kept.ports (told.0, (told.1.0, told.1.1.1))
 
   -- the outputs are kept where the work stops before it writes
-  kept_first : (before after : SinkView) (status : ℕ) → Ended (WorksFor (Some (carry f)) old new) before after status → CarryKept f files old new status
+  kept_first : (before after : SinkView) (status : ℕ) → Ended (CarryWorks f old new) before after status → CarryKept f files old new status
   kept_first before after status e = record {
     refused = λ so. elim so [ inl three ↦ by_program three | inr four ↦ by_entries four ];
     program = keeps.program files;
@@ -171,12 +203,12 @@ module _ (f : CarryFiles) (files : List ℕ → Option (List ℕ)) (old new : De
   }
     where
       keeps : KeepsInOrder f old new e.end
-      keeps = e.is.3
+      keeps = e.is.kept
 
       by_program : status ≡ 3 → AllKept (carry_outputs f) old new
       by_program three = elim (is_program e.end (due_status (line_of e.end) (code_of e.end) status 3 before after e.says (λ one. omega arith) three)) [
         | inl is ↦ keeps.own Program is (inl (inl (inl refl)))
-        | inr (fault, is) ↦ keeps.own (Judged fault) is (inl (inl (inr (fault, refl))))
+        | inr (fault, is) ↦ keeps.own (Judged fault) is (inl (inl (inr (inl (fault, refl)))))
       ]
 
       by_entries : status ≡ 4 → AllKept (carry_outputs f) old new
@@ -192,7 +224,7 @@ not_second A B C never (inr (inr c)) = inr c
 
 fault_works : (found : Option Command) (old new : DeskView) (before after : SinkView) (end : Result (List ℕ) Stop) → WorksFor found old new end → end ≡ Err Fault → OwnRose (inputs_in found) (outputs_in found) old new before after
 fault_works None old new before after end works is = absurd (cc (works.0, is))
-fault_works (Some (carry f)) old new before after end works is = inl (works.0.cause.fault is)
+fault_works (Some (carry f)) old new before after end works is = inl (works.works.cause.fault is)
 fault_works (Some (check program)) old new before after end works is = inl (works.works.cause.fault is)
 fault_works (Some (order program)) old new before after end works is = inl (works.works.cause.fault is)
 
@@ -205,7 +237,7 @@ usages None old new before after status ended = (by_line, ended.is.1)
       | inr cut ↦ inr (cut.0, cut.1)
     ]
 usages (Some (carry f)) old new before after status ended = λ two. elim ended.says.said [
-  | inl whole ↦ ended.is.0.cause.usage (is_usage ended.end (sym whole.0 ∙ two))
+  | inl whole ↦ ended.is.works.cause.usage (is_usage ended.end (sym whole.0 ∙ two))
   | inr cut ↦ omega (arith, cut.0)
 ]
 usages (Some (check program)) old new before after status ended = no_usage PrintsAccepted program old new before after status ended
@@ -215,11 +247,11 @@ ends : (found : Option Command) (old new : DeskView) (end : Result (List ℕ) St
 ends None old new end works = works.0
 ends (Some (check program)) old new end works = program_ends PrintsAccepted program old new end works
 ends (Some (order program)) old new end works = program_ends PrintsOrder program old new end works
-ends (Some (carry f)) old new end works = ((λ files told. left_ends (carry_outputs f) (CarryDue f files) old new end (works.0.leaves files told)), works.2)
+ends (Some (carry f)) old new end works = ((λ files told. left_ends (carry_outputs f) (CarryDue f files) old new end (works.works.leaves files told)), works.order)
 
 only : (found : Option Command) (old new : DeskView) (end : Result (List ℕ) Stop) → WorksFor found old new end → (name : List ℕ) → NoneIs name (outputs_in found) → new.told name ≡ old.told name
 only None old new end works name none = ap (λ (d : DeskView). d.told name) works.1
-only (Some (carry f)) old new end works name none = works.0.moves.others name none
+only (Some (carry f)) old new end works name none = works.works.moves.others name none
 only (Some (check program)) old new end works name none = works.works.moves.others name none
 only (Some (order program)) old new end works name none = works.works.moves.others name none
 
@@ -240,7 +272,7 @@ module _ (c : Command) (files : List ℕ → Option (List ℕ)) (old new : DeskV
     where
       by_command : (c : Command) → Ended (WorksFor (Some c) old new) before after status → Tells (inputs_of c) old files → AreTold (outputs_of c) old → Done c files new before after
       by_command (carry f) e t m =
-          carried f files old new t m before after e.end e.is.1 (left_done (carry_outputs f) (CarryDue f files) old new e.end (e.is.0.leaves files t) before after status e.says zero)
+          carried f files old new t m before after e.end e.is.packets e.is.once (left_done (carry_outputs f) (CarryDue f files) old new e.end (e.is.works.leaves files t) before after status e.says zero)
       by_command (check program) e t m = program_done PrintsAccepted program old new before after status e files t zero
       by_command (order program) e t m = program_done PrintsOrder program old new before after status e files t zero
 
@@ -248,9 +280,7 @@ module _ (c : Command) (files : List ℕ → Option (List ℕ)) (old new : DeskV
   left_of = by_command c ended told
     where
       by_command : (c : Command) → Ended (WorksFor (Some c) old new) before after status → Tells (inputs_of c) old files → Left c files old new status
-      by_command (carry f) e t =
-          let leaves = e.is.0.leaves files t in
-          files_left f files old new before after status e.end leaves (left_as_due (carry_outputs f) (CarryDue f files) old new e.end leaves before after status e.says)
+      by_command (carry f) e t = files_left f files old new before after status e t
       by_command (check program) e t = program_left PrintsAccepted program old new before after status e files t
       by_command (order program) e t = program_left PrintsOrder program old new before after status e files t
 

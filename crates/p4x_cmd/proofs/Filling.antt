@@ -9,7 +9,7 @@ use Rattle.match_core.specs.declared.signatures.ObjectSig.{ObjectSig}
 use Rattle.match_core.specs.declared.signatures.Signature.{Signature}
 use Rattle.match_core.specs.Fits.{Fits, FitsFill, FitsColours}
 use Rattle.match_core.specs.Signatures.{IsWidth, AreActions, IsTable, IsSignature}
-use Rattle.p4x_cmd.specs.declared.one_table.OneTable14.{OneTable14}
+use Rattle.p414_one_table.specs.declared.program.OneTable14.{OneTable14}
 use Rattle.p4x_cmd.specs.Meaning14.{table14, signature14}
 use Rattle.p4x_cmd.specs.Entries.{no_fill, no_entries}
 

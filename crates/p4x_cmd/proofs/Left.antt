@@ -8,7 +8,7 @@ use Rattle.file_work.specs.Phases.{Loosely}
 use Rattle.file_work.specs.Works.{IsPart, Leaves}
 use Rattle.file_work.proofs.Files.{part_whole, part_empty, put_whole, put_part}
 use Rattle.command_words.specs.Words.{CarryFiles, carry_outputs}
-use Rattle.p4x_cmd.specs.declared.one_table.OneTable14.{OneTable14}
+use Rattle.p414_one_table.specs.declared.program.OneTable14.{OneTable14}
 use Rattle.run_stream.specs.Captured.{Reports}
 use Rattle.p4x_cmd.specs.Carry.{CarryDue, StopsBefore, Begins, Written, capture_reports, untouched, delivered}
 use Rattle.p4x_cmd.specs.internal.Phases.{Delivers}

@@ -3,11 +3,9 @@ pub mod Captured
 pub mod Carrying
 pub mod Causes
 pub mod Delivering
-pub mod Dividing
 pub mod Filling
 pub mod HeaderLaws
 pub mod Judging
-pub mod Judging14
 pub mod Left
 pub mod Named
 pub mod Order
@@ -16,14 +14,13 @@ pub mod Pass16
 pub mod Phases
 pub mod Pieces16
 pub mod ProgramCauses
-pub mod Reading14
+pub mod Programs
 pub mod Reading16
 pub mod Refused16
 pub mod RunLaws
 pub mod Running
 pub mod Sizes
 pub mod Spaced
-pub mod Spelling14
 pub mod Statuses
 pub mod Taking
 pub mod Typing16

@@ -3,7 +3,7 @@ use Rattle.std.proofs.Common.{◌≡◌, inl, inr, ℕ, List, Option, Err}
 use Rattle.file_work.specs.declared.stop.Stop.{Stop}
 use Rattle.file_work.specs.Phases.{Loosely}
 use Rattle.command_words.specs.Words.{CarryFiles}
-use Rattle.p4x_cmd.specs.declared.one_table.OneTable14.{OneTable14}
+use Rattle.p414_one_table.specs.declared.program.OneTable14.{OneTable14}
 use Rattle.p4x_cmd.specs.Carry.{HasProgram, StopsBefore, ports_end}
 
 -- the ports stop the command

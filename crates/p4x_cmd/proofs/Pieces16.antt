@@ -14,7 +14,7 @@ use Rattle.p4x_cmd.specs.Division.{Token, run, number, mark, is_blank, is_digit,
 use Rattle.std.proofs.lemmas.List.{take_more, take_all}
 use Rattle.p4x_cmd.specs.Forms16.{field_tokens16, header_tokens16, note_tokens, action_tokens16, table_tokens16, ingress_tokens16, front_tokens, back_tokens, spelled16, program16, include_lines, is_one_table16, Reads16}
 use Rattle.p4x_cmd.specs.internal.Written.{Writes}
-use Rattle.p4x_cmd.specs.declared.one_table.Field.{Field}
+use Rattle.p414_one_table.specs.declared.program.Field.{Field}
 use Rattle.p4x_cmd.specs.declared.one_table.OneTable16.{OneTable16}
 use Rattle.p4x_cmd.proofs.Spaced.{Piece, word, numeral, sign, gap, text_of, tokens_in, is_run, is_numeral, is_spaced, divided_pieces, Divided-append}
 

@@ -50,7 +50,7 @@ status_of (Err stop) (inr (inr (inl (fault, judged)))) = inr (inr (inl (ap stop_
 status_of (Err stop) (inr (inr (inr limit))) = inr (inr (inr (inl (ap stop_code limit))))
 
 -- a program that is taken is the only one that its text reads as
-one_program : (o : Option (List ℕ)) (s : Syntax14) → ProgramIs o (Ok s) → ((text : List ℕ) → o ≡ Some text → ReadsOnce text)
+pub one_program : (o : Option (List ℕ)) (s : Syntax14) → ProgramIs o (Ok s) → ((text : List ℕ) → o ≡ Some text → ReadsOnce text)
     → (read : List ℕ) (other : Syntax14) → o ≡ Some read → Reads14 read other → other ≡ s
 one_program None s taken once read other is reads = absurd taken
 one_program (Some text) s taken once read other is reads =

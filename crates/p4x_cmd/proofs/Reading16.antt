@@ -1,5 +1,5 @@
 -- A text reads as at most one P4_16 program of the one-table form, and what a P4_14 program becomes is of the form.
-use Rattle.std.proofs.Common.{◌≡◌, refl, sym, ap, ◌∙◌, ℕ, ◌-◌, ◌%◌, ◌^◌, ◌<◌, Bool, true, false, List, [], ◌∷◌, ◌++◌, append_assoc, arith, length, get_or, drop, map}
+use Rattle.std.proofs.Common.{◌≡◌, refl, sym, ap, ◌∙◌, ℕ, ◌-◌, ◌%◌, ◌^◌, ◌<◌, Bool, true, false, List, [], ◌∷◌, ◌++◌, append_assoc, arith, length, get_or, drop, map, ◌||◌}
 use Rattle.std.specs.Prelude.{◌&&◌, ◌==◌, not, nat_le, codes, sum_by}
 use Rattle.std.specs.List.{list_all, list_any}
 use Rattle.std.specs.Str.{bytes_eq}
@@ -12,11 +12,12 @@ use Rattle.state_store.specs.Ports.{drop_port}
 use Rattle.p416_ast.specs.declared.syntax.Syntax16.{Syntax16}
 use Rattle.p416_ast.specs.Words.{is_word, is_id16, is_name_part, reserved16}
 use Rattle.p4x_cmd.specs.Division.{Token, run, number, mark, is_letter, is_digit, tokens_of}
-use Rattle.p4x_cmd.specs.Forms14.{is_one_table, is_free_name, are_fields, is_among, is_id, is_width, repeats, form_words14, primitives14}
+use Rattle.token_division.specs.Octets as octets
+use Rattle.p414_one_table.specs.Programs.{is_one_table, are_fields, is_id, is_width, repeats}
 use Rattle.p4x_cmd.specs.Forms16.{field_tokens16, header_tokens16, ingress_tokens16, front_tokens, back_tokens, spelled16, program16, include_lines, is_one_table16, Reads16}
 use Rattle.p4x_cmd.specs.internal.Lowering.{lowered, lowered_field}
-use Rattle.p4x_cmd.specs.declared.one_table.Field.{Field}
-use Rattle.p4x_cmd.specs.declared.one_table.OneTable14.{OneTable14}
+use Rattle.p414_one_table.specs.declared.program.Field.{Field}
+use Rattle.p414_one_table.specs.declared.program.OneTable14.{OneTable14}
 use Rattle.p4x_cmd.specs.declared.one_table.OneTable16.{OneTable16}
 
 -- what a token holds
@@ -99,11 +100,28 @@ reads16_once text s r a b =
 
 -- The names in what a P4_14 program becomes.
 
+-- both definitions of a letter are one, and so are both of what may stand behind it
+or_turned : (a b : Bool) → (a || b) ≡ (b || a)
+or_turned true true = refl
+or_turned true false = refl
+or_turned false true = refl
+or_turned false false = refl
+
+letter_is : (b : ℕ) → octets.is_letter b ≡ is_letter b
+letter_is b = or_turned (b == 95) ((nat_le 65 b && nat_le b 90) || (nat_le 97 b && nat_le b 122))
+
+word_is : (b : ℕ) → octets.is_word b ≡ is_name_part b
+word_is b = ap (λ (l : Bool). l || is_digit b) (letter_is b)
+
+words_are : (o : List ℕ) → list_all octets.is_word o ≡ list_all is_name_part o
+words_are [] = refl
+words_are (b ∷ o) = rw (word_is b, words_are o) refl
+
 name_parts : (o : List ℕ) → is_id o ≡ true → list_all is_name_part o ≡ true
 name_parts [] h = refl
 name_parts (b ∷ o) h =
-    let parts = and_parts (is_letter b) (list_all is_name_part o) h in
-    and_from (is_name_part b) (list_all is_name_part o) (or_left (is_letter b) (is_digit b) parts.0) parts.1
+    let parts = and_parts (octets.is_letter b) (list_all octets.is_word o) h in
+    and_from (is_name_part b) (list_all is_name_part o) (or_left (is_letter b) (is_digit b) (sym (letter_is b) ∙ parts.0)) (sym (words_are o) ∙ parts.1)
 
 -- no reserved word begins with `f_`
 lowered_name : (o : List ℕ) → is_id o ≡ true → is_id16 (codes "f_" ++ o) ≡ true
@@ -117,11 +135,11 @@ lowered_fields (f ∷ fields) h =
     and_from (is_id16 (codes "f_" ++ f.name)) (list_all (λ (g : Field). is_id16 g.name) (map lowered_field fields))
     (lowered_name f.name (and_parts (is_id f.name) (is_width f.width) parts.0).0) (lowered_fields fields parts.1)
 
-free_is_word : (o : List ℕ) → is_free_name o ≡ true → is_word o ≡ true
-free_is_word [] h = h
-free_is_word (b ∷ o) h =
-    let front = and_parts (is_id (b ∷ o) && not (is_among (b ∷ o) form_words14)) (not (is_among (b ∷ o) primitives14)) h in
-    (and_parts (is_id (b ∷ o)) (not (is_among (b ∷ o) form_words14)) front.0).0
+id_is_word : (o : List ℕ) → is_id o ≡ true → is_word o ≡ true
+id_is_word [] h = h
+id_is_word (b ∷ o) h =
+    let parts = and_parts (octets.is_letter b) (list_all octets.is_word o) h in
+    and_from (is_letter b) (list_all is_name_part o) (sym (letter_is b) ∙ parts.0) (sym (words_are o) ∙ parts.1)
 
 named_fields : (fields : List Field) → are_fields fields ≡ true → list_all (λ f. is_id f.name && is_width f.width) fields ≡ true
 named_fields fields h =
@@ -133,14 +151,12 @@ named_fields fields h =
 -- what a P4_14 program of the form becomes is a P4_16 program of the form
 pub lowered_is_one_table16 : (p : OneTable14) → is_one_table p ≡ true → is_one_table16 (lowered p) ≡ true
 lowered_is_one_table16 p h =
-    let to_table = and_parts (is_free_name p.header_type && are_fields p.fields && is_free_name p.instance && is_free_name p.action && nat_le p.port drop_port) (is_free_name p.table) h in
-    let to_port = and_parts (is_free_name p.header_type && are_fields p.fields && is_free_name p.instance && is_free_name p.action) (nat_le p.port drop_port) to_table.0 in
-    let to_action = and_parts (is_free_name p.header_type && are_fields p.fields && is_free_name p.instance) (is_free_name p.action) to_port.0 in
-    let to_instance = and_parts (is_free_name p.header_type && are_fields p.fields) (is_free_name p.instance) to_action.0 in
-    let to_fields = and_parts (is_free_name p.header_type) (are_fields p.fields) to_instance.0 in
-    let fields : list_all (λ (f : Field). is_id16 f.name) (map lowered_field p.fields) ≡ true = lowered_fields p.fields (named_fields p.fields to_fields.1) in
+    let to_table = and_parts (are_fields p.fields && is_id p.action && nat_le p.port drop_port) (is_id p.table) h in
+    let to_port = and_parts (are_fields p.fields && is_id p.action) (nat_le p.port drop_port) to_table.0 in
+    let to_action = and_parts (are_fields p.fields) (is_id p.action) to_port.0 in
+    let fields : list_all (λ (f : Field). is_id16 f.name) (map lowered_field p.fields) ≡ true = lowered_fields p.fields (named_fields p.fields to_action.0) in
     let port : nat_le p.port (2 ^ 128 - 1) ≡ true = le-leb p.port (2 ^ 128 - 1) (omega (arith, leb-true p.port drop_port to_port.1)) in
     and_from (list_all (λ (f : Field). is_id16 f.name) (map lowered_field p.fields) && is_word p.action && nat_le p.port (2 ^ 128 - 1)) (is_word p.table)
     (and_from (list_all (λ (f : Field). is_id16 f.name) (map lowered_field p.fields) && is_word p.action) (nat_le p.port (2 ^ 128 - 1))
-    (and_from (list_all (λ (f : Field). is_id16 f.name) (map lowered_field p.fields)) (is_word p.action) fields (free_is_word p.action to_action.1)) port)
-    (free_is_word p.table to_table.1)
+    (and_from (list_all (λ (f : Field). is_id16 f.name) (map lowered_field p.fields)) (is_word p.action) fields (id_is_word p.action to_action.1)) port)
+    (id_is_word p.table to_table.1)

@@ -3,9 +3,9 @@ use Rattle.std.proofs.Common.{◌≡◌, ℕ, ◌+◌, ◌*◌, ◌%◌, ◌==�
 use Rattle.std.specs.List.{list_all, sum_by}
 use Rattle.std.proofs.lemmas.List.Sums.{sum_by-cons, sum-map}
 use Rattle.state_store.specs.Ports.{drop_port}
-use Rattle.p4x_cmd.specs.declared.one_table.Field.{Field}
-use Rattle.p4x_cmd.specs.declared.one_table.OneTable14.{OneTable14}
-use Rattle.p4x_cmd.specs.Forms14.{is_one_table, is_free_name, are_fields, is_id, is_width, repeats}
+use Rattle.p414_one_table.specs.declared.program.Field.{Field}
+use Rattle.p414_one_table.specs.declared.program.OneTable14.{OneTable14}
+use Rattle.p414_one_table.specs.Programs.{is_one_table, are_fields, is_id, is_width, repeats}
 use Rattle.p4x_cmd.specs.internal.Lowering.{lowered, lowered_field}
 use Rattle.p4x_cmd.specs.internal.Plain.{IsSized}
 
@@ -28,11 +28,9 @@ sum_bound (f ∷ fields) h =
 
 pub lowered_sized : (p : OneTable14) → is_one_table p ≡ true → IsSized (lowered p)
 lowered_sized p h =
-    let to_table = both (is_free_name p.header_type && are_fields p.fields && is_free_name p.instance && is_free_name p.action && nat_le p.port drop_port) (is_free_name p.table) h in
-    let to_port = both (is_free_name p.header_type && are_fields p.fields && is_free_name p.instance && is_free_name p.action) (nat_le p.port drop_port) to_table.0 in
-    let to_action = both (is_free_name p.header_type && are_fields p.fields && is_free_name p.instance) (is_free_name p.action) to_port.0 in
-    let to_instance = both (is_free_name p.header_type && are_fields p.fields) (is_free_name p.instance) to_action.0 in
-    let fields = (both (is_free_name p.header_type) (are_fields p.fields) to_instance.0).1 in
+    let to_table = both (are_fields p.fields && is_id p.action && nat_le p.port drop_port) (is_id p.table) h in
+    let to_port = both (are_fields p.fields && is_id p.action) (nat_le p.port drop_port) to_table.0 in
+    let fields = (both (are_fields p.fields) (is_id p.action) to_port.0).0 in
     let count = nat_le 1 (length p.fields) && nat_le (length p.fields) 64 in
     let named = list_all (λ (f : Field). is_id f.name && is_width f.width) p.fields in
     let sized = both (count && named && not (repeats p.fields)) (sum_by (λ (f : Field). f.width) p.fields % 8 == 0) fields in

@@ -3,52 +3,33 @@ use Rattle.std.proofs.Common.{◌≡◌, ◌⊎◌, inl, inr, ◌≤◌, ℕ, na
 use Rattle.p4x_fault.specs.declared.Fault.{Fault as Refusal}
 use Rattle.pcap_io.specs.Ports.{ports_of}
 use Rattle.p4x_io.specs.Desk.{DeskView}
-use Rattle.p4x_cmd.specs.declared.one_table.OneTable14.{OneTable14}
+use Rattle.p414_one_table.specs.declared.program.OneTable14.{OneTable14}
 use Rattle.file_work.specs.declared.stop.Limited.TheVariants.{Program as TheProgram, Ports, Capture}
 use Rattle.file_work.specs.declared.stop.Stop.{Stop}
 use Rattle.file_work.specs.declared.stop.Stop.TheVariants.{Fault, Usage, Program, Judged, Entries, Refused, Limit, Memory}
-use Rattle.p4x_cmd.specs.Calls.{CarryStatuses, Accepts, RefusesProgram, RefusesEntries, RefusesPorts, RefusesCapture, OverPorts, OverCapture}
-use Rattle.p4x_cmd.specs.Carry.{CarryDue, ProgramIs, IsRefused, HasProgram, Begins, StopsBefore, entries_stop, taken_ports, ports_in, ports_end, ports_limit, program_limit}
-use Rattle.file_work.specs.Clauses.{ComesWhere}
+use Rattle.p4x_cmd.specs.Calls.{CarryStatuses, Accepts, RefusesProgram, RefusesEntries, RefusesPorts, RefusesCapture, OverText, OverPorts, OverCapture}
+use Rattle.p4x_cmd.specs.Carry.{CarryDue, ProgramIs, ComesOnce, HasProgram, Begins, StopsBefore, OfProgram, entries_stop, taken_ports, ports_in, ports_end, ports_limit}
+use Rattle.file_work.specs.Clauses.{ComesWhere, ComesFirst}
 use Rattle.file_work.specs.Works.{Due, Tells}
 use Rattle.file_work.proofs.Ends.{stop_in, code_at, code_stop}
 use Rattle.file_work.proofs.Ways.{Ends, Known, comes_where}
 use Rattle.file_work.specs.Stops.{code_of, stop_code}
 use Rattle.command_words.specs.Words.{CarryFiles, carry_inputs}
+use Rattle.p4x_cmd.proofs.Programs.{file_stops, taken_goes_on, stops_alike}
 use Rattle.p4x_cmd.proofs.Captured.{capture_stop, reports_stop, CaptureEnd, capture_ends, capture_taken, capture_over}
 
--- What the file of the program can come to.
-
-abbrev pub program_stop : Option (List ℕ) → Stop
-program_stop None = Fault
-program_stop (Some text) = Program
-
-pub program_stops : (o : Option (List ℕ)) (stop : Stop) → ProgramIs o (Err stop) → stop ≡ program_stop o
-program_stops None Fault is = refl
-program_stops None Usage is = absurd is
-program_stops None Program is = absurd is
-program_stops None (Judged fault) is = absurd is
-program_stops None Entries is = absurd is
-program_stops None (Refused fault) is = absurd is
-program_stops None (Limit file) is = absurd is
-program_stops None Memory is = absurd is
-program_stops (Some text) Fault is = absurd is
-program_stops (Some text) Usage is = absurd is
-program_stops (Some text) Program is = refl
-program_stops (Some text) (Judged fault) is = absurd is
-program_stops (Some text) Entries is = absurd is
-program_stops (Some text) (Refused fault) is = absurd is
-program_stops (Some text) (Limit file) is = absurd is
-program_stops (Some text) Memory is = absurd is
-
--- a program that is taken doesn't stop the command
-pub taken_goes_on : (o : Option (List ℕ)) (p : OneTable14) (stop : Stop) → ProgramIs o (Ok p) → ProgramIs o (Err stop) → ⊥
-taken_goes_on None p stop taken is = taken
-taken_goes_on (Some text) p stop taken is = refused (subst (λ (s : Stop). ProgramIs (Some text) (Err s)) (program_stops (Some text) stop is) is)
+-- a status of 1 or 7, which may come in the place of any
+pub comes_loose : (status code : ℕ) (P : Type 0) → (status ≡ 1) ⊎ (status ≡ 7) → (code ≡ 1 → ⊥) → (code ≡ 7 → ⊥) → ComesWhere status code P
+comes_loose status code P loose not_one not_seven = ((λ is. absurd (other loose is)), (λ so. inr loose))
   where
-    refused : IsRefused text → ⊥
-    refused (inl over) = let fits : length text ≤ program_limit = taken.fits in omega arith
-    refused (inr none) = none p taken.reads
+    other : (status ≡ 1) ⊎ (status ≡ 7) → status ≡ code → ⊥
+    other (inl one) is = not_one (sym is ∙ one)
+    other (inr seven) is = not_seven (sym is ∙ seven)
+
+pub first_loose : (status code : ℕ) (P Q : Type 0) → (status ≡ 1) ⊎ (status ≡ 7) → (code ≡ 1 → ⊥) → (code ≡ 7 → ⊥) → ComesFirst status code P Q
+first_loose status code P Q loose not_one not_seven =
+    let comes = comes_loose status code P loose not_one not_seven in
+    ((λ is. inl (comes.0 is)), comes.1)
 
 -- What the entries and the ports can come to.
 
@@ -92,13 +73,13 @@ pub record AllStatuses (f : CarryFiles) (files : List ℕ → Option (List ℕ))
   pub program : ComesWhere status 3 (RefusesProgram f files)
   pub entries : ComesWhere status 4 (RefusesEntries f files)
   pub refused : ComesWhere status 5 (RefusesPorts f files ⊎ RefusesCapture f files)
-  pub limit : ComesWhere status 6 (OverPorts f files ⊎ OverCapture f files)
+  pub limit : ComesWhere status 6 (OverText f.program files ⊎ OverPorts f files ⊎ OverCapture f files)
 
 -- they follow from what each cause says by itself
 pub all_statuses : (f : CarryFiles) (old : DeskView) (files : List ℕ → Option (List ℕ)) (status : ℕ) → CarryStatuses f old files status → Tells (carry_inputs f) old files → AllStatuses f files status
 all_statuses f old files status each told = record {
   accepted = each.accepted told;
-  program = each.program (told.0, tt);
+  program = (each.program (told.0, tt)).refused;
   entries = each.entries (told.0, (told.1.0, tt));
   refused = each.refused told;
   limit = each.limit told;
@@ -115,47 +96,51 @@ module _ (f : CarryFiles) (files : List ℕ → Option (List ℕ)) where
   due_comes d (inl early) = inl (early.0, early.1, ap (λ (x : Due). stop_in x.end) early.2)
   due_comes d (inr went) = inr (went.0, went.1, went.4, ap (λ (x : Due). stop_in x.end) went.6 ∙ reports_stop went.3 went.1 (files f.capture))
 
-  -- It stops at one place only.
-
   pub entries_not_both : (stop : Stop) → entries_stop (files f.entries) ≡ Some stop → entries_stop (files f.entries) ≡ None → ⊥
   entries_not_both stop some none = cc (some, none)
 
-  pub begins_not : (p : OneTable14) (ports : List ℕ) (stop : Stop) → Begins f files p ports → StopsBefore f files stop → ⊥
-  begins_not p ports stop begins (inl program) = taken_goes_on (files f.program) p stop begins.0.0 program
-  begins_not p ports stop begins (inr (inl entries)) = entries_not_both stop entries.2 begins.0.1
-  begins_not p ports stop begins (inr (inr refused)) = let other = refused.2 in let taken = begins.1 in cc (other, taken)
+  -- Where the program's file comes to one thing only, the work stops at one place only.
+  module _ (once : ComesOnce (files f.program)) where
+    pub begins_not : (p : OneTable14) (ports : List ℕ) (stop : Stop) → Begins f files p ports → StopsBefore f files stop → ⊥
+    begins_not p ports stop begins (inl program) = taken_goes_on (files f.program) once p stop begins.0.0 program
+    begins_not p ports stop begins (inr (inl entries)) = entries_not_both stop entries.2 begins.0.1
+    begins_not p ports stop begins (inr (inr refused)) = let other = refused.2 in let taken = begins.1 in cc (other, taken)
 
-  pub stops_once : (a b : Stop) → StopsBefore f files a → StopsBefore f files b → a ≡ b
-  stops_once a b (inl one) (inl other) = program_stops (files f.program) a one ∙ sym (program_stops (files f.program) b other)
-  stops_once a b (inl one) (inr (inl other)) = absurd (taken_goes_on (files f.program) other.0 a other.1 one)
-  stops_once a b (inl one) (inr (inr other)) = absurd (taken_goes_on (files f.program) other.0 a other.1.0 one)
-  stops_once a b (inr (inl one)) (inl other) = absurd (taken_goes_on (files f.program) one.0 b one.1 other)
-  stops_once a b (inr (inl one)) (inr (inl other)) = let here = one.2 in let there = other.2 in cc (here, there)
-  stops_once a b (inr (inl one)) (inr (inr other)) = absurd (entries_not_both a one.2 other.1.1)
-  stops_once a b (inr (inr one)) (inl other) = absurd (taken_goes_on (files f.program) one.0 b one.1.0 other)
-  stops_once a b (inr (inr one)) (inr (inl other)) = absurd (entries_not_both b other.2 one.1.1)
-  stops_once a b (inr (inr one)) (inr (inr other)) = let here = one.2 in let there = other.2 in cc (here, there)
+    pub stops_once : (a b : Stop) → StopsBefore f files a → StopsBefore f files b → a ≡ b
+    stops_once a b (inl one) (inl other) = stops_alike (files f.program) once a b one other
+    stops_once a b (inl one) (inr (inl other)) = absurd (taken_goes_on (files f.program) once other.0 a other.1 one)
+    stops_once a b (inl one) (inr (inr other)) = absurd (taken_goes_on (files f.program) once other.0 a other.1.0 one)
+    stops_once a b (inr (inl one)) (inl other) = absurd (taken_goes_on (files f.program) once one.0 b one.1 other)
+    stops_once a b (inr (inl one)) (inr (inl other)) = let here = one.2 in let there = other.2 in cc (here, there)
+    stops_once a b (inr (inl one)) (inr (inr other)) = absurd (entries_not_both a one.2 other.1.1)
+    stops_once a b (inr (inr one)) (inl other) = absurd (taken_goes_on (files f.program) once one.0 b one.1.0 other)
+    stops_once a b (inr (inr one)) (inr (inl other)) = absurd (entries_not_both b other.2 one.1.1)
+    stops_once a b (inr (inr one)) (inr (inr other)) = let here = one.2 in let there = other.2 in cc (here, there)
 
-  comes_once : (a b : Option Stop) → Comes a → Comes b → a ≡ b
-  comes_once a b (inl one) (inl other) = one.2 ∙ ap (λ (s : Stop). Some s) (stops_once one.0 other.0 one.1 other.1) ∙ sym other.2
-  comes_once a b (inl one) (inr other) = absurd (begins_not other.0 other.1 one.0 other.2 one.1)
-  comes_once a b (inr one) (inl other) = absurd (begins_not one.0 one.1 other.0 one.2 other.1)
-  comes_once a b (inr one) (inr other) = one.3 ∙ sym other.3
+    comes_once : (a b : Option Stop) → Comes a → Comes b → a ≡ b
+    comes_once a b (inl one) (inl other) = one.2 ∙ ap (λ (s : Stop). Some s) (stops_once one.0 other.0 one.1 other.1) ∙ sym other.2
+    comes_once a b (inl one) (inr other) = absurd (begins_not other.0 other.1 one.0 other.2 one.1)
+    comes_once a b (inr one) (inl other) = absurd (begins_not one.0 one.1 other.0 one.2 other.1)
+    comes_once a b (inr one) (inr other) = one.3 ∙ sym other.3
 
   -- the cause of each status that has one
   abbrev CauseOf : ℕ → Type 0
   CauseOf code =
       MatchBool (code == 0) (Accepts f files) (MatchBool (code == 3) (RefusesProgram f files) (MatchBool (code == 4) (RefusesEntries f files)
-      (MatchBool (code == 5) (RefusesPorts f files ⊎ RefusesCapture f files) (MatchBool (code == 6) (OverPorts f files ⊎ OverCapture f files) (Unit {0})))))
+      (MatchBool (code == 5) (RefusesPorts f files ⊎ RefusesCapture f files) (MatchBool (code == 6) (OverText f.program files ⊎ OverPorts f files ⊎ OverCapture f files) (Unit {0})))))
 
   program_cause : (stop : Stop) → ProgramIs (files f.program) (Err stop) → CauseOf (stop_code stop)
-  program_cause stop is = by_file (files f.program) refl
+  program_cause stop is = by_stop (file_stops (files f.program) stop is)
     where
-      by_file : (o : Option (List ℕ)) → files f.program ≡ o → CauseOf (stop_code stop)
-      by_file None here = subst (λ (s : Stop). CauseOf (stop_code s)) (sym (program_stops (files f.program) stop is ∙ ap program_stop here)) tt
-      by_file (Some text) here =
-          let same : stop ≡ Program = program_stops (files f.program) stop is ∙ ap program_stop here in
-          subst (λ (s : Stop). CauseOf (stop_code s)) (sym same) (subst (λ (s : Stop). ProgramIs (files f.program) (Err s)) same is)
+      for_stop : (other : Stop) → stop ≡ other → (ProgramIs (files f.program) (Err other) → CauseOf (stop_code other)) → CauseOf (stop_code stop)
+      for_stop other same so =
+          subst (λ (s : Stop). CauseOf (stop_code s)) (sym same) (so (subst (λ (s : Stop). ProgramIs (files f.program) (Err s)) same is))
+
+      by_stop : (stop ≡ Fault) ⊎ OfProgram stop → CauseOf (stop_code stop)
+      by_stop (inl same) = for_stop Fault same (λ so. tt)
+      by_stop (inr (inl same)) = for_stop Program same (λ so. inr so)
+      by_stop (inr (inr (inl (fault, same)))) = for_stop (Judged fault) same (λ so. inl (fault, so))
+      by_stop (inr (inr (inr same))) = for_stop (Limit TheProgram) same (λ so. inl so)
 
   entries_cause : (p : OneTable14) → ProgramIs (files f.program) (Ok p) → (stop : Stop) → EntriesEnd (Some stop) → entries_stop (files f.entries) ≡ Some stop → CauseOf (stop_code stop)
   entries_cause p taken Fault end is = tt
@@ -175,7 +160,7 @@ module _ (f : CarryFiles) (files : List ℕ → Option (List ℕ)) where
   ports_cause p has Entries end is = absurd end
   ports_cause p has (Refused fault) end is = inl (p, has, (fault, is))
   ports_cause p has (Limit TheProgram) end is = absurd end
-  ports_cause p has (Limit Ports) end is = inl (p, has, is)
+  ports_cause p has (Limit Ports) end is = inr (inl (p, has, is))
   ports_cause p has (Limit Capture) end is = absurd end
   ports_cause p has Memory end is = absurd end
 
@@ -194,7 +179,7 @@ module _ (f : CarryFiles) (files : List ℕ → Option (List ℕ)) where
   capture_cause p ports begins (Some (Refused fault)) is = inr (p, ports, begins, (fault, is))
   capture_cause p ports begins (Some (Limit TheProgram)) is = absurd is
   capture_cause p ports begins (Some (Limit Ports)) is = absurd is
-  capture_cause p ports begins (Some (Limit Capture)) is = inr (p, ports, begins, is)
+  capture_cause p ports begins (Some (Limit Capture)) is = inr (inr (p, ports, begins, is))
   capture_cause p ports begins (Some Memory) is = absurd is
 
   cause_of : (end : Option Stop) → Comes end → CauseOf (code_at end)
@@ -205,7 +190,8 @@ module _ (f : CarryFiles) (files : List ℕ → Option (List ℕ)) where
   EndsSo code = Ends Comes CauseOf code
 
   pub program_ends : RefusesProgram f files → EndsSo 3
-  program_ends is = (Some Program, inl (Program, inl is, refl), refl)
+  program_ends (inl (fault, is)) = (Some (Judged fault), inl (Judged fault, inl is, refl), refl)
+  program_ends (inr is) = (Some Program, inl (Program, inl is, refl), refl)
 
   pub entries_end : RefusesEntries f files → EndsSo 4
   entries_end is = (Some Entries, inl (Entries, inr (inl is), refl), refl)
@@ -214,9 +200,10 @@ module _ (f : CarryFiles) (files : List ℕ → Option (List ℕ)) where
   refused_ends (inl is) = (Some (Refused is.2.0), inl (Refused is.2.0, inr (inr (is.0, is.1, is.2.1)), refl), refl)
   refused_ends (inr is) = (Some (Refused is.3.0), inr (is.0, is.1, is.2, sym (capture_taken (files f.capture) (Some is.3.0) is.3.1)), refl)
 
-  pub over_ends : OverPorts f files ⊎ OverCapture f files → EndsSo 6
-  over_ends (inl is) = (Some (Limit Ports), inl (Limit Ports, inr (inr is), refl), refl)
-  over_ends (inr is) = (Some (Limit Capture), inr (is.0, is.1, is.2, sym (capture_over (files f.capture) is.3)), refl)
+  pub over_ends : OverText f.program files ⊎ OverPorts f files ⊎ OverCapture f files → EndsSo 6
+  over_ends (inl is) = (Some (Limit TheProgram), inl (Limit TheProgram, inl is, refl), refl)
+  over_ends (inr (inl is)) = (Some (Limit Ports), inl (Limit Ports, inr (inr is), refl), refl)
+  over_ends (inr (inr is)) = (Some (Limit Capture), inr (is.0, is.1, is.2, sym (capture_over (files f.capture) is.3)), refl)
 
   pub accepted_ends : Accepts f files → EndsSo 0
   accepted_ends is = (None, inr (is.0, is.1, is.2, sym (capture_taken (files f.capture) None is.3)), refl)
@@ -227,15 +214,25 @@ module _ (f : CarryFiles) (files : List ℕ → Option (List ℕ)) where
   pub due_ends : (status : ℕ) (d : Due) → CarryDue f files d → status ≡ code_of d.end → EndsSo status
   due_ends status d due is = (stop_in d.end, due_comes d due, is ∙ code_stop d.end)
 
-  pub comes : (status code : ℕ) → (code ≡ 1 → ⊥) → (code ≡ 7 → ⊥) → KnownSo status → (CauseOf code → EndsSo code) → ComesWhere status code (CauseOf code)
-  comes = comes_where Comes CauseOf comes_once cause_of
+  pub comes : ComesOnce (files f.program) → (status code : ℕ) → (code ≡ 1 → ⊥) → (code ≡ 7 → ⊥) → KnownSo status → (CauseOf code → EndsSo code) → ComesWhere status code (CauseOf code)
+  comes once = comes_where Comes CauseOf (comes_once once) cause_of
 
   -- each status comes exactly where its cause holds
-  pub statuses_are : (status : ℕ) → KnownSo status → AllStatuses f files status
-  statuses_are status known = record {
-    accepted = comes status 0 (λ e. omega arith) (λ e. omega arith) known accepted_ends;
-    program = comes status 3 (λ e. omega arith) (λ e. omega arith) known program_ends;
-    entries = comes status 4 (λ e. omega arith) (λ e. omega arith) known entries_end;
-    refused = comes status 5 (λ e. omega arith) (λ e. omega arith) known refused_ends;
-    limit = comes status 6 (λ e. omega arith) (λ e. omega arith) known over_ends;
+  pub statuses_are : ComesOnce (files f.program) → (status : ℕ) → KnownSo status → AllStatuses f files status
+  statuses_are once status known = record {
+    accepted = comes once status 0 (λ e. omega arith) (λ e. omega arith) known accepted_ends;
+    program = comes once status 3 (λ e. omega arith) (λ e. omega arith) known program_ends;
+    entries = comes once status 4 (λ e. omega arith) (λ e. omega arith) known entries_end;
+    refused = comes once status 5 (λ e. omega arith) (λ e. omega arith) known refused_ends;
+    limit = comes once status 6 (λ e. omega arith) (λ e. omega arith) known over_ends;
+  }
+
+  -- 1 and 7 may come in the place of each
+  pub statuses_loose : (status : ℕ) → (status ≡ 1) ⊎ (status ≡ 7) → AllStatuses f files status
+  statuses_loose status loose = record {
+    accepted = comes_loose status 0 _ loose (λ e. omega arith) (λ e. omega arith);
+    program = comes_loose status 3 _ loose (λ e. omega arith) (λ e. omega arith);
+    entries = comes_loose status 4 _ loose (λ e. omega arith) (λ e. omega arith);
+    refused = comes_loose status 5 _ loose (λ e. omega arith) (λ e. omega arith);
+    limit = comes_loose status 6 _ loose (λ e. omega arith) (λ e. omega arith);
   }

@@ -5,12 +5,12 @@ use Rattle.std.specs.List.{list_all, list_any}
 use Rattle.std.specs.Str.{bytes_eq}
 use Rattle.state_store.specs.Ports.{drop_port}
 use Rattle.p416_ast.specs.declared.decl.BitField.{BitField}
-use Rattle.p4x_cmd.specs.declared.one_table.Field.{Field}
-use Rattle.p4x_cmd.specs.declared.one_table.OneTable14.{OneTable14}
-use Rattle.p4x_cmd.specs.Forms14.{is_among, is_width, is_id, repeats, are_fields, is_free_name, is_one_table}
+use Rattle.p414_one_table.specs.declared.program.Field.{Field}
+use Rattle.p414_one_table.specs.declared.program.OneTable14.{OneTable14}
+use Rattle.p414_one_table.specs.Programs.{is_width, is_id, repeats, are_fields, is_one_table}
 use Rattle.p4x_cmd.specs.Forms16.{bit_field, program16}
 use Rattle.p4x_cmd.specs.internal.Lowering.{lowered_field, lowered}
-use Rattle.p4x_cmd.specs.Kinds16.{all_different}
+use Rattle.p4x_cmd.specs.Kinds16.{is_among, all_different}
 use Rattle.p4x_cmd.specs.Typed16.{is_header_type, is_well_typed}
 
 abbrev written : List Field → List BitField
@@ -84,11 +84,10 @@ some_is (f ∷ fields) few widths =
     grind (arith, nat_tests)
 
 -- the parts of the form that the law needs
-form_parts : (a b c d e f : Bool) → (a && b && c && d && e && f) ≡ true → (b ≡ true) × (e ≡ true)
-form_parts a b c d e f is =
-    let five : (a && b && c && d && e) ≡ true = first_of_two _ f is in
-    let two : (a && b) ≡ true = first_of_two _ c (first_of_two _ d (first_of_two _ e five)) in
-    (second_of_two a b two, second_of_two (a && b && c && d) e five)
+form_parts : (a b c d : Bool) → (a && b && c && d) ≡ true → (a ≡ true) × (c ≡ true)
+form_parts a b c d is =
+    let three : (a && b && c) ≡ true = first_of_two _ d is in
+    (first_of_two a b (first_of_two _ c three), second_of_two (a && b) c three)
 
 field_parts : (a b c d e : Bool) → (a && b && c && d && e) ≡ true → (a ≡ true) × (c ≡ true) × (d ≡ true) × (e ≡ true)
 field_parts a b c d e is =
@@ -104,5 +103,5 @@ fields_are fields is =
 -- the translation of a program of the form is well-typed
 pub well_typed_is : (p : OneTable14) → is_one_table p ≡ true → is_well_typed (program16 (lowered p)) ≡ true
 well_typed_is p is =
-    let parts = form_parts (is_free_name p.header_type) (are_fields p.fields) (is_free_name p.instance) (is_free_name p.action) (nat_le p.port drop_port) (is_free_name p.table) is in
+    let parts = form_parts (are_fields p.fields) (is_id p.action) (nat_le p.port drop_port) (is_id p.table) is in
     closed_is p (header_is p.fields (fields_are p.fields parts.0)) parts.1

@@ -1,11 +1,12 @@
 -- What holds of the text of a program that was made from another one.
 use Rattle.std.proofs.Common.{◌≡◌, true, ℕ, List, Option, Some, None, Ok, refl, sym, ◌∙◌, ap, subst}
-use Rattle.p4x_cmd.specs.declared.one_table.OneTable14.{OneTable14}
+use Rattle.p414_one_table.specs.declared.program.OneTable14.{OneTable14}
 use Rattle.p4x_cmd.specs.declared.one_table.OneTable16.{OneTable16}
 use Rattle.p4x_cmd.specs.Carries.{Carries}
 use Rattle.p4x_cmd.specs.Carry.{ProgramIs, Written}
 use Rattle.p4x_cmd.specs.FirstCut.{is_first_cut}
-use Rattle.p4x_cmd.specs.Forms14.{is_one_table}
+use Rattle.p414_one_table.specs.Programs.{is_one_table}
+use Rattle.p414_one_table.proofs.Forms.{form_is}
 use Rattle.p4x_cmd.specs.Forms16.{Reads16, program16}
 use Rattle.p4x_cmd.specs.internal.Lowering.{lowered}
 use Rattle.p4x_cmd.specs.Typed16.{is_well_typed}
@@ -19,8 +20,7 @@ unfolding program16
 first_cut_is q = refl
 
 taken_form : (program : Option (List ℕ)) (p : OneTable14) → ProgramIs program (Ok p) → is_one_table p ≡ true
-taken_form None p is = absurd is
-taken_form (Some text) p is = is.reads.form
+taken_form program p is = form_is is.0 p is.2
 
 pub written_is : (program : Option (List ℕ)) (p : OneTable14) (q : OneTable16) (text : List ℕ) → ProgramIs program (Ok p) → q ≡ lowered p → Reads16 text (program16 q) → Written p text (program16 q)
 written_is program p q text is same reads =

@@ -10,7 +10,7 @@ use Rattle.file_work.specs.declared.stop.Stop.TheVariants.{Usage, Program, Judge
 use Rattle.file_work.specs.Clauses.{ComesWhere, ComesFirst, EndsAsDue, OnlyThese, Fronts, AsDue}
 use Rattle.file_work.specs.Works.{Held, Due, Works, AllKept, Tells}
 use Rattle.p414_ast.specs.declared.syntax.Syntax14.{Syntax14}
-use Rattle.p414_reader.specs.Reading.{Reads14 as Reads}
+use Rattle.p414_reader.specs.Reading.{Reads14}
 use Rattle.program_commands.specs.Programs.{IsProgramStop, ReadsOnce}
 use Rattle.program_commands.specs.Programs as programs
 use Rattle.program_commands.specs.Lines.{PrintsAccepted, PrintsOrder}
@@ -21,12 +21,12 @@ use Rattle.pcap_io.specs.Captures.{IsCapture, reading_of, arrivals_of, refused, 
 use Rattle.pcap_io.specs.Sent.{sent_bytes_of}
 use Rattle.match_core.specs.Signatures.{IsSignature}
 use Rattle.match_core.specs.Fits.{Fits}
-use Rattle.p4x_cmd.specs.declared.one_table.OneTable14.{OneTable14}
+use Rattle.p414_one_table.specs.declared.program.OneTable14.{OneTable14}
+use Rattle.p414_one_table.specs.Form.{one_table_of}
 use Rattle.p4x_cmd.specs.Carries.{SameRuns}
 use Rattle.run_stream.specs.Captured.{capture_limit}
-use Rattle.p4x_cmd.specs.Carry.{CarryDue, ProgramIs, HasProgram, Begins, StopsBefore, StopsAtProgram, StopsAtEntries, TakesPorts, InOrder, KeepsInOrder, Written, entries_stop, ports_end, program_read, entries_read, ports_read, capture_reports}
+use Rattle.p4x_cmd.specs.Carry.{CarryDue, ProgramIs, HasProgram, Begins, StopsBefore, StopsAtProgram, StopsAtEntries, TakesProgram, TakesPorts, InOrder, KeepsInOrder, Written, entries_stop, ports_end, program_read, entries_read, ports_read, capture_reports}
 use Rattle.p4x_cmd.specs.Entries.{no_entries}
-use Rattle.p4x_cmd.specs.Forms14.{Reads14}
 use Rattle.p4x_cmd.specs.Meaning16.{signature16}
 use Rattle.run_stream.specs.Runs.{Ran}
 use Rattle.run_stream.specs.Reports.{report_of}
@@ -49,18 +49,21 @@ AreTold (name ∷ names) desk = (desk.told name ≡ None → ⊥) × AreTold nam
 
 -- The clause `carried`.
 
--- The program was carried. It is the one program that its file reads as. The text that stands in its file reads as one
--- well-typed program of P4_16 which does with every packet, on all entries and under every bound, what the program of
+-- The program was carried. It is of the one-table form, breaks no rule, and is the one program that its file reads as. The
+-- text that stands in its file reads as one well-typed program of P4_16 which does with every packet, on all entries and under every bound, what the program of
 -- P4_14 does. The capture is a whole one, with these packets on the ports that were named. The sent file, the report and
 -- the line that was printed are those of the written program's run over them, with entries that fit its signature, which
 -- is well formed; and this run is the one that the program of P4_14 makes of them.
 pub record Carried (f : CarryFiles) (files : Held) (new : DeskView) (before after : SinkView) : Type 0 where
+  pub syntax : Syntax14
   pub source : OneTable14
   pub ports : List ℕ
   pub text : List ℕ
   pub program : Syntax16
   pub begins : Begins f files source ports
-  pub only : (read : List ℕ) (other : OneTable14) → files f.program ≡ Some read → Reads14 read other → other ≡ source
+  pub taken : programs.ProgramIs (files f.program) (Ok syntax)
+  pub only : (read : List ℕ) (other : Syntax14) → files f.program ≡ Some read → Reads14 read other → other ≡ syntax
+  pub form : one_table_of syntax ≡ Some source
   pub written : Written source text program
   pub octets : List ℕ
   pub link : ℕ
@@ -89,7 +92,7 @@ pub record Printed (Prints : Syntax14 → List ℕ → Type 0) (program : List �
   pub source : Syntax14
   pub line : List ℕ
   pub taken : programs.ProgramIs (files program) (Ok source)
-  pub only : (read : List ℕ) (other : Syntax14) → files program ≡ Some read → Reads read other → other ≡ source
+  pub only : (read : List ℕ) (other : Syntax14) → files program ≡ Some read → Reads14 read other → other ≡ source
   pub prints : Prints source line
   pub line_is : after.printed ≡ said before.printed line
 
@@ -101,9 +104,17 @@ Done (order program) files new before after = Printed PrintsOrder program files 
 
 -- The clauses `statuses` and `complete`: the cause of each status.
 
--- the program isn't taken
+-- the program is refused: it breaks an L rule, S1 or a C rule
+abbrev pub RefusesText : List ℕ → Held → Type 0
+RefusesText program files = (fault : Refusal) × programs.ProgramIs (files program) (Err (Judged fault))
+
+-- its file is over its limit
+abbrev pub OverText : List ℕ → Held → Type 0
+OverText program files = programs.ProgramIs (files program) (Err (Limit limited.Program))
+
+-- the program is refused, or it isn't of the one-table form
 abbrev pub RefusesProgram : CarryFiles → Held → Type 0
-RefusesProgram f files = ProgramIs (files f.program) (Err Program)
+RefusesProgram f files = RefusesText f.program files ⊎ ProgramIs (files f.program) (Err Program)
 
 -- the program is taken, and the entries aren't
 abbrev pub RefusesEntries : CarryFiles → Held → Type 0
@@ -143,34 +154,33 @@ OverCapture f files = (p : OneTable14) × (ports : List ℕ) × Begins f files p
 abbrev pub Accepts : CarryFiles → Held → Type 0
 Accepts f files = (p : OneTable14) × (ports : List ℕ) × Begins f files p ports × CaptureIs (files f.capture) None
 
--- The statuses that come of the ports, whatever the capture holds. Where 5 or 6 doesn't come of them, they are taken,
--- and it comes of the capture.
+-- The statuses that come of the program, whatever the other files hold. Where 6 doesn't come of it, it is taken, and 6
+-- comes of them.
+pub record FirstStatuses (f : CarryFiles) (files : Held) (status : ℕ) : Type 0 where
+  pub refused : ComesWhere status 3 (RefusesProgram f files)
+  pub limit : ComesFirst status 6 (OverText f.program files) (TakesProgram f files)
+
+-- The statuses that come of the ports, or 6 of the program, whatever the capture holds. Where 5 or 6 doesn't come of
+-- them, they are taken, and it comes of the capture.
 pub record PortStatuses (f : CarryFiles) (files : Held) (status : ℕ) : Type 0 where
   pub refused : ComesFirst status 5 (RefusesPorts f files) (TakesPorts f files)
-  pub limit : ComesFirst status 6 (OverPorts f files) (TakesPorts f files)
+  pub limit : ComesFirst status 6 (OverText f.program files ⊎ OverPorts f files) (TakesPorts f files)
 
 -- The statuses of `carry`, each with its cause: the first in the order of the work. A cause asks of the desk only that
 -- it tells the files that are read until it is found.
 pub record CarryStatuses (f : CarryFiles) (old : DeskView) (files : Held) (status : ℕ) : Type 0 where
-  pub program : Tells (program_read f) old files → ComesWhere status 3 (RefusesProgram f files)
+  pub program : Tells (program_read f) old files → FirstStatuses f files status
   pub entries : Tells (entries_read f) old files → ComesWhere status 4 (RefusesEntries f files)
   pub ports : Tells (ports_read f) old files → PortStatuses f files status
   pub refused : Tells (carry_inputs f) old files
       → ComesWhere status 5 (RefusesPorts f files ⊎ RefusesCapture f files)
-  pub limit : Tells (carry_inputs f) old files → ComesWhere status 6 (OverPorts f files ⊎ OverCapture f files)
+  pub limit : Tells (carry_inputs f) old files
+      → ComesWhere status 6 (OverText f.program files ⊎ OverPorts f files ⊎ OverCapture f files)
   pub accepted : Tells (carry_inputs f) old files → ComesWhere status 0 (Accepts f files)
 
 -- the program's file is taken
 abbrev pub TakesText : List ℕ → Held → Type 0
 TakesText program files = (s : Syntax14) × programs.ProgramIs (files program) (Ok s)
-
--- it is refused: it breaks an L rule, S1 or a C rule
-abbrev pub RefusesText : List ℕ → Held → Type 0
-RefusesText program files = (fault : Refusal) × programs.ProgramIs (files program) (Err (Judged fault))
-
--- it is over its limit
-abbrev pub OverText : List ℕ → Held → Type 0
-OverText program files = programs.ProgramIs (files program) (Err (Limit limited.Program))
 
 -- the statuses that a command which reads a program and writes no file can have
 abbrev pub IsProgramStatus : ℕ → Type 0
@@ -308,11 +318,17 @@ pub record WorksOnProgram (Prints : Syntax14 → List ℕ → Type 0) (program :
   pub once : OnOk end ((text : List ℕ) → old.told program ≡ Some (Some text) → ReadsOnce text)
   pub only : IfErr end IsProgramStop
 
+-- The work of `carry`.
+pub record CarryWorks (f : CarryFiles) (old new : DeskView) (end : Result (List ℕ) Stop) : Type 0 where
+  pub works : Works (carry_inputs f) (carry_outputs f) (CarryDue f) old new end
+  pub packets : PacketsFit f old end
+  pub order : InOrder f old end
+  pub kept : KeepsInOrder f old new end
+  pub once : OnOk end ((text : List ℕ) → old.told f.program ≡ Some (Some text) → ReadsOnce text)
+
 -- the work of any words: that of a command, or words that are no form
 abbrev pub WorksFor : Option Command → DeskView → DeskView → Result (List ℕ) Stop → Type 0
 WorksFor None old new end = (end ≡ Err Usage) × (new ≡ old)
-WorksFor (Some (carry f)) old new end =
-    Works (carry_inputs f) (carry_outputs f) (CarryDue f) old new end × PacketsFit f old end
-    × EndsInOrder (carry f) old end × KeepsInOrder f old new end
+WorksFor (Some (carry f)) old new end = CarryWorks f old new end
 WorksFor (Some (check program)) old new end = WorksOnProgram PrintsAccepted program old new end
 WorksFor (Some (order program)) old new end = WorksOnProgram PrintsOrder program old new end

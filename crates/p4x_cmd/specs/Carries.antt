@@ -5,7 +5,7 @@ use Rattle.match_core.specs.declared.entries.Entries.{Entries}
 use Rattle.match_core.specs.Fits.{Fits}
 use Rattle.fabric.specs.Numbers.{IsArrival, IsBound}
 use Rattle.fabric.specs.declared.packets.Arrival.{Arrival}
-use Rattle.p4x_cmd.specs.declared.one_table.OneTable14.{OneTable14}
+use Rattle.p414_one_table.specs.declared.program.OneTable14.{OneTable14}
 use Rattle.p4x_cmd.specs.Meaning14.{Run14, signature14}
 use Rattle.p4x_cmd.specs.Meaning16.{Run16, signature16}
 use Rattle.run_stream.specs.Runs.{Ran}

@@ -1,48 +1,41 @@
 -- The command `carry`: what is due for what its input files hold (this project's own).
-use Rattle.std.specs.Prelude.{◌≡◌, ◌⊎◌, ◌<◌, ◌≤◌, ℕ, nat_lt, if◌then◌else◌, true, List, [], ◌∷◌, length, Option, Some, None, option_to_list, Result, Ok, Err}
+use Rattle.std.specs.Prelude.{◌≡◌, ◌⊎◌, ℕ, nat_lt, if◌then◌else◌, true, List, [], ◌∷◌, length, Option, Some, None, option_to_list, Result, Ok, Err}
 use Rattle.p416_ast.specs.declared.syntax.Syntax16.{Syntax16}
 use Rattle.p4x_fault.specs.declared.Fault.{Fault as Refusal}
 use Rattle.p4x_io.specs.Desk.{DeskView}
 use Rattle.pcap_io.specs.Ports.{ports_of}
-use Rattle.p4x_cmd.specs.declared.one_table.OneTable14.{OneTable14}
+use Rattle.p414_ast.specs.declared.syntax.Syntax14.{Syntax14}
+use Rattle.p414_one_table.specs.declared.program.OneTable14.{OneTable14}
+use Rattle.p414_one_table.specs.Form.{one_table_of}
+use Rattle.program_commands.specs.Programs as programs
 use Rattle.file_work.specs.declared.stop.Limited.TheVariants as limited
 use Rattle.file_work.specs.declared.stop.Stop.{Stop}
 use Rattle.file_work.specs.declared.stop.Stop.TheVariants.{Fault, Program, Judged, Entries, Refused, Limit}
 use Rattle.p4x_cmd.specs.Carries.{Carries}
 use Rattle.p4x_cmd.specs.Typed16.{is_well_typed}
 use Rattle.p4x_cmd.specs.FirstCut.{is_first_cut}
-use Rattle.p4x_cmd.specs.Forms14.{Reads14}
 use Rattle.p4x_cmd.specs.Forms16.{Reads16}
-use Rattle.file_work.specs.Phases.{StopsOrGoesOn}
+use Rattle.file_work.specs.Phases.{Loosely, StopsOrGoesOn}
 use Rattle.file_work.specs.Works.{Held, Due, Tells, AllKept}
 use Rattle.run_stream.specs.Captured.{Reports, reports_over}
 use Rattle.p4x_cmd.specs.Reports.{lined}
 use Rattle.p4x_cmd.specs.Runs.{this_run}
 use Rattle.command_words.specs.Words.{CarryFiles, carry_outputs}
 
--- the greatest length in octets of a program
-abbrev pub program_limit : ℕ
-program_limit = 1048576
-
--- that of a ports file
+-- the greatest length in octets of a ports file
 abbrev pub ports_limit : ℕ
 ports_limit = 4194304
 
--- the text is taken as a program
-pub record IsTaken (text : List ℕ) (p : OneTable14) : Type 0 where
-  pub fits : length text ≤ program_limit
-  pub reads : Reads14 text p
-
--- the text is no program that is taken: it is over its limit, or reads as no program of the one-table form
-abbrev pub IsRefused : List ℕ → Type 0
-IsRefused text = (program_limit < length text) ⊎ ((p : OneTable14) → Reads14 text p → ⊥)
-
--- what the file of the program comes to: a program, or why there is none
+-- What the file of the program comes to: a program of the one-table form, which breaks no rule; or why there is none.
+-- A program that breaks no rule and isn't of the form is refused too.
 abbrev pub ProgramIs : Option (List ℕ) → Result OneTable14 Stop → Type 0
-ProgramIs None (Err Fault) = Unit {0}
-ProgramIs (Some text) (Ok p) = IsTaken text p
-ProgramIs (Some text) (Err Program) = IsRefused text
-ProgramIs _ _ = ⊥
+ProgramIs file (Ok p) = (s : Syntax14) × programs.ProgramIs file (Ok s) × (one_table_of s ≡ Some p)
+ProgramIs file (Err Program) = (s : Syntax14) × programs.ProgramIs file (Ok s) × (one_table_of s ≡ None)
+ProgramIs file (Err stop) = programs.ProgramIs file (Err stop)
+
+-- it comes to one thing only
+abbrev pub ComesOnce : Option (List ℕ) → Type 0
+ComesOnce file = (a b : Result OneTable14 Stop) → ProgramIs file a → ProgramIs file b → a ≡ b
 
 -- what stops the command at the entries file: one with at least one octet isn't taken
 abbrev pub entries_stop : Option (List ℕ) → Option Stop
@@ -113,7 +106,8 @@ StopsAtEntries f files stop =
 
 -- what stops the command at these files and nowhere behind them
 abbrev pub OfProgram : Stop → Type 0
-OfProgram stop = (stop ≡ Program) ⊎ ((fault : Refusal) × (stop ≡ Judged fault))
+OfProgram stop =
+    (stop ≡ Program) ⊎ ((fault : Refusal) × (stop ≡ Judged fault)) ⊎ (stop ≡ Limit limited.Program)
 
 abbrev pub OfEntries : Stop → Type 0
 OfEntries stop = OfProgram stop ⊎ (stop ≡ Entries)
@@ -121,9 +115,15 @@ OfEntries stop = OfProgram stop ⊎ (stop ≡ Entries)
 abbrev pub OfPorts : Stop → Type 0
 OfPorts stop = OfEntries stop ⊎ (stop ≡ Limit limited.Ports)
 
+-- but for a fault or want of memory this holds
+abbrev pub Unless : {A : Type 0} → Type 0 → Result A Stop → Type 0
+Unless P (Ok done) = P
+Unless P (Err stop) = Loosely stop P
+
 -- How the work ends by the files that it reads first, whatever the desk tells of the others: it stops at them, or they
--- are taken and it goes on.
+-- are taken and it goes on. The program's file comes to one thing only.
 pub record InOrder {A : Type 0} (f : CarryFiles) (old : DeskView) (end : Result A Stop) : Type 0 where
+  pub once : (files : Held) → Tells (program_read f) old files → Unless (ComesOnce (files f.program)) end
   pub program : (files : Held) → Tells (program_read f) old files
       → StopsOrGoesOn (StopsAtProgram f files) (TakesProgram f files) OfProgram end
   pub entries : (files : Held) → Tells (entries_read f) old files

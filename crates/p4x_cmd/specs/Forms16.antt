@@ -22,7 +22,7 @@ use Rattle.p416_ast.specs.Tree.{Exp16, literal, name, error, member, binary, cal
 use Rattle.p416_ast.specs.Blocks.{actions, default_action, LocalTree, action_local, table_local}
 use Rattle.p416_ast.specs.Words.{is_word, is_id16}
 use Rattle.p4x_cmd.specs.Division.{Token, run, number, mark, tokens_of}
-use Rattle.p4x_cmd.specs.declared.one_table.Field.{Field}
+use Rattle.p414_one_table.specs.declared.program.Field.{Field}
 use Rattle.p4x_cmd.specs.declared.one_table.OneTable16.{OneTable16}
 
 -- The names and numbers are such as the grammar allows at their places: a field's name is an ID, a string in `@name`

@@ -3,7 +3,7 @@
 -- convention: call by copy in/copy out", "Name resolution", "P4 data types" and "Expressions"; core.p4; v1model.p4. The
 -- calls are those of a table, of an action, of a header's methods, of `extract`, `emit` and `mark_to_drop`.
 use Rattle.std.specs.Prelude.{ℕ, ◌-◌, ◌^◌, Bool, true, false, not, ◌==◌, ◌&&◌, ◌||◌, if◌then◌else◌, nat_le, List, [], ◌∷◌, ◌++◌, map, find, codes, Option, Some, None}
-use Rattle.std.specs.List.{list_all}
+use Rattle.std.specs.List.{list_all, list_any}
 use Rattle.std.specs.Str.{bytes_eq}
 use Rattle.p416_ast.specs.Tree.{Exp16, literal, name, error, member, binary, call, no_arguments, argument}
 use Rattle.p416_ast.specs.Blocks.{ActionTree, LocalTree, action_local, table_local}
@@ -16,7 +16,7 @@ use Rattle.p416_ast.specs.declared.decl.Param.{Param}
 use Rattle.p416_ast.specs.declared.decl.Type16.{Type16}
 use Rattle.p416_ast.specs.declared.decl.Type16.TheVariants.{Bit, Named}
 use Rattle.p416_ast.specs.declared.node.Operator.TheVariants.{Equal}
-use Rattle.p4x_cmd.specs.Forms14.{is_among, is_width}
+use Rattle.p414_one_table.specs.Programs.{is_width}
 use Rattle.p4x_cmd.specs.Meaning16.{header_of, struct_of}
 
 -- what a value is: bits of a width, a number without a width, a truth value, an error, a header or a struct by the name
@@ -54,6 +54,10 @@ known sort called = record { called = called; sort = sort }
 abbrev pub sort_in : List Known → List ℕ → Sort
 sort_in [] text = unusable
 sort_in (k ∷ names) text = if bytes_eq k.called text then k.sort else sort_in names text
+
+-- the text is one of the texts
+abbrev pub is_among : List ℕ → List (List ℕ) → Bool
+is_among text texts = list_any (λ other. bytes_eq text other) texts
 
 -- no name stands twice
 abbrev pub all_different : List (List ℕ) → Bool

@@ -1,7 +1,7 @@
 -- What the clauses of `p4x` say. Read in this order.
 --
--- What a call comes to (`command_words` says which words are which command, and `file_work` what a call says of any
--- command):
+-- What a call comes to (`command_words` says which words are which command, `file_work` what a call says of any command,
+-- `program_commands` what the file of a program comes to, and `p414_one_table` which programs are of the one-table form):
 --   Calls      what each clause says: `Carried`, the cause of each status, the line, and what stands in the files
 --   Carry      what is due for the files that `carry` reads: what stops it, and the written text with this run's files
 --   Runs       the run over the capture
@@ -15,7 +15,6 @@
 --   FirstCut   the programs on which that is the whole meaning
 --   Entries    what stands in the tables
 --   Headers    the bits of a header's fields
---   Forms14    which text reads as which P4_14 program
 --   Forms16    which text reads as which P4_16 program
 --   Division   the division of a text into tokens
 --   Typed16    which P4_16 programs are well-typed
@@ -28,7 +27,6 @@ pub mod Carry
 pub mod Division
 pub mod Entries
 pub mod FirstCut
-pub mod Forms14
 pub mod Forms16
 pub mod Headers
 pub mod internal

@@ -21,9 +21,9 @@ use Rattle.p416_ast.specs.declared.parser.Transition.{Transition}
 use Rattle.p416_ast.specs.declared.parser.Transition.TheVariants.{Go}
 use Rattle.p416_ast.specs.declared.control.ActionName.{ActionName}
 use Rattle.p416_ast.specs.declared.control.ActionName.TheVariants.{Declared, NoAction}
-use Rattle.p4x_cmd.specs.Forms14.{is_among, is_width}
+use Rattle.p414_one_table.specs.Programs.{is_width}
 use Rattle.p4x_cmd.specs.Meaning16.{plane_name, action_named, actions_of, struct_of, parser_of, control_of, parameter_type, main_at, tables_of}
-use Rattle.p4x_cmd.specs.Kinds16.{Kind, Sort, Known, known, sort_in, all_different, top_names, kind_of_type, is_directed, parameter_name, local_name, Context, is_bits, is_header, is_packet, is_data, takes, fields_of, kind_of, can_write, arguments_of, are_given, is_call, standard_type, truth, struct, an_action, unusable}
+use Rattle.p4x_cmd.specs.Kinds16.{is_among, Kind, Sort, Known, known, sort_in, all_different, top_names, kind_of_type, is_directed, parameter_name, local_name, Context, is_bits, is_header, is_packet, is_data, takes, fields_of, kind_of, can_write, arguments_of, are_given, is_call, standard_type, truth, struct, an_action, unusable}
 
 -- "Statements".
 abbrev pub is_statement : Context → Stmt16 → Bool

@@ -2,13 +2,14 @@
 ghost use Rattle.std.specs.Prelude.{◌≡◌, ◌≢◌, ◌≤◌, ◌⊎◌, ◌∷◌, [], ℕ, List, true, Some, None, Option, Ok, Err, IfOk, OnOk, OnErr, IfErr, MatchResult, All, option_to_list};
 ghost use Rattle.state_store.specs.Ports.{IsPort};
 ghost use Rattle.p4x_io.specs.Desk.{Rose, Moves, put, grown};
-ghost use Rattle.p4x_cmd.specs.declared.one_table.OneTable14.{OneTable14};
+ghost use Rattle.p414_one_table.specs.declared.program.OneTable14.{OneTable14};
 ghost use Rattle.p4x_cmd.specs.Calls.{PacketsFit};
 ghost use Rattle.p4x_cmd.specs.Carry.{ProgramIs, entries_stop, ports_in, ports_end, StopsBefore, Begins, CarryDue, InOrder, KeepsInOrder};
-ghost use Rattle.p4x_cmd.specs.Forms14.{is_one_table};
+ghost use Rattle.p414_one_table.specs.Programs.{is_one_table};
+ghost use Rattle.program_commands.specs.Programs.{ReadsOnce};
 ghost use Rattle.p4x_cmd.specs.Forms16.{program16, Reads16};
 ghost use Rattle.p4x_cmd.specs.internal.Lowering.{lowered};
-ghost use Rattle.p4x_cmd.specs.internal.Phases.{IsPortsStop};
+ghost use Rattle.p4x_cmd.specs.internal.Phases.{AnswersFile, IsPortsStop};
 ghost use Rattle.file_work.specs.Works.{Blames, DeskRose, ReadsRose, Tells, Works, IsPart};
 ghost use Rattle.file_work.specs.Phases.{GrownByFront, Loosely, line_view};
 ghost use Rattle.p4x_cmd.specs.internal.Plain.{IsSized};
@@ -17,18 +18,16 @@ ghost use Rattle.command_words.specs.Views.{files_of};
 
 use crate::capture::run_capture;
 use crate::lowering::lower;
-use crate::one_table::{OneTable14, OneTable16};
-use crate::reader::read14;
+use crate::one_table::OneTable16;
 use crate::writer::write16;
 use command_words::CarryNames;
 use file_work::{Limited, Stop};
 use p4x_bits::{Numbers, Octets, OutOfMemory};
 use p4x_io::{Desk, Failed, ReadFault, append_all, has_octet, read_file};
+use p414_one_table::{OneTable14, one_table_of};
 use pcap_io::PortFault;
+use program_commands::read_program;
 use std::alloc::Global;
-
-/// The most octets of a program.
-const PROGRAM_LIMIT: usize = 1048576;
 
 /// The most octets of a ports file.
 const PORTS_LIMIT: usize = 4194304;
@@ -48,21 +47,16 @@ struct Beginning {
     ports: Numbers,
 }
 
-// The program of a file.
-fn read_program<D: Desk>(alloc: Global, desk: &mut D, name: &str) -> Result<OneTable14, Stop>
+// The program of a file, where it is of the one-table form.
+fn read_one_table<D: Desk>(alloc: Global, desk: &mut D, name: &str) -> Result<OneTable14, Stop>
     ensures moves { Moves [] (D.view desk.old) (D.view desk.new) }
-    ensures gives { (file : Option (List ℕ)) → (D.view desk.old).told name.now ≡ Some file
-        → MatchResult result (λ p. ProgramIs file (Ok p)) (λ e. Loosely e (ProgramIs file (Err e))) }
+    ensures gives { (file : Option (List ℕ)) → (D.view desk.old).told name.now ≡ Some file → AnswersFile file result }
+    ensures once { OnOk result ((text : List ℕ) → (D.view desk.old).told name.now ≡ Some (Some text) → ReadsOnce text) }
     ensures form { IfOk result (λ p. is_one_table p ≡ true) }
     ensures cause { Blames result (Rose ((D.view desk.old).reads name.now) ((D.view desk.new).reads name.now)) }
 {
-    let text = match read_file(alloc, desk, name, PROGRAM_LIMIT) {
-        Ok(text) => text,
-        Err(ReadFault::Limit) => return Err(Stop::Program),
-        Err(ReadFault::Failed) => return Err(Stop::Fault),
-        Err(ReadFault::Memory) => return Err(Stop::Memory),
-    };
-    match read14(alloc, &text) {
+    let program = read_program(alloc, desk, name)?;
+    match one_table_of(alloc, program.syntax()) {
         Ok(Some(program)) => Ok(program),
         Ok(None) => Err(Stop::Program),
         Err(OutOfMemory) => Err(Stop::Memory),
@@ -107,12 +101,13 @@ fn prepare<D: Desk>(alloc: Global, desk: &mut D, names: &CarryNames<'_>) -> Resu
     ensures begins { (files : List ℕ → Option (List ℕ)) → Tells (carry_inputs (files_of names.now)) (D.view desk.old) files
         → IfOk result (λ w. (p : OneTable14) × Begins (files_of names.now) files p w.ports × (w.program ≡ lowered p)) }
     ensures order { InOrder (files_of names.now) (D.view desk.old) result }
+    ensures once { OnOk result ((text : List ℕ) → (D.view desk.old).told names.now.program.now ≡ Some (Some text) → ReadsOnce text) }
     ensures text { IfOk result (λ w. Reads16 w.text (program16 w.program)) }
     ensures sized { IfOk result (λ w. IsSized w.program) }
     ensures fits { IfOk result (λ w. All IsPort w.ports) }
     ensures cause { Blames result (ReadsRose (carry_inputs (files_of names.now)) (D.view desk.old) (D.view desk.new)) }
 {
-    let program = read_program(alloc, desk, names.program)?;
+    let program = read_one_table(alloc, desk, names.program)?;
     check_entries(desk, names.entries)?;
     let ports = read_ports(alloc, desk, names)?;
     let Translation { program, text } = translate(alloc, &program)?;
@@ -194,6 +189,7 @@ pub(crate) fn carry<D: Desk>(
     ensures packets { PacketsFit (files_of names.now) (D.view desk.old) (line_view result) }
     ensures order { InOrder (files_of names.now) (D.view desk.old) (line_view result) }
     ensures kept { KeepsInOrder (files_of names.now) (D.view desk.old) (D.view desk.new) (line_view result) }
+    ensures once { OnOk (line_view result) ((text : List ℕ) → (D.view desk.old).told names.now.program.now ≡ Some (Some text) → ReadsOnce text) }
 {
     let beginning = prepare(alloc, desk, names)?;
     begin(desk, names, beginning.text.as_slice())?;

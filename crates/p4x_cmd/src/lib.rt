@@ -6,8 +6,6 @@ mod carry;
 mod lowering;
 mod one_table;
 mod plain;
-mod reader;
-mod tokens;
 mod top;
 mod writer;
 

@@ -2,8 +2,9 @@
 ghost use Rattle.std.specs.Prelude.{◌≡◌, IfOk};
 ghost use Rattle.p4x_cmd.specs.internal.Lowering.{lowered, lowered_field};
 
-use crate::one_table::{Field, OneTable14, OneTable16};
+use crate::one_table::OneTable16;
 use p4x_bits::{OutOfMemory, Rows, Text};
+use p414_one_table::{Field, OneTable14};
 use std::alloc::Global;
 
 /// A field of the header, under its name in P4_16: no reserved word begins with `f_`.

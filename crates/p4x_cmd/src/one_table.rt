@@ -1,31 +1,6 @@
-// Programs with one header, one parser state and one table without keys.
+// Written programs with one header, one parser state and one table without keys.
 use p4x_bits::{Rows, Text};
-
-/// A field of the header.
-#[derive(Debug, Drop)]
-pub struct Field {
-    /// Its name.
-    pub name: Text,
-    /// Its width in bits.
-    pub width: u64,
-}
-
-/// A P4_14 program of the one-table form, by the names and numbers that are free in it.
-#[derive(Debug, Drop)]
-pub struct OneTable14 {
-    /// The header type.
-    pub header_type: Text,
-    /// The fields of the header type, in order.
-    pub fields: Rows<Field>,
-    /// The header instance.
-    pub instance: Text,
-    /// The action.
-    pub action: Text,
-    /// The port that the action sends to: from 0 to `GREATEST_PORT`, or `DROP_PORT`.
-    pub port: u64,
-    /// The table.
-    pub table: Text,
-}
+use p414_one_table::Field;
 
 /// A P4_16 program of the one-table form, by the names and numbers that are free in it.
 #[derive(Debug, Drop)]

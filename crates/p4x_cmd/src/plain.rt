@@ -5,9 +5,10 @@ ghost use Rattle.fabric.specs.Numbers.{IsArrival};
 ghost use Rattle.p4x_cmd.specs.declared.one_table.OneTable16.{OneTable16 as Program};
 ghost use Rattle.p4x_cmd.specs.internal.Plain.{plain_pass, own_outcome, no_store, outs_of, end_of, are_few, IsSized};
 
-use crate::one_table::{Field, OneTable16};
+use crate::one_table::OneTable16;
 use fabric::{Arrival, Fate, Out};
 use p4x_bits::{Octets, OutOfMemory, Rows};
+use p414_one_table::Field;
 use run_stream::Runner;
 use state_store::DROP_PORT;
 use std::alloc::Global;

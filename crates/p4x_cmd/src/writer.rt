@@ -6,8 +6,9 @@ ghost use Rattle.p416_ast.specs.Words.{is_word, is_id16};
 ghost use Rattle.p4x_cmd.specs.Forms16.{is_one_table16, program16, Reads16, field_tokens16, header_tokens16, note_tokens, action_tokens16, table_tokens16, ingress_tokens16};
 ghost use Rattle.p4x_cmd.specs.internal.Written.{Writes};
 
-use crate::one_table::{Field, OneTable16};
+use crate::one_table::OneTable16;
 use p4x_bits::{Octets, OutOfMemory};
+use p414_one_table::Field;
 use std::alloc::Global;
 
 const INCLUDES: &[u8] = b"#include <core.p4>\n#include <v1model.p4>\n";

@@ -7,7 +7,7 @@ use Rattle.file_work.specs.declared.stop.Stop.TheVariants.{Memory}
 use Rattle.file_work.specs.Works.{Held, Leaves, Tells, Works, Blames}
 use Rattle.program_commands.specs.Commands.{ProgramDue, EndsAs, EndsByFile, printed}
 use Rattle.program_commands.specs.Programs.{ProgramIs}
-use Rattle.program_commands.specs.internal.Judged.{AnswersFile}
+use Rattle.program_commands.specs.Answers.{AnswersFile}
 
 -- an answer that blames nothing
 done_blames : (line : List ℕ) (cause : Type 0) → Blames {A = List ℕ} (Ok line) cause

@@ -5,7 +5,8 @@ use Rattle.file_work.specs.declared.stop.Limited.TheVariants as limited
 use Rattle.file_work.specs.declared.stop.Stop.{Stop}
 use Rattle.file_work.specs.declared.stop.Stop.TheVariants.{Fault, Usage, Program, Judged, Entries, Refused, Limit, Memory}
 use Rattle.program_commands.specs.Programs.{program_limit, TextIs, ProgramIs}
-use Rattle.program_commands.specs.internal.Judged.{AnswersText, AnswersFile}
+use Rattle.program_commands.specs.Answers.{AnswersFile}
+use Rattle.program_commands.specs.internal.Judged.{AnswersText}
 
 -- within its limit a file comes to what its text does
 within : (text : List ℕ) (answer : Result Syntax14 Stop) → length text ≤ program_limit → ((other : Result Syntax14 Stop) → TextIs text other → other ≡ answer)

@@ -3,7 +3,8 @@ ghost use Rattle.std.specs.Prelude.{◌≡◌, [], ℕ, List, Some, Option, IfEr
 ghost use Rattle.p4x_io.specs.Desk.{Moves, Rose};
 ghost use Rattle.file_work.specs.Works.{Blames};
 ghost use Rattle.program_commands.specs.Programs.{IsProgramStop, ReadsOnce};
-ghost use Rattle.program_commands.specs.internal.Judged.{AnswersSyntax, AnswersText, AnswersFile};
+ghost use Rattle.program_commands.specs.Answers.{AnswersFile};
+ghost use Rattle.program_commands.specs.internal.Judged.{AnswersSyntax, AnswersText};
 
 use file_work::{Limited, Stop};
 use p4x_io::{Desk, ReadFault, read_file};
@@ -38,12 +39,10 @@ fn program_of(alloc: Global, text: &[u8]) -> Result<Program14, Stop>
     }
 }
 
-/// The program of a file, which breaks no rule.
-pub(crate) fn read_program<D: Desk>(
-    alloc: Global,
-    desk: &mut D,
-    name: &str,
-) -> Result<Program14, Stop>
+/// The program of a file, which breaks no rule; or why there is none: the file is over its limit of 1,048,576 octets, its text is refused
+/// with one of L1 to L4 or S1 and a place, or the program breaks one of C1 to C28, and the least of these is told. A fault of the desk or
+/// want of memory may come in place of any.
+pub fn read_program<D: Desk>(alloc: Global, desk: &mut D, name: &str) -> Result<Program14, Stop>
     ensures moves { Moves [] (D.view desk.old) (D.view desk.new) }
     ensures gives { (file : Option (List ℕ)) → (D.view desk.old).told name.now ≡ Some file → AnswersFile file result }
     ensures once { OnOk result ((text : List ℕ) → (D.view desk.old).told name.now ≡ Some (Some text) → ReadsOnce text) }

@@ -1,5 +1,5 @@
 -- What the wrong programs send of one packet, beside what the sample sends.
-use Rattle.std.proofs.Common.{◌≡◌, ◌<◌, ℕ, zero, suc, All, List, [], ◌∷◌, ◌++◌, length, drop, refl, sym, ◌∙◌, ap, arith}
+use Rattle.std.proofs.Common.{◌≡◌, ◌<◌, ℕ, zero, suc, All, List, [], ◌∷◌, ◌++◌, length, drop, Some, refl, sym, ◌∙◌, ap, arith}
 use Rattle.std.proofs.lemmas.List.Elements.{All-cons}
 use Rattle.p416_ast.specs.declared.syntax.Syntax16.{Syntax16}
 use Rattle.fabric.specs.Numbers.{IsArrival}
@@ -8,7 +8,7 @@ use Rattle.fabric.specs.declared.packets.Sent.{Sent}
 use Rattle.p4x_bits.specs.BitLists.{octet_bits, IsOctets}
 use Rattle.p4x_cmd.specs.Carries.{Carries}
 use Rattle.p4x_cmd.specs.Entries.{no_entries}
-use Rattle.p4x_cmd.specs.Forms14.{Reads14, spelled14}
+use Rattle.p414_one_table.specs.Form.{one_table_of}
 use Rattle.p4x_cmd.specs.Forms16.{program16}
 use Rattle.p4x_cmd.specs.Headers.{numbers_in, bits_in, octets_in}
 use Rattle.p4x_cmd.specs.internal.Lowering.{lowered}
@@ -18,11 +18,10 @@ use Rattle.run_stream.specs.Runs.{Ran}
 use Rattle.p4x_cmd.proofs.Carrying.{carries_is}
 use Rattle.p4x_cmd.proofs.Filling.{no_entries_fit}
 use Rattle.p4x_cmd.proofs.HeaderLaws.{whole_again}
-use Rattle.refusal_laws.specs.Wrong.{sample, sample_text, dropping, next_port, emitting_nothing, not_asking}
+use Rattle.refusal_laws.specs.Wrong.{sample, sample_syntax, dropping, next_port, emitting_nothing, not_asking}
 
-pub sample_reads : Reads14 sample_text sample
-unfolding spelled14
-sample_reads = record { form = refl; spelled = refl }
+pub sample_form : one_table_of sample_syntax ≡ Some sample
+sample_form = refl
 
 pub sample_is : Carries sample (program16 (lowered sample))
 sample_is = carries_is sample refl

@@ -1,5 +1,5 @@
 -- The first sample program, and programs of P4_16 that are each wrong in one place (this project's own).
-use Rattle.std.specs.Prelude.{ℕ, List, [], ◌∷◌, ◌++◌, codes}
+use Rattle.std.specs.Prelude.{ℕ, List, [], ◌∷◌, Option, Some, None, codes}
 use Rattle.p416_ast.specs.Tree.{name, member, call, no_arguments, Stmt16, no_statements, then, expression}
 use Rattle.p416_ast.specs.Blocks.{LocalTree, action_local}
 use Rattle.p416_ast.specs.declared.decl.BitField.{BitField}
@@ -8,13 +8,22 @@ use Rattle.p416_ast.specs.declared.decl.Note.TheVariants.{Name}
 use Rattle.p416_ast.specs.declared.syntax.Decl16.{Decl16}
 use Rattle.p416_ast.specs.declared.syntax.Decl16.TheVariants.{Header, Control}
 use Rattle.p416_ast.specs.declared.syntax.Syntax16.{Syntax16}
-use Rattle.p4x_cmd.specs.declared.one_table.OneTable14.{OneTable14}
+use Rattle.p414_ast.specs.declared.parts.Inst.{Inst}
+use Rattle.p414_ast.specs.declared.headers.Field.{Field as DeclaredField}
+use Rattle.p414_ast.specs.declared.headers.FieldWidth.TheVariants.{Bits}
+use Rattle.p414_ast.specs.declared.parsers.PStmt.TheVariants.{Extract}
+use Rattle.p414_ast.specs.declared.parsers.Return.TheVariants.{State}
+use Rattle.p414_ast.specs.declared.actions.Arg.TheVariants as arg
+use Rattle.p414_ast.specs.declared.tables.TableAttr.TheVariants.{Actions, DefaultAction}
+use Rattle.p414_ast.specs.declared.syntax.Decl.TheVariants as decl
+use Rattle.p414_ast.specs.declared.syntax.Syntax14.{Syntax14}
+use Rattle.p414_ast.specs.Tree.{no_statements as nothing, then as behind, apply}
+use Rattle.p414_one_table.specs.declared.program.OneTable14.{OneTable14}
 use Rattle.p4x_cmd.specs.Forms16.{header_struct, metadata_struct, param, checksum_params, switch_params, call_with, parser16, plain_control, action16, table16, apply_or_drop, deparser16}
 
 -- A header of 14 octets; each packet that has them is sent to port 3.
 abbrev pub sample : OneTable14
 sample = record {
-  header_type = codes "eth_t";
   fields = record { name = codes "a"; width = 48 } ∷ record { name = codes "b"; width = 48 }
       ∷ record { name = codes "c"; width = 16 } ∷ [];
   instance = codes "eth";
@@ -23,13 +32,47 @@ sample = record {
   table = codes "t";
 }
 
--- its text
-abbrev pub sample_text : List ℕ
-sample_text =
-    codes "header_type eth_t { fields { a : 48; b : 48; c : 16; } }\n" ++ (codes "header eth_t eth;\n"
-    ++ (codes "parser start { extract(eth); return ingress; }\n"
-    ++ (codes "action out3() { modify_field(standard_metadata.egress_spec, 3); }\n"
-    ++ (codes "table t { actions { out3; } default_action : out3(); }\n" ++ codes "control ingress { apply(t); }\n"))))
+abbrev bits : List ℕ → ℕ → DeclaredField
+bits name width = record { name = name; width = Bits record { width = None; value = width }; attributes = [] }
+
+abbrev alone : List ℕ → Inst
+alone name = record { name = name; index = None }
+
+-- its syntax:
+--   header_type eth_t { fields { a : 48; b : 48; c : 16; } }
+--   header eth_t eth;
+--   parser start { extract(eth); return ingress; }
+--   action out3() { modify_field(standard_metadata.egress_spec, 3); }
+--   table t { actions { out3; } default_action : out3(); }
+--   control ingress { apply(t); }
+abbrev pub sample_syntax : Syntax14
+sample_syntax = record {
+  decls = decl.HeaderType record {
+    name = codes "eth_t";
+    fields = bits (codes "a") 48 ∷ bits (codes "b") 48 ∷ bits (codes "c") 16 ∷ [];
+    tails = [];
+  }
+      ∷ decl.Header record { header_type = codes "eth_t"; name = codes "eth"; size = None }
+      ∷ decl.Parser record {
+        name = codes "start";
+        statements = Extract (alone (codes "eth")) ∷ [];
+        end = State (codes "ingress");
+      }
+      ∷ decl.Action record {
+        name = codes "out3";
+        parameters = [];
+        calls = record {
+          name = codes "modify_field";
+          arguments = arg.Field record { instance = alone (codes "standard_metadata"); field = codes "egress_spec" }
+              ∷ arg.Number record { sign = None; literal = record { width = None; value = 3 } } ∷ [];
+        } ∷ [];
+      }
+      ∷ decl.Table record {
+        name = codes "t";
+        attributes = Actions (codes "out3" ∷ []) ∷ DefaultAction (codes "out3") (Some []) ∷ [];
+      }
+      ∷ decl.Control record { name = codes "ingress"; body = behind nothing (apply (codes "t")) } ∷ [];
+}
 
 -- the header type of the written program
 abbrev pub fields16 : List BitField

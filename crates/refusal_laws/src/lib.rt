@@ -2,16 +2,17 @@
 //! function that does nothing.
 #![tactic(auto)]
 
+ghost use Rattle.std.specs.Prelude.{◌≡◌, Some};
+ghost use Rattle.p414_one_table.specs.Form.{one_table_of};
 ghost use Rattle.p4x_cmd.specs.Carries.{Carries};
-ghost use Rattle.p4x_cmd.specs.Forms14.{Reads14};
 ghost use Rattle.p4x_cmd.specs.Forms16.{program16};
 ghost use Rattle.p4x_cmd.specs.internal.Lowering.{lowered};
-ghost use Rattle.refusal_laws.specs.Wrong.{sample, sample_text, dropping, next_port, emitting_nothing, not_asking};
+ghost use Rattle.refusal_laws.specs.Wrong.{sample, sample_syntax, dropping, next_port, emitting_nothing, not_asking};
 
-/// The text of the sample reads as it.
-#[tactic(auto, using(crate::proofs::Refused::sample_reads))]
-pub fn the_sample_is_read()
-    ensures { Reads14 sample_text sample }
+/// The syntax of the sample is of the one-table form, with these names and numbers.
+#[tactic(auto, using(crate::proofs::Refused::sample_form))]
+pub fn the_sample_is_of_the_form()
+    ensures { one_table_of sample_syntax ≡ Some sample }
 {}
 
 /// The program that the sample becomes carries it.

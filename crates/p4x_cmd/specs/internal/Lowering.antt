@@ -1,8 +1,8 @@
 -- The program of the one-table form of P4_16 that a program of the one-table form of P4_14 becomes (this project's
 -- own).
 use Rattle.std.specs.Prelude.{◌++◌, map, codes}
-use Rattle.p4x_cmd.specs.declared.one_table.Field.{Field}
-use Rattle.p4x_cmd.specs.declared.one_table.OneTable14.{OneTable14}
+use Rattle.p414_one_table.specs.declared.program.Field.{Field}
+use Rattle.p414_one_table.specs.declared.program.OneTable14.{OneTable14}
 use Rattle.p4x_cmd.specs.declared.one_table.OneTable16.{OneTable16}
 
 -- `f_` in front keeps every field's name from being a reserved word of P4_16

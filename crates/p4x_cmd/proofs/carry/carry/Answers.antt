@@ -1,4 +1,4 @@
-use Rattle.std.proofs.Common.{rules, ◌≡◌, ℕ, List, [], Some, sym, ◌∙◌, ap, subst}
+use Rattle.std.proofs.Common.{rules, ◌≡◌, inl, ℕ, List, [], Some, refl, sym, ◌∙◌, ap, subst}
 use Rattle.std.proofs.lemmas.Result.{err_from_is_err_and}
 use Rattle.p4x_io.specs.Desk.{put}
 use Rattle.file_work.specs.declared.stop.Stop.TheVariants.{Fault}
@@ -10,7 +10,7 @@ use Rattle.file_work.specs.Phases.{line_view}
 use Rattle.command_words.specs.Views.{files_of}
 use Rattle.p4x_cmd.proofs.Blaming.{run_blames, blames_view}
 use Rattle.p4x_cmd.proofs.Left.{left_early, left_begin, left_run}
-use Rattle.p4x_cmd.proofs.Order.{order_stopped, order_run, run_late, fault_late, keeps_all, keeps_begun}
+use Rattle.p4x_cmd.proofs.Order.{order_loose, order_stopped, order_run, once_run, run_late, fault_late, keeps_all, keeps_begun}
 use Rattle.p4x_cmd.proofs.Packets.{packets_of}
 use Rattle.p4x_cmd.proofs.Writing.{written_is}
 use Rattle.p4x_cmd.proofs.Named.{apart_of}
@@ -103,6 +103,15 @@ pub returns-in_err-beginning-clause-order : goal.returns-in_err-beginning-clause
 returns-in_err-beginning-clause-order g c =
     let p = err_from_is_err_and c.from_residual.result c.from_residual.ensures.1 in
     rw (p.1, p.2) (order_stopped _ _ (files_of c.args.names.now) _ _ c.in_err-beginning.ensures.order)
+
+pub returns-in_err-begin-clause-order : goal.returns-in_err-begin-clause-order
+returns-in_err-begin-clause-order g c =
+    let p = err_from_is_err_and c.from_residual-in_err-begin.result c.from_residual-in_err-begin.ensures.1 in
+    let is : p.0 ≡ Fault = p.2 ∙ c.in_err-begin.ensures.only in
+    rw (p.1, is) (order_loose _ (files_of c.args.names.now) _ Fault (inl refl))
+
+pub returns-clause-once : goal.returns-clause-once
+returns-clause-once g c = once_run c.run_capture.result _ c.in_ok-beginning.ensures.once
 
 pub returns-clause-order : goal.returns-clause-order
 returns-clause-order g c =

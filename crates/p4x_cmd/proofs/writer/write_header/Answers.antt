@@ -2,7 +2,7 @@ use Rattle.std.proofs.Common.{ap, arith, ◌∙◌}
 use Rattle.p416_ast.specs.Words.{is_id16}
 use Rattle.p4x_cmd.proofs.Pieces16.{on_ok, list_all_get, Writes-next, Writes-header}
 use Rattle.p4x_cmd.proofs.writer.write_header.Goals as goal
-use Rattle.p4x_cmd.specs.declared.one_table.Field.{Field}
+use Rattle.p414_one_table.specs.declared.program.Field.{Field}
 
 pub write_field-requires : goal.write_field-requires
 write_field-requires c =

@@ -1,5 +1,6 @@
 use Rattle.std.proofs.Common.{ℕ, List, Option, Some, OnOk, sym, subst}
-use Rattle.program_commands.specs.internal.Judged.{AnswersText, AnswersFile}
+use Rattle.program_commands.specs.Answers.{AnswersFile}
+use Rattle.program_commands.specs.internal.Judged.{AnswersText}
 use Rattle.program_commands.specs.Programs.{ReadsOnce}
 use Rattle.program_commands.proofs.Files.{file_within}
 use Rattle.program_commands.proofs.Texts.{once_told}
