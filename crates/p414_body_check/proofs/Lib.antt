@@ -1,3 +1,4 @@
+mod Accepted
 mod Exactly
 mod Orders
 mod StateRules

@@ -1,24 +1,28 @@
 // Programs that break no rule.
-ghost use Rattle.std.specs.Prelude.{◌≡◌};
+ghost use Rattle.std.specs.Prelude.{◌≡◌, IfOk};
+ghost use Rattle.p414_rules.specs.Names.{number_of};
 ghost use Rattle.p414_body_check.specs.Answers.{IsAccepted, IsJudged};
 
 use crate::fault::Check14;
 use crate::judge::judge;
-use p414_ast::Syntax14;
+use p4x_bits::OutOfMemory;
+use p414_ast::{Sort, Syntax14};
+use p414_numbers::{DeclNumbers, numbers_of};
 use std::alloc::Global;
 use std::marker::Model;
 
-/// A P4_14 program that breaks none of the rules C1 to C28. Contracts see its syntax.
+/// A P4_14 program that breaks none of the rules C1 to C28, with the numbers of its declarations. Contracts see its syntax.
 #[derive(Drop)]
 pub struct Program14 {
     syntax: Syntax14,
+    numbers: DeclNumbers,
 }
 
 impl Model for Program14 {
     ghost use Rattle.std.specs.Coded.{codes};
     ghost use Rattle.p414_ast.specs.declared.syntax.Syntax14.{Syntax14 as Syntax};
     ghost use Rattle.p414_ast.specs.contracts.syntax.Syntax14 as declaration;
-    ghost use Rattle.p414_body_check.specs.Answers.{IsAccepted};
+    ghost use Rattle.p414_body_check.specs.internal.Programs.{IsProgram};
 
     ghost Value = { Syntax };
 
@@ -26,7 +30,7 @@ impl Model for Program14 {
 
     ghost view = { λ p. p.syntax };
 
-    ghost invariant = { λ p. IsAccepted p.syntax };
+    ghost invariant = { λ p. IsProgram p.syntax p.numbers };
 }
 
 impl Program14 {
@@ -37,6 +41,25 @@ impl Program14 {
     {
         &self.syntax
     }
+
+    /// The number of the declaration that a name means in a sort, from 0 in the order of declaration; none exactly where no
+    /// declaration of the sort has the name. It takes no memory, and its time doesn't grow with the program.
+    #[tactic(auto, using(p414_numbers::proofs::Found::number_found))]
+    pub fn number_of(&self, sort: Sort, name: &[u8]) -> Option<u32>
+        ensures { result ≡ number_of sort self.now.decls name.now }
+    {
+        self.numbers.find(sort, name)
+    }
+}
+
+/// The program of a syntax that breaks no rule.
+#[tactic(auto, using(crate::proofs::Accepted::once))]
+fn program_of(alloc: Global, syntax: Syntax14) -> Result<Program14, OutOfMemory>
+    requires { IsAccepted syntax }
+    ensures { IfOk result (λ program. program ≡ syntax) }
+{
+    let numbers = numbers_of(alloc, syntax.decls.as_slice())?;
+    Ok(Program14 { syntax, numbers })
 }
 
 /// The program of a syntax that breaks none of the rules C1 to C28 (P4_14 1.0.5, "Headers and Fields", "Checksums and
@@ -50,7 +73,7 @@ pub fn check14(alloc: Global, syntax: Syntax14) -> Result<Program14, Check14>
     ensures { IsJudged syntax result }
 {
     match judge(alloc, &syntax) {
-        Ok(()) => Ok(Program14 { syntax }),
+        Ok(()) => Ok(program_of(alloc, syntax)?),
         Err(fault) => Err(fault),
     }
 }

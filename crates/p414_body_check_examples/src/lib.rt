@@ -13,6 +13,8 @@ mod lists;
 #[cfg(test)]
 mod messages;
 #[cfg(test)]
+mod numbers;
+#[cfg(test)]
 mod objects;
 #[cfg(test)]
 mod pairs;

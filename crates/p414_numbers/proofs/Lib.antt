@@ -1,0 +1,3 @@
+mod OwnedSets
+pub mod Once
+pub mod Found
