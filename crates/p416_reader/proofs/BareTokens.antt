@@ -1,6 +1,6 @@
 -- What is written without parentheses has no token that isn't written with them, but commas: where each token with them is
 -- one that a text can have, each without them is.
-use Rattle.std.proofs.Common.{◌≡◌, ℕ, Bool, true, false, ◌&&◌, List, [], ◌∷◌, ◌++◌, map, Option, Some, None, refl, sym, ap, subst, ◌∙◌}
+use Rattle.std.proofs.Common.{◌≡◌, true, List, [], ◌∷◌, ◌++◌, map, Option, Some, None, refl}
 use Rattle.std.specs.List.{flat_map, list_all}
 use Rattle.std.specs.Option.{option_map}
 use Rattle.p416_lexemes.specs.declared.keyword.Keyword16.TheVariants as key
@@ -29,9 +29,9 @@ use Rattle.p416_ast.specs.declared.grammar.program.Decl16.{Decl16}
 use Rattle.p416_ast.specs.declared.grammar.program.Decl16.TheVariants as decl
 use Rattle.p416_ast.specs.declared.grammar.program.Syntax16.{Syntax16}
 use Rattle.p416_ast.specs.Grammar.Tree.{Exp16, literal, truth, error, name, member, index, slice, call, lookahead, cast, unary, binary, choice, parenthesized, no_arguments, argument, listed, Stmt16, no_statements, then, block, empty, var, var_is, assign, expression, if_then, if_else, switch, no_cases, case_of}
-use Rattle.p416_ast.specs.Grammar.Tokens.{Seen16, id, quoted, number, is_spelt_seen, seen_word, lookahead_text, opens, dot, dots, comma, colon, semicolon, equals, mask, question, less, greater, paren_open, paren_close, brace_open, brace_close, bracket_open, bracket_close, in_parens, in_braces}
+use Rattle.p416_ast.specs.Grammar.Tokens.{Seen16, id, quoted, number, is_spelt_seen, seen_word, lookahead_text, opens, dot, dots, comma, colon, semicolon, equals, mask, question, greater, paren_close, brace_close, bracket_open, bracket_close, in_parens, in_braces}
 use Rattle.p416_ast.specs.Grammar.Operators.{unary_token, binary_tokens}
-use Rattle.p416_ast.specs.Grammar.Written.{written_option, after_commas, by_commas, written_notes, written_type, written_params, written_member, written_cast, written_bit, comma_behind, written_exp, written_initial, written_label, written_run, written_stmt, written_block, written_var, written_target, written_simple, written_keyset, written_case, written_transition, written_state, written_parser, written_instance, written_object, written_action, written_action_name, written_key, property_word, written_property_value, written_property, written_table, written_local, written_control, written_decl, written_main, written}
+use Rattle.p416_ast.specs.Grammar.Written.{written_option, after_commas, by_commas, written_notes, written_type, written_params, written_member, written_cast, written_bit, comma_behind, written_exp, written_initial, written_label, written_run, written_stmt, written_block, written_var, written_target, written_simple, written_keyset, written_case, written_transition, written_state, written_instance, written_object, written_action, written_action_name, written_key, written_property, written_table, written_local, written_decl, written_main, written}
 use Rattle.p416_ast.specs.Grammar.Parentheses.{bare_exp, bare_stmt, bare_var, bare_simple, bare_keyset, bare_case, bare_transition, bare_state, bare_parser, bare_instance, bare_action, bare_key, bare_property, bare_table, bare_local, bare_control, bare_decl, bare}
 use Rattle.p416_reader.proofs.Lists.{both, left_true, right_true}
 

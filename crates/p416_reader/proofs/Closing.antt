@@ -1,6 +1,6 @@
 -- How each word of the grammar can be closed, and what it may still take at its end: so what is read before a refusal can
 -- be completed.
-use Rattle.std.proofs.Common.{◌≡◌, ℕ, Bool, true, false, not, ◌&&◌, ◌||◌, nat_eq, nat_le, List, [], ◌∷◌, ◌++◌, codes, get_or, Option, Some, None, refl, bytes_eq}
+use Rattle.std.proofs.Common.{◌≡◌, ℕ, Bool, true, false, ◌&&◌, nat_eq, nat_le, List, [], ◌∷◌, ◌++◌, codes, get_or, Option, Some, None, refl, bytes_eq}
 use Rattle.predictive_parser.specs.declared.symbol.Symbol.TheVariants.{Put}
 use Rattle.predictive_parser.proofs.Closings.{Closing, IsClosed, row_fits}
 use Rattle.p416_lexemes.specs.declared.keyword.Keyword16.{Keyword16}
@@ -12,7 +12,7 @@ use Rattle.p416_lexemes.specs.declared.mark.Mark16.{Mark16}
 use Rattle.p416_lexemes.specs.declared.mark.Mark16.TheVariants as mark_of
 use Rattle.p416_ast.specs.declared.grammar.node.BinaryOperator.{BinaryOperator}
 use Rattle.p416_ast.specs.declared.grammar.node.BinaryOperator.TheVariants as operator_of
-use Rattle.p416_ast.specs.Grammar.Tokens.{Seen16, id, quoted, number, mark, string, annotation, include_line, joined, opens, brace_open, brace_close, paren_open, paren_close, bracket_open, bracket_close, semicolon, colon, comma, dot, equals}
+use Rattle.p416_ast.specs.Grammar.Tokens.{Seen16, id, quoted, number, mark, string, annotation, include_line, opens, brace_open, brace_close, paren_open, paren_close, bracket_close, semicolon, dot, equals}
 use Rattle.p416_reader.specs.declared.symbols.Class.{Class}
 use Rattle.p416_reader.specs.declared.symbols.Class.TheVariants as class
 use Rattle.p416_reader.specs.declared.symbols.Known.TheVariants as known

@@ -1,21 +1,18 @@
 -- Laws of expressions and statements that are put together from what stands behind one another.
-use Rattle.std.proofs.Common.{◌≡◌, ℕ, suc, Bool, true, false, ◌&&◌, nat_eq, nat_le, List, [], ◌∷◌, ◌++◌, map, Option, Some, None, refl, sym, ap, ap₂, subst, ◌∙◌, append_assoc, append-nil, le_trans, le_refl, leb-true, le-leb}
+use Rattle.std.proofs.Common.{◌≡◌, ℕ, suc, Bool, true, false, ◌&&◌, nat_eq, nat_le, List, [], ◌∷◌, ◌++◌, map, refl, sym, ap, subst, ◌∙◌, append_assoc, append-nil, le_trans, le_refl, leb-true, le-leb}
 use Rattle.std.proofs.lemmas.Bool.{eqb-true}
 use Rattle.std.specs.List.{flat_map, list_all}
-use Rattle.predictive_parser.specs.Values.{older}
 use Rattle.p416_lexemes.specs.declared.lexeme.Literal16.{Literal16}
-use Rattle.p416_ast.specs.declared.grammar.parts.Type16.TheVariants as kind
-use Rattle.p416_ast.specs.declared.grammar.node.BinaryOperator.{BinaryOperator}
 use Rattle.p416_ast.specs.Grammar.Tree.{Exp16, literal, truth, error, name, member, index, slice, call, lookahead, cast, unary, binary, choice, parenthesized, no_arguments, argument, listed, Stmt16, no_statements, then, block, empty, var, var_is, assign, expression, if_then, if_else, switch, no_cases, case_of}
 use Rattle.p416_ast.specs.Grammar.Tokens.{comma, colon, in_braces}
 use Rattle.p416_ast.specs.Grammar.Operators.{binary_tokens, binary_power}
-use Rattle.p416_ast.specs.Grammar.Written.{after_commas, by_commas, comma_behind, written_exp, written_stmt, written_label}
+use Rattle.p416_ast.specs.Grammar.Written.{after_commas, by_commas, written_exp, written_stmt, written_label}
 use Rattle.p416_ast.specs.Grammar.Parentheses.{bare_exp, bare_stmt}
-use Rattle.p416_ast.specs.Grammar.Conditions.{with_parentheses, fits, is_exp_at, one, many, is_call, is_stmt, statements, statement, cases, ends_in_if}
+use Rattle.p416_ast.specs.Grammar.Conditions.{with_parentheses, is_exp_at, one, many, is_call, is_stmt, statements, cases, ends_in_if}
 use Rattle.p416_reader.specs.declared.built.Built.{Built}
 use Rattle.p416_reader.specs.internal.Classes.{is_plain_name, is_type_like}
-use Rattle.p416_reader.specs.internal.Actions.{with_exps, with_stmts, with_stmt}
-use Rattle.p416_reader.proofs.Forms.{is_full, is_of, is_argument, arguments_on, arguments_of, Suffix, dotted, at, cut, called, looked, written_suffix, is_suffix, with_suffix, with_suffixes, bare_suffix, Tail, done, by, chosen, written_tail, is_tail, with_tail, bare_tail, stmts_on, stmts_of, CasePart, written_case_part, cases_on}
+use Rattle.p416_reader.specs.internal.Actions.{with_exps, with_stmt}
+use Rattle.p416_reader.proofs.Forms.{is_full, is_of, arguments_on, arguments_of, Suffix, dotted, at, cut, called, looked, written_suffix, is_suffix, with_suffix, with_suffixes, bare_suffix, Tail, done, by, chosen, written_tail, is_tail, with_tail, bare_tail, stmts_on, stmts_of, CasePart, written_case_part, cases_on}
 use Rattle.p416_reader.proofs.Meaning.{after_all, put_suffix, put_argument, put_tail, is_statement, are_statements, add_stmt, is_case_part, put_case_part}
 use Rattle.p416_reader.proofs.Lists.{both, left_true, right_true}
 

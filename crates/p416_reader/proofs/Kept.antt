@@ -5,8 +5,8 @@ use Rattle.p416_ast.specs.declared.grammar.node.ExpNode.{ExpNode}
 use Rattle.p416_ast.specs.declared.grammar.node.ExpNode.TheVariants.{Literal, Truth, Error, Name, Member, Index, Slice, Call, Lookahead, Cast, Unary, Binary, Choice, NoArguments, Argument, Listed}
 use Rattle.p416_ast.specs.declared.grammar.node.StmtNode.{StmtNode}
 use Rattle.p416_ast.specs.declared.grammar.node.StmtNode.TheVariants.{NoStatements, Then, Block, Empty, Var, VarIs, Assign, Expression, If, IfElse, Switch, NoCases, Case}
-use Rattle.p416_ast.specs.Grammar.Tree.{Exp16, choice, no_arguments, Stmt16, no_statements, assign, if_then, if_else, Trees, exp_at, stmt_at, exp_of, stmt_of, ExpInOrder, StmtInOrder, Keeps, AddsExp, AddsStmt}
-use Rattle.predictive_parser.specs.Values.{newest, older}
+use Rattle.p416_ast.specs.Grammar.Tree.{Exp16, choice, Stmt16, assign, if_then, if_else, Trees, exp_at, stmt_at, exp_of, stmt_of, ExpInOrder, StmtInOrder, Keeps, AddsExp, AddsStmt}
+use Rattle.predictive_parser.specs.Values.{older}
 use Rattle.p416_reader.specs.internal.Actions.{on_exp, on_exps, on_stmt, on_stmts, first_exp, first_stmt}
 use Rattle.p416_reader.specs.internal.Forest.{Forest, forest_of, Rooted, AllBelow, StandIn, TakesExp, TakesStmt}
 

@@ -19,7 +19,7 @@ use Rattle.p416_reader.specs.declared.built.Built.{Built}
 use Rattle.p416_reader.specs.internal.Built.{nothing, no_decls}
 use Rattle.p416_reader.specs.internal.Rows.{grammar16}
 use Rattle.p416_reader.proofs.Lists.{left_true, right_true}
-use Rattle.p416_reader.proofs.Meaning.{after_all, add_decl, add_block, Program, syntax_of}
+use Rattle.p416_reader.proofs.Meaning.{after_all, add_decl, add_block, syntax_of}
 use Rattle.p416_reader.proofs.Closing.{closing16, closed16}
 use Rattle.p416_reader.proofs.Sound.Grammar.{sound16}
 use Rattle.p416_reader.proofs.Complete.Declarations.{program_read}

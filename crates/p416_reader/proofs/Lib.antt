@@ -10,7 +10,6 @@ pub mod ExpressionLaws
 pub mod Sound
 pub mod Bare
 pub mod BareTokens
-pub mod Found
 pub mod Spelt
 pub mod Closing
 pub mod Readings

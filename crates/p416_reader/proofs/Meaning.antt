@@ -1,12 +1,11 @@
 -- What each word of the grammar stands for: a part of the syntax, with its parentheses, the tokens that it is spelled with,
 -- and what is built behind it, without parentheses.
-use Rattle.std.proofs.Common.{◌≡◌, ℕ, Bool, true, false, ◌&&◌, List, [], ◌∷◌, ◌++◌, map, Option, Some, None}
+use Rattle.std.proofs.Common.{◌≡◌, ℕ, Bool, true, false, List, [], ◌∷◌, ◌++◌, map, Option, Some, None}
 use Rattle.std.specs.List.{flat_map, list_all}
 use Rattle.std.specs.Option.{option_map}
 use Rattle.predictive_parser.proofs.Meanings.{Meaning}
 use Rattle.predictive_parser.specs.Values.{newest, older, extended}
 use Rattle.p416_lexemes.specs.declared.keyword.Keyword16.TheVariants as key
-use Rattle.p416_lexemes.specs.declared.lexeme.Include16.TheVariants as include
 use Rattle.p416_lexemes.specs.declared.lexeme.Literal16.{Literal16}
 use Rattle.p416_lexemes.specs.Keywords.{keyword_text16}
 use Rattle.p416_ast.specs.declared.grammar.parts.Note.{Note}
@@ -23,9 +22,7 @@ use Rattle.p416_ast.specs.declared.grammar.parts.StructField.{StructField}
 use Rattle.p416_ast.specs.declared.grammar.parsers.Var.{Var}
 use Rattle.p416_ast.specs.declared.grammar.parsers.Target.{Target}
 use Rattle.p416_ast.specs.declared.grammar.parsers.Simple.{Simple}
-use Rattle.p416_ast.specs.declared.grammar.parsers.Simple.TheVariants as simple_of
 use Rattle.p416_ast.specs.declared.grammar.parsers.Keyset.{Keyset}
-use Rattle.p416_ast.specs.declared.grammar.parsers.Keyset.TheVariants as keyset_of
 use Rattle.p416_ast.specs.declared.grammar.parsers.SelectCase.{SelectCase}
 use Rattle.p416_ast.specs.declared.grammar.parsers.Transition.{Transition}
 use Rattle.p416_ast.specs.declared.grammar.parsers.State.{State}
@@ -41,10 +38,10 @@ use Rattle.p416_ast.specs.declared.grammar.program.Decl16.{Decl16}
 use Rattle.p416_ast.specs.declared.grammar.program.Syntax16.{Syntax16}
 use Rattle.p416_ast.specs.Grammar.Tree.{Exp16, binary, choice, argument, Stmt16, then, assign, expression, var, var_is, case_of, if_then, if_else}
 use Rattle.p416_ast.specs.Grammar.Members.{hash_text, counter_text, meter_text, clone_text}
-use Rattle.p416_ast.specs.Grammar.Tokens.{Seen16, id, quoted, number, include_line, lookahead_text, dot, paren_open, paren_close, bracket_open, semicolon, colon, mask, dots, equals}
-use Rattle.p416_ast.specs.Grammar.Written.{written_option, after_commas, by_commas, written_number, written_note, written_notes, written_size, written_type, written_param, written_member, written_exp, written_stmt, written_initial, written_var, written_target, written_simple, written_keyset, written_case, written_transition, written_state, written_instance, written_object, written_action, written_action_name, written_listed_action, written_key, written_property, property_word, written_table, written_local, written_bit_field, written_struct_field, written_decl, written_block_name, written_main, written}
-use Rattle.p416_ast.specs.Grammar.Parentheses.{bare_exp, bare_stmt, bare_var, bare_simple, bare_keyset, bare_case, bare_transition, bare_state, bare_instance, bare_action, bare_key, bare_property, bare_table, bare_local, bare_decl}
-use Rattle.p416_ast.specs.Grammar.Conditions.{with_parentheses, is_among, all_different, is_some_listed, is_option, is_note, is_named_once, are_notes, is_exp_at, one, is_call, is_stmt, ends_in_if, statement, statements, are_properties, is_var, is_simple, is_parenthesized, is_keyset, is_case, is_transition, is_state, is_instance, is_action, is_key, is_property, property_texts, is_table, is_local, is_struct_field, is_decl, is_syntax}
+use Rattle.p416_ast.specs.Grammar.Tokens.{Seen16, id, quoted, number, lookahead_text, dot, paren_open, bracket_open, semicolon, equals}
+use Rattle.p416_ast.specs.Grammar.Written.{written_option, after_commas, by_commas, written_number, written_note, written_notes, written_size, written_type, written_param, written_member, written_exp, written_stmt, written_initial, written_var, written_target, written_simple, written_keyset, written_case, written_transition, written_state, written_instance, written_action, written_action_name, written_listed_action, written_key, written_property, property_word, written_table, written_local, written_bit_field, written_struct_field, written_decl, written_block_name, written_main, written}
+use Rattle.p416_ast.specs.Grammar.Parentheses.{bare_exp, bare_stmt, bare_var, bare_simple, bare_keyset, bare_case, bare_transition, bare_state, bare_instance, bare_key, bare_property, bare_local, bare_decl}
+use Rattle.p416_ast.specs.Grammar.Conditions.{with_parentheses, is_among, all_different, is_option, is_note, is_named_once, is_call, is_stmt, ends_in_if, statement, statements, are_properties, is_var, is_simple, is_parenthesized, is_keyset, is_case, is_transition, is_state, is_instance, is_action, is_key, is_property, property_texts, is_table, is_local, is_struct_field, is_syntax}
 use Rattle.p416_reader.specs.declared.symbols.Word.{Word}
 use Rattle.p416_reader.specs.declared.symbols.Word.TheVariants as word
 use Rattle.p416_reader.specs.declared.symbols.PartWord.{PartWord}
@@ -60,8 +57,8 @@ use Rattle.p416_reader.specs.declared.symbols.DeclWord.TheVariants as declare
 use Rattle.p416_reader.specs.declared.built.Built.{Built}
 use Rattle.p416_reader.specs.declared.parts.Parts.{Parts}
 use Rattle.p416_reader.specs.internal.Classes.{is_type_like, last_exp}
-use Rattle.p416_reader.specs.internal.Actions.{no_literal, first_exp, first_stmt, last_name, last_literal, last_type, without_name, without_literal, without_type, cleared, with_exps, with_stmts, with_stmt, with_parts, with_property, with_local, with_instance, with_decl, type_of}
-use Rattle.p416_reader.proofs.Forms.{is_full, is_of, is_argument, Suffix, called, looked, at, cut, dotted, written_suffix, is_suffix, with_suffix, bare_suffix, Tail, done, by, chosen, written_tail, is_tail, is_some_tail, bare_tail, stmts_of, CasePart, written_case_part, End, assigned, ended, NamedEnd, plain, declared, SimpleEnd, simple_with, written_end, is_simple_end, bare_end, ParenRest, written_rest, is_rest, keyset_behind, bare_rest, OpenRest, written_open, is_open_rest, keyset_open, bare_open}
+use Rattle.p416_reader.specs.internal.Actions.{first_exp, first_stmt, last_name, last_literal, last_type, without_name, without_literal, without_type, cleared, with_exps, with_stmt, with_parts, with_property, with_local, with_instance, with_decl, type_of}
+use Rattle.p416_reader.proofs.Forms.{is_full, is_of, is_argument, Suffix, written_suffix, is_suffix, with_suffix, bare_suffix, Tail, done, by, chosen, written_tail, is_tail, is_some_tail, stmts_of, CasePart, written_case_part, End, assigned, ended, NamedEnd, plain, declared, SimpleEnd, simple_with, written_end, is_simple_end, bare_end, ParenRest, written_rest, is_rest, keyset_behind, bare_rest, OpenRest, written_open, is_open_rest, keyset_open, bare_open}
 
 -- these, done one after another
 abbrev pub after_all : {A : Type 0} → (A → Built → Built) → List A → Built → Built

@@ -1,5 +1,5 @@
 -- The tokens that the grammar sees are as many as the text has, each at its place.
-use Rattle.std.proofs.Common.{◌≡◌, ℕ, zero, suc, ◌+◌, ◌<◌, ◌≤◌, List, [], ◌∷◌, ◌++◌, map, length, drop, Option, Some, refl, sym, ap, ◌∙◌, arith, append_assoc, append-nil}
+use Rattle.std.proofs.Common.{◌≡◌, ℕ, zero, suc, ◌<◌, ◌≤◌, List, [], ◌∷◌, ◌++◌, map, length, drop, Some, refl, sym, ap, ◌∙◌, arith, append_assoc, append-nil}
 use Rattle.std.proofs.lemmas.List.{map-append, drop_all}
 use Rattle.std.specs.Prelude.{slice_get, slice_index_or}
 use Rattle.token_division.specs.declared.division.Token.{Token}
@@ -7,7 +7,7 @@ use Rattle.p416_tok.specs.declared.kind.TokenKind16.{TokenKind16}
 use Rattle.p416_ast.specs.Grammar.Tokens.{Seen16}
 use Rattle.p416_reader.specs.declared.token.TokenView.{TokenView}
 use Rattle.p416_reader.specs.internal.Lexemes.{seen_of}
-use Rattle.p416_reader.specs.Seen.{Tokens, seen_at, seen_from, seen16}
+use Rattle.p416_reader.specs.Seen.{Tokens, seen_at, seen_from}
 
 -- the element at a place of a list that is a function of another
 pub there_mapped : {A C : Type 0} (f : A → C) (xs : List A) (i : ℕ) (d : A) → i < length xs → slice_get (map f xs) i ≡ Some (f (slice_index_or xs i d))

@@ -1,5 +1,5 @@
 -- What a text reads as is a syntax that a text can have.
-use Rattle.std.proofs.Common.{◌≡◌, ℕ, suc, ◌-◌, Bool, true, false, not, ◌&&◌, ◌||◌, if◌then◌else◌, List, [], ◌∷◌, take, drop, Option, Some, None, Result, Ok, refl, sym, ap, subst, ◌∙◌, bytes_eq}
+use Rattle.std.proofs.Common.{◌≡◌, ℕ, suc, Bool, true, false, not, ◌||◌, if◌then◌else◌, List, [], ◌∷◌, Option, Some, None, Result, Ok, refl, subst, bytes_eq}
 use Rattle.std.specs.Prelude.{IfOk}
 use Rattle.std.specs.List.{list_all}
 use Rattle.std.proofs.lemmas.Result.{IfOk-weaker}
@@ -18,9 +18,8 @@ use Rattle.p416_tok.specs.Lexemes.{lexeme_as, lexeme_in, lexemes16}
 use Rattle.p416_tok.proofs.Spelling.{tokens_spelled}
 use Rattle.p416_tok.proofs.Spelt.{all_spelt}
 use Rattle.p416_ast.specs.declared.grammar.program.Syntax16.{Syntax16}
-use Rattle.p416_ast.specs.Grammar.Tokens.{Seen16, is_spelt_seen, keyword_among, seen_as, seen_word}
+use Rattle.p416_ast.specs.Grammar.Tokens.{is_spelt_seen, keyword_among, seen_as, seen_word}
 use Rattle.p416_ast.specs.Grammar.Written.{written}
-use Rattle.p416_ast.specs.Grammar.Parentheses.{bare}
 use Rattle.p416_ast.specs.Grammar.Conditions.{is_syntax, without_parentheses}
 use Rattle.p416_ast.specs.Grammar.Spelt.{is_spelt16}
 use Rattle.text_reading.specs.declared.error.ReadError.{ReadError}
@@ -30,7 +29,7 @@ use Rattle.p416_reader.specs.internal.Machine.{IsRead16}
 use Rattle.p416_reader.proofs.Lists.{both, left_true, right_true, not_false}
 use Rattle.p416_reader.proofs.Bare.{bare_keeps}
 use Rattle.p416_reader.proofs.BareTokens.{Spelt, bare_spelt}
-use Rattle.p416_reader.proofs.Found.{found16}
+use Rattle.p416_reader.proofs.Clauses.{found16}
 
 -- a name or a reserved word
 

@@ -73,10 +73,14 @@ abbrev pub is_touched : Token TokenKind16 → Option (Token TokenKind16) → Boo
 is_touched token None = false
 is_touched token (Some next) = is_greater_kind next.kind && nat_eq token.to next.from
 
--- `bit<NUMBER` stands before this place
+-- the word `bit`, where it begins a type: behind a dot it is a member
+abbrev pub is_bit_type : List ℕ → Option (Token TokenKind16) → Option (Token TokenKind16) → Bool
+is_bit_type text before word = is_word_with text (bytes_eq (codes "bit")) word && not (is_of_kind is_dot_kind before)
+
+-- `bit<NUMBER` of a type stands before this place
 abbrev pub ends_bit : List ℕ → Tokens → ℕ → Bool
 ends_bit text all place =
-    is_of_kind is_number_kind (back all place 1) && (is_of_kind is_less_kind (back all place 2) && is_word_with text (bytes_eq (codes "bit")) (back all place 3))
+    is_of_kind is_number_kind (back all place 1) && (is_of_kind is_less_kind (back all place 2) && is_bit_type text (back all place 4) (back all place 3))
 
 -- `<bool` stands before this place
 abbrev pub ends_bool : List ℕ → Tokens → ℕ → Bool
@@ -90,20 +94,24 @@ is_past_type text all place = ends_bit text all place || (ends_bool text all pla
 abbrev pub follows_lookahead : List ℕ → Tokens → ℕ → Bool
 follows_lookahead text all place = is_word_with text (bytes_eq lookahead_text) (back all place 1) && is_of_kind is_dot_kind (back all place 2)
 
--- behind this place stands `bit` or `bool`; or a name and `>(`, or a name, a size in brackets and `>(`
+-- `bit` or `bool`
 abbrev pub is_bits : List ℕ → Bool
 is_bits octets = bytes_eq (codes "bit") octets || bytes_eq (codes "bool") octets
 
+-- a word that isn't reserved
 abbrev pub is_free : List ℕ → Bool
 is_free octets = not (is_reserved16 octets)
 
+-- `>(` stands so many places behind this place
 abbrev pub ends_type : Tokens → ℕ → ℕ → Bool
 ends_type all place steps = is_of_kind is_greater_kind (ahead all place steps) && is_of_kind is_paren_kind (ahead all place (steps + 1))
 
+-- a size in brackets and `>(` stand behind the token behind this place
 abbrev pub is_sized : Tokens → ℕ → Bool
 is_sized all place =
     is_of_kind is_bracket_kind (ahead all place 2) && (is_of_kind is_number_kind (ahead all place 3) && (is_of_kind is_bracket_end_kind (ahead all place 4) && ends_type all place 5))
 
+-- behind this place stands `bit` or `bool`; or a name and `>(`, or a name, a size in brackets and `>(`
 abbrev pub begins_type : List ℕ → Tokens → ℕ → Bool
 begins_type text all place =
     is_word_with text is_bits (ahead all place 1)

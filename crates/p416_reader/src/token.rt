@@ -3,7 +3,7 @@ ghost use Rattle.std.specs.Prelude.{◌≡◌, ◌<◌, length, true, not, ◌&&
 ghost use Rattle.std.specs.Str.{bytes_eq};
 ghost use Rattle.p416_ast.specs.Grammar.Tokens.{seen_word, keyword_among};
 ghost use Rattle.p416_tok.specs.Lexemes.{inner};
-ghost use Rattle.p416_reader.specs.Seen.{seen16, seen_at, back, ahead, is_touched, ends_bit, ends_bool, is_past_type, follows_lookahead, begins_type, is_sized, ends_type, seen_mark, seen_greater, seen_less, is_less_kind, is_greater_kind, is_dot_kind, is_paren_kind, is_bracket_kind, is_bracket_end_kind, is_number_kind, is_of_kind, is_word_with, is_bits, is_free};
+ghost use Rattle.p416_reader.specs.Seen.{seen16, seen_at, back, ahead, is_touched, is_bit_type, ends_bit, ends_bool, is_past_type, follows_lookahead, begins_type, is_sized, ends_type, seen_mark, seen_greater, seen_less, is_less_kind, is_greater_kind, is_dot_kind, is_paren_kind, is_bracket_kind, is_bracket_end_kind, is_number_kind, is_of_kind, is_word_with, is_bits, is_free};
 ghost use Rattle.p416_reader.specs.internal.Classes.{mark_number, word_number, note_number, include_number, known_text, is_mark, is_quoted, is_note, is_include, is_id, is_number, is_string, is_opens, is_word, text_of, literal_of};
 ghost use Rattle.p416_reader.specs.internal.Lexemes.{seen_of};
 
@@ -573,13 +573,20 @@ fn is_touched(token: Token16, next: Option<Token16>) -> bool
     }
 }
 
-/// Whether `bit<NUMBER` stands before this place.
+/// Whether `bit<NUMBER` of a type stands before this place.
 fn ends_bit(text: &[u8], tokens: &[Token16], place: usize) -> bool
     ensures { result ≡ ends_bit text.now tokens.now place }
 {
     is_number(back(tokens, place, 1))
         && is_less(back(tokens, place, 2))
-        && is_text(text, Keyword16::Bit.text(), back(tokens, place, 3))
+        && is_bit_type(text, back(tokens, place, 4), back(tokens, place, 3))
+}
+
+/// Whether the word is `bit` and begins a type: behind a dot it is a member.
+fn is_bit_type(text: &[u8], before: Option<Token16>, word: Option<Token16>) -> bool
+    ensures { result ≡ is_bit_type text.now before word }
+{
+    is_text(text, Keyword16::Bit.text(), word) && !is_dot(before)
 }
 
 /// Whether `<bool` stands before this place.

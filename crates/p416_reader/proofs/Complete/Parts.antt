@@ -1,5 +1,5 @@
 -- Annotations, types, parameters and members of enumerations: what is written so is read.
-use Rattle.std.proofs.Common.{◌≡◌, ℕ, ◌+◌, Bool, true, false, not, List, [], ◌∷◌, ◌++◌, Option, Some, None, refl, sym, ap, ◌∙◌, subst, append_assoc}
+use Rattle.std.proofs.Common.{◌≡◌, ℕ, ◌+◌, true, false, not, List, [], ◌∷◌, ◌++◌, Option, Some, None, refl, sym, ap, ◌∙◌, subst, append_assoc}
 use Rattle.std.specs.List.{list_all, list_any}
 use Rattle.predictive_parser.specs.Values.{newest, extended}
 use Rattle.predictive_parser.specs.Machine.{settle, goes_on, run}

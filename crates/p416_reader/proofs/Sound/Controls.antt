@@ -1,18 +1,14 @@
 -- That the rows of controls have the meaning of their words.
-use Rattle.std.proofs.Common.{◌≡◌, ℕ, Bool, true, false, not, ◌&&◌, ◌||◌, List, [], ◌∷◌, ◌++◌, map, Option, Some, None, refl, sym, ap, ap₂, subst, ◌∙◌, append_assoc, append-nil, bytes_eq}
+use Rattle.std.proofs.Common.{◌≡◌, ℕ, Bool, true, false, not, ◌&&◌, ◌||◌, List, [], ◌∷◌, ◌++◌, map, refl, sym, ap, ap₂, subst, ◌∙◌, append_assoc, append-nil, bytes_eq}
 use Rattle.std.specs.List.{flat_map, list_all}
 use Rattle.predictive_parser.proofs.Meanings.{MeansWord, RowsShow, NoneShows}
 use Rattle.predictive_parser.specs.Values.{newest, older, extended}
-use Rattle.p416_lexemes.specs.declared.keyword.Keyword16.{Keyword16}
 use Rattle.p416_lexemes.specs.declared.keyword.Keyword16.TheVariants as key
-use Rattle.p416_lexemes.specs.declared.lexeme.Literal16.{Literal16}
 use Rattle.p416_lexemes.specs.Keywords.{keyword_text16}
 use Rattle.p416_ast.specs.declared.grammar.parts.Note.{Note}
 use Rattle.p416_ast.specs.declared.grammar.parts.Note.TheVariants as note
-use Rattle.p416_ast.specs.declared.grammar.parts.Type16.{Type16}
 use Rattle.p416_ast.specs.declared.grammar.parts.Param.{Param}
 use Rattle.p416_ast.specs.declared.grammar.parts.Member.{Member}
-use Rattle.p416_ast.specs.declared.grammar.controls.Instance.{Instance}
 use Rattle.p416_ast.specs.declared.grammar.controls.Instance.TheVariants as instance
 use Rattle.p416_ast.specs.declared.grammar.controls.Action16.{Action16}
 use Rattle.p416_ast.specs.declared.grammar.controls.ActionName.{ActionName}
@@ -25,11 +21,10 @@ use Rattle.p416_ast.specs.declared.grammar.controls.Local.{Local}
 use Rattle.p416_ast.specs.declared.grammar.controls.Local.TheVariants as local
 use Rattle.p416_ast.specs.Grammar.Tree.{Exp16, no_arguments, Stmt16, no_statements}
 use Rattle.p416_ast.specs.Grammar.Tokens.{Seen16, id, quoted, number, comma, colon, semicolon, equals, less, greater, paren_open, paren_close, brace_open, brace_close}
-use Rattle.p416_ast.specs.Grammar.Written.{by_commas, written_option, written_initial, written_exp, written_stmt, written_notes, written_type, written_param, written_params, written_member, written_block, written_instance, written_action, written_action_name, written_listed_action, written_key, property_word, written_property_value, written_property, written_table, written_local}
-use Rattle.p416_ast.specs.Grammar.Parentheses.{bare_exp, bare_stmt, bare_instance, bare_key, bare_property, bare_table, bare_local}
-use Rattle.p416_ast.specs.Grammar.Conditions.{with_parentheses, is_among, all_different, is_option, is_note, is_named_once, are_notes, are_arguments, is_stmt, statements, is_var, is_instance, is_action, is_key, is_property, property_texts, are_properties, is_table, is_local}
+use Rattle.p416_ast.specs.Grammar.Written.{by_commas, written_exp, written_stmt, written_notes, written_param, written_member, written_block, written_instance, written_action, written_action_name, written_listed_action, written_key, property_word, written_property_value, written_property, written_table, written_local}
+use Rattle.p416_ast.specs.Grammar.Parentheses.{bare_stmt, bare_key, bare_property}
+use Rattle.p416_ast.specs.Grammar.Conditions.{with_parentheses, is_among, all_different, is_option, is_note, is_named_once, are_notes, is_stmt, statements, is_instance, is_action, is_key, is_property, property_texts, are_properties, is_table, is_local}
 use Rattle.p416_reader.specs.declared.symbols.Word.TheVariants as word
-use Rattle.p416_reader.specs.declared.symbols.BodyAction.TheVariants as body_act
 use Rattle.p416_reader.specs.declared.symbols.StateAction.TheVariants as state_act
 use Rattle.p416_reader.specs.declared.symbols.ControlWord.{ControlWord}
 use Rattle.p416_reader.specs.declared.symbols.ControlWord.TheVariants as control
@@ -39,8 +34,8 @@ use Rattle.p416_reader.specs.internal.Classes.{is_quoted}
 use Rattle.p416_reader.specs.internal.Actions.{cleared, with_exps, with_stmt, with_property, put_state, put_control}
 use Rattle.p416_reader.specs.internal.Rows.{grammar16}
 use Rattle.p416_reader.proofs.Forms.{is_full, is_of, Tail, written_tail, is_tail, with_tail, arguments_of, stmts_of}
-use Rattle.p416_reader.proofs.Meaning.{meaning16, after_all, with_exp, put_tail, extended_by, newest_notes, add_stmt, are_statements, put_argument, StayDifferent, table_words, needed_text, bare_notes, written_noted, is_noted, ControlSpells, add_key, add_name, add_property, add_local, after_control}
-use Rattle.p416_reader.proofs.Lists.{extended_by_list, all_added, both, left_true, right_true, not_true, stay_none, stay_more, stay_extended, map_one, among_one_more}
+use Rattle.p416_reader.proofs.Meaning.{meaning16, after_all, with_exp, put_tail, extended_by, newest_notes, add_stmt, put_argument, StayDifferent, table_words, needed_text, bare_notes, written_noted, is_noted, ControlSpells, add_key, add_name, add_property, add_local, after_control}
+use Rattle.p416_reader.proofs.Lists.{extended_by_list, all_added, both, right_true, not_true, stay_none, stay_more, stay_extended, map_one, among_one_more}
 use Rattle.p416_reader.proofs.Fixed.{fixed16, by_name, by_number, by_test, is_quoted_only}
 use Rattle.p416_reader.proofs.ExpressionLaws.{written_arguments, bare_arguments, are_many, arguments_built, written_stmts, stmts_are, stmts_built}
 use Rattle.p416_reader.proofs.Sound.Expressions.{full_tokens, full_is, full_built}

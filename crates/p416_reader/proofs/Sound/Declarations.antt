@@ -1,43 +1,37 @@
 -- That the rows of declarations have the meaning of their words.
-use Rattle.std.proofs.Common.{◌≡◌, ℕ, Bool, true, false, ◌&&◌, List, [], ◌∷◌, ◌++◌, map, refl, sym, ap, ap₂, subst, ◌∙◌, append_assoc, append-nil}
+use Rattle.std.proofs.Common.{◌≡◌, ℕ, true, ◌&&◌, List, [], ◌∷◌, ◌++◌, map, refl, sym, ap, ap₂, subst, ◌∙◌, append_assoc}
 use Rattle.std.specs.List.{flat_map, list_all}
 use Rattle.predictive_parser.proofs.Meanings.{MeansWord, RowsShow, NoneShows}
-use Rattle.predictive_parser.specs.Values.{newest, older, extended}
+use Rattle.predictive_parser.specs.Values.{newest, older}
 use Rattle.p416_lexemes.specs.declared.keyword.Keyword16.TheVariants as key
 use Rattle.p416_lexemes.specs.declared.lexeme.Include16.TheVariants as include
-use Rattle.p416_lexemes.specs.declared.lexeme.Literal16.{Literal16}
 use Rattle.p416_ast.specs.declared.grammar.parts.Note.{Note}
 use Rattle.p416_ast.specs.declared.grammar.parts.Type16.{Type16}
 use Rattle.p416_ast.specs.declared.grammar.parts.Param.{Param}
 use Rattle.p416_ast.specs.declared.grammar.parts.BitField.{BitField}
 use Rattle.p416_ast.specs.declared.grammar.parts.StructField.{StructField}
-use Rattle.p416_ast.specs.declared.grammar.parts.Header16.{Header16}
-use Rattle.p416_ast.specs.declared.grammar.parts.Struct16.{Struct16}
 use Rattle.p416_ast.specs.declared.grammar.parsers.Var.{Var}
 use Rattle.p416_ast.specs.declared.grammar.parsers.State.{State}
-use Rattle.p416_ast.specs.declared.grammar.parsers.Parser16.{Parser16}
 use Rattle.p416_ast.specs.declared.grammar.controls.Instance.{Instance}
 use Rattle.p416_ast.specs.declared.grammar.controls.Local.{Local}
-use Rattle.p416_ast.specs.declared.grammar.controls.Control16.{Control16}
 use Rattle.p416_ast.specs.declared.grammar.program.Decl16.{Decl16}
 use Rattle.p416_ast.specs.declared.grammar.program.Decl16.TheVariants as decl
 use Rattle.p416_ast.specs.Grammar.Tree.{Stmt16, no_statements}
 use Rattle.p416_ast.specs.Grammar.Tokens.{Seen16, id, quoted, number, include_line, less, greater, comma, semicolon, paren_open, paren_close, brace_open, brace_close}
-use Rattle.p416_ast.specs.Grammar.Written.{after_commas, by_commas, written_notes, written_type, written_param, written_stmt, written_var, written_state, written_instance, written_object, written_block, written_local, written_control, written_bit_field, written_header, written_struct_field, written_struct, written_parser, written_decl, written_block_name, written_main}
-use Rattle.p416_ast.specs.Grammar.Parentheses.{bare_var, bare_state, bare_stmt, bare_local, bare_decl}
-use Rattle.p416_ast.specs.Grammar.Conditions.{with_parentheses, is_some_listed, is_note, is_named_once, are_notes, is_var, is_state, is_instance, is_local, is_stmt, statements, is_struct_field, is_struct, is_parser, is_control, is_decl}
+use Rattle.p416_ast.specs.Grammar.Written.{after_commas, written_notes, written_type, written_param, written_stmt, written_var, written_state, written_instance, written_block, written_local, written_control, written_bit_field, written_struct_field, written_parser, written_decl, written_block_name, written_main}
+use Rattle.p416_ast.specs.Grammar.Parentheses.{bare_var, bare_state, bare_local}
+use Rattle.p416_ast.specs.Grammar.Conditions.{with_parentheses, is_some_listed, are_notes, is_var, is_state, is_instance, is_local, is_stmt, statements, is_struct_field, is_decl}
 use Rattle.p416_reader.specs.declared.symbols.Word.TheVariants as word
-use Rattle.p416_reader.specs.declared.symbols.PartAction.TheVariants as part_act
 use Rattle.p416_reader.specs.declared.symbols.StateAction.TheVariants as state_act
 use Rattle.p416_reader.specs.declared.symbols.ControlAction.TheVariants as control_act
 use Rattle.p416_reader.specs.declared.symbols.DeclWord.{DeclWord}
 use Rattle.p416_reader.specs.declared.symbols.DeclWord.TheVariants as declare
 use Rattle.p416_reader.specs.declared.symbols.DeclAction.TheVariants as act
 use Rattle.p416_reader.specs.declared.built.Built.{Built}
-use Rattle.p416_reader.specs.internal.Actions.{cleared, with_stmt, put_part, put_state, put_control, put_decl}
+use Rattle.p416_reader.specs.internal.Actions.{cleared, with_stmt, put_state, put_control, put_decl}
 use Rattle.p416_reader.specs.internal.Rows.{grammar16}
 use Rattle.p416_reader.proofs.Forms.{stmts_of}
-use Rattle.p416_reader.proofs.Meaning.{meaning16, after_all, extended_by, add_stmt, are_statements, add_var, add_state, add_local, add_decl, add_block, Program, written_decls, is_program, DeclSpells, after_decl}
+use Rattle.p416_reader.proofs.Meaning.{meaning16, after_all, extended_by, add_stmt, add_var, add_state, add_local, add_decl, add_block, Program, written_decls, is_program, after_decl}
 use Rattle.p416_reader.proofs.Lists.{extended_by_list, all_added, both, left_true, right_true}
 use Rattle.p416_reader.proofs.Fixed.{fixed16, by_name, by_number}
 use Rattle.p416_reader.proofs.ExpressionLaws.{written_stmts, stmts_are, stmts_built}

@@ -1,11 +1,10 @@
 -- That the rows of expressions have the meaning of their words.
-use Rattle.std.proofs.Common.{◌≡◌, ℕ, suc, Bool, true, false, ◌&&◌, ◌||◌, nat_eq, nat_le, if◌then◌else◌, List, [], ◌∷◌, ◌++◌, map, codes, Option, Some, None, refl, sym, ap, ap₂, subst, ◌∙◌, append_assoc, append-nil, bytes_eq}
+use Rattle.std.proofs.Common.{◌≡◌, ℕ, suc, Bool, true, false, ◌&&◌, ◌||◌, nat_eq, nat_le, if◌then◌else◌, List, [], ◌∷◌, ◌++◌, Option, Some, None, refl, sym, ap, ap₂, subst, ◌∙◌, append_assoc, append-nil, bytes_eq}
 use Rattle.std.specs.List.{flat_map, list_all}
-use Rattle.predictive_parser.proofs.Meanings.{Shows, MeansWord, RowsShow, NoneShows}
+use Rattle.predictive_parser.proofs.Meanings.{Shows, MeansWord, RowsShow}
 use Rattle.predictive_parser.specs.Values.{older}
 use Rattle.p416_lexemes.specs.declared.keyword.Keyword16.{Keyword16}
 use Rattle.p416_lexemes.specs.declared.keyword.Keyword16.TheVariants as key
-use Rattle.p416_lexemes.specs.declared.lexeme.Literal16.{Literal16}
 use Rattle.p416_lexemes.specs.declared.mark.Mark16.{Mark16}
 use Rattle.p416_lexemes.specs.declared.mark.Mark16.TheVariants as mark_of
 use Rattle.p416_lexemes.specs.Keywords.{keyword_text16, all_keywords16, is_reserved16, is_among16}
@@ -15,11 +14,10 @@ use Rattle.p416_ast.specs.declared.grammar.node.UnaryOperator.TheVariants as una
 use Rattle.p416_ast.specs.declared.grammar.node.BinaryOperator.{BinaryOperator}
 use Rattle.p416_ast.specs.declared.grammar.node.BinaryOperator.TheVariants as binary_of
 use Rattle.p416_ast.specs.Grammar.Tree.{Exp16, literal, truth, error, name, member, index, slice, call, lookahead, cast, unary, binary, choice, parenthesized, no_arguments, argument, listed}
-use Rattle.p416_ast.specs.Grammar.Tokens.{Seen16, id, quoted, number, mark, string, annotation, include_line, joined, opens, keyword_among, seen_as, seen_word, lookahead_text, dot, colon, comma, less, greater, question, paren_open, paren_close, brace_open, brace_close, bracket_open, bracket_close}
+use Rattle.p416_ast.specs.Grammar.Tokens.{Seen16, id, quoted, number, mark, string, annotation, include_line, joined, opens, keyword_among, seen_as, seen_word, lookahead_text, dot, colon, comma, less, greater, question, paren_open, paren_close, brace_open, brace_close}
 use Rattle.p416_ast.specs.Grammar.Operators.{binary_tokens, binary_power}
 use Rattle.p416_ast.specs.Grammar.Written.{after_commas, by_commas, written_exp, written_type}
-use Rattle.p416_ast.specs.Grammar.Parentheses.{bare_exp}
-use Rattle.p416_ast.specs.Grammar.Conditions.{with_parentheses, is_exp_at, one, is_parenthesized}
+use Rattle.p416_ast.specs.Grammar.Conditions.{is_parenthesized}
 use Rattle.p416_reader.specs.declared.symbols.Word.TheVariants as word
 use Rattle.p416_reader.specs.declared.symbols.BodyWord.{BodyWord}
 use Rattle.p416_reader.specs.declared.symbols.BodyWord.TheVariants as body
@@ -28,11 +26,11 @@ use Rattle.p416_reader.specs.declared.built.Built.{Built}
 use Rattle.p416_reader.specs.internal.Classes.{infix_of, is_infix, is_mark}
 use Rattle.p416_reader.specs.internal.Actions.{first_exp, last_literal, put_body, with_exps}
 use Rattle.p416_reader.specs.internal.Rows.{Sym, grammar16, infix_more, infix_symbols, infix_rest, operator_rows}
-use Rattle.p416_reader.proofs.Forms.{is_full, is_of, is_argument, arguments_of, arguments_on, Suffix, dotted, at, cut, called, looked, written_suffix, is_suffix, with_suffixes, Tail, done, by, chosen, written_tail, is_tail, is_some_tail, with_tail}
+use Rattle.p416_reader.proofs.Forms.{is_full, is_of, is_argument, arguments_of, Suffix, dotted, at, cut, called, looked, written_suffix, is_suffix, with_suffixes, Tail, by, chosen, written_tail, is_tail, with_tail}
 use Rattle.p416_reader.proofs.Meaning.{meaning16, after_all, with_exp, put_suffix, put_argument, put_tail}
-use Rattle.p416_reader.proofs.Lists.{both, left_true, right_true}
+use Rattle.p416_reader.proofs.Lists.{both}
 use Rattle.p416_reader.proofs.Fixed.{fixed16, by_name, by_number, by_word, by_test, is_mark_only}
-use Rattle.p416_reader.proofs.ExpressionLaws.{weaker, within_same, written_arguments, bare_arguments, are_many, arguments_built, written_suffixes, suffixes_are, suffixes_built, written_tails, tail_is, tails_built}
+use Rattle.p416_reader.proofs.ExpressionLaws.{weaker, written_arguments, bare_arguments, are_many, arguments_built, written_suffixes, suffixes_are, suffixes_built, written_tails, tail_is, tails_built}
 
 abbrev pub Means : BodyWord → Built → List Seen16 → Built → Type 0
 Means w b us end = MeansWord grammar16 fixed16 meaning16 (word.Body w) b us end

@@ -1,5 +1,5 @@
 -- That the grammar means what its words are given as their meaning: what is read is spelled so.
-use Rattle.std.proofs.Common.{◌≡◌, ℕ, List, Ok, sym}
+use Rattle.std.proofs.Common.{◌≡◌, List, Ok, sym}
 use Rattle.predictive_parser.specs.Grammar.{parse}
 use Rattle.predictive_parser.proofs.Meanings.{RowsShow, NoneShows, IsRight, sound_word}
 use Rattle.p416_ast.specs.Grammar.Tokens.{Seen16}

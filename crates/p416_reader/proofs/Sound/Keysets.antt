@@ -1,23 +1,19 @@
 -- Keysets: what stands behind an expression that may be in the parentheses of a tuple, or in its own.
-use Rattle.std.proofs.Common.{◌≡◌, ℕ, Bool, true, false, not, ◌&&◌, ◌||◌, List, [], ◌∷◌, ◌++◌, map, refl, sym, ap, ap₂, subst, ◌∙◌, append_assoc, append-nil}
+use Rattle.std.proofs.Common.{◌≡◌, true, false, not, ◌&&◌, ◌||◌, List, [], ◌∷◌, ◌++◌, map, refl, sym, ap, ap₂, ◌∙◌, append_assoc, append-nil}
 use Rattle.std.specs.List.{flat_map, list_all}
-use Rattle.predictive_parser.specs.Values.{older}
-use Rattle.p416_ast.specs.declared.grammar.parsers.Simple.{Simple}
-use Rattle.p416_ast.specs.declared.grammar.parsers.Simple.TheVariants as simple
-use Rattle.p416_ast.specs.declared.grammar.parsers.Keyset.{Keyset}
 use Rattle.p416_ast.specs.declared.grammar.parsers.Keyset.TheVariants as keyset
 use Rattle.p416_ast.specs.Grammar.Tree.{Exp16, member, index, slice, call, lookahead, binary, choice, parenthesized}
-use Rattle.p416_ast.specs.Grammar.Tokens.{Seen16, comma, paren_open, paren_close, in_parens}
-use Rattle.p416_ast.specs.Grammar.Written.{after_commas, by_commas, written_exp, written_simple, written_keyset}
+use Rattle.p416_ast.specs.Grammar.Tokens.{Seen16, paren_open, paren_close}
+use Rattle.p416_ast.specs.Grammar.Written.{after_commas, written_exp, written_simple, written_keyset}
 use Rattle.p416_ast.specs.Grammar.Parentheses.{bare_exp, bare_simple, bare_keyset}
 use Rattle.p416_ast.specs.Grammar.Conditions.{with_parentheses, is_simple, is_parenthesized, is_parenthesized_value, is_keyset}
 use Rattle.p416_reader.specs.declared.built.Built.{Built}
 use Rattle.p416_reader.specs.internal.Actions.{cleared, first_exp}
-use Rattle.p416_reader.proofs.Forms.{is_full, is_of, Suffix, called, looked, at, cut, dotted, written_suffix, is_suffix, with_suffix, with_suffixes, arguments_of, bare_suffix, Tail, done, by, chosen, written_tail, is_tail, is_some_tail, with_tail, bare_tail, SimpleEnd, alone, masked, ranged, simple_with, written_end, is_simple_end, is_some_end, bare_end, ParenRest, single, longer, is_some_suffix, written_rest, is_rest, keyset_behind, bare_rest, OpenRest, tuple, closes, written_open, is_open_rest, keyset_open, bare_open}
-use Rattle.p416_reader.proofs.Meaning.{after_all, with_exp, put_suffix, put_tail, same_exp}
+use Rattle.p416_reader.proofs.Forms.{is_full, Suffix, called, looked, at, cut, dotted, written_suffix, is_suffix, with_suffixes, arguments_of, bare_suffix, Tail, done, by, chosen, written_tail, is_tail, is_some_tail, with_tail, bare_tail, SimpleEnd, alone, masked, ranged, simple_with, written_end, is_simple_end, is_some_end, bare_end, ParenRest, single, longer, is_some_suffix, written_rest, is_rest, keyset_behind, bare_rest, OpenRest, tuple, closes, written_open, is_open_rest, keyset_open, bare_open}
+use Rattle.p416_reader.proofs.Meaning.{after_all, put_suffix, put_tail, same_exp}
 use Rattle.p416_reader.proofs.Lists.{both, left_true, right_true, not_false}
-use Rattle.p416_reader.proofs.ExpressionLaws.{weaker, written_suffixes, suffixes_are, written_tails, bare_suffixes, bare_tails}
-use Rattle.p416_reader.proofs.Sound.Expressions.{full_tokens, full_is, full_built, plain_suffixes}
+use Rattle.p416_reader.proofs.ExpressionLaws.{weaker, written_suffixes, suffixes_are, bare_suffixes, bare_tails}
+use Rattle.p416_reader.proofs.Sound.Expressions.{full_tokens, full_is, plain_suffixes}
 
 -- a value, a mask or a range
 

@@ -1,9 +1,8 @@
 -- That the rows of annotations, types, parameters and members have the meaning of their words.
-use Rattle.std.proofs.Common.{◌≡◌, ℕ, Bool, true, false, not, ◌&&◌, ◌||◌, List, [], ◌∷◌, ◌++◌, Option, Some, None, refl, sym, ap, ap₂, subst, ◌∙◌, append_assoc, append-nil}
-use Rattle.std.specs.List.{flat_map, list_all, list_any}
+use Rattle.std.proofs.Common.{◌≡◌, ℕ, true, false, not, ◌||◌, List, [], ◌∷◌, ◌++◌, Some, None, refl, sym, ap, ap₂, subst, ◌∙◌, append_assoc, append-nil}
+use Rattle.std.specs.List.{list_any}
 use Rattle.predictive_parser.proofs.Meanings.{MeansWord, RowsShow, NoneShows}
 use Rattle.predictive_parser.specs.Values.{newest, older, extended}
-use Rattle.p416_lexemes.specs.declared.keyword.Keyword16.{Keyword16}
 use Rattle.p416_lexemes.specs.declared.keyword.Keyword16.TheVariants as key
 use Rattle.p416_lexemes.specs.declared.lexeme.Annotation16.TheVariants as note_of
 use Rattle.p416_lexemes.specs.declared.lexeme.Literal16.{Literal16}
@@ -20,8 +19,8 @@ use Rattle.p416_ast.specs.declared.grammar.parts.MeterType.TheVariants as meter
 use Rattle.p416_ast.specs.declared.grammar.parts.CloneType.TheVariants as clone
 use Rattle.p416_ast.specs.Grammar.Members.{enumeration_text}
 use Rattle.p416_ast.specs.Grammar.Tokens.{Seen16, id, quoted, number, annotation, dot, comma, paren_open, paren_close, string}
-use Rattle.p416_ast.specs.Grammar.Written.{after_commas, written_number, written_note, written_notes, written_type, written_param}
-use Rattle.p416_ast.specs.Grammar.Conditions.{is_note, is_name_note, is_named_once}
+use Rattle.p416_ast.specs.Grammar.Written.{after_commas, written_number, written_note, written_type, written_param}
+use Rattle.p416_ast.specs.Grammar.Conditions.{is_name_note, is_named_once}
 use Rattle.p416_reader.specs.declared.symbols.Word.TheVariants as word
 use Rattle.p416_reader.specs.declared.symbols.PartWord.{PartWord}
 use Rattle.p416_reader.specs.declared.symbols.PartWord.TheVariants as part
@@ -31,7 +30,7 @@ use Rattle.p416_reader.specs.internal.Classes as classes
 use Rattle.p416_reader.specs.internal.Actions.{put_part}
 use Rattle.p416_reader.specs.internal.Rows.{grammar16}
 use Rattle.p416_reader.proofs.Meaning.{meaning16, extended_by, newest_notes, PartSpells}
-use Rattle.p416_reader.proofs.Lists.{extended_by_list, both, not_true, not_false}
+use Rattle.p416_reader.proofs.Lists.{extended_by_list, not_true}
 use Rattle.p416_reader.proofs.Fixed.{fixed16, by_name, by_number, by_string, by_test, is_note_only}
 
 abbrev pub Means : PartWord → Built → List Seen16 → Built → Type 0

@@ -1,18 +1,15 @@
 -- That the rows of statements have the meaning of their words.
-use Rattle.std.proofs.Common.{◌≡◌, ℕ, Bool, true, false, not, ◌&&◌, List, [], ◌∷◌, ◌++◌, map, Option, Some, None, refl, sym, ap, ap₂, subst, ◌∙◌, append_assoc, append-nil}
+use Rattle.std.proofs.Common.{◌≡◌, ℕ, true, not, ◌&&◌, List, [], ◌∷◌, ◌++◌, Option, Some, None, refl, sym, ap, ap₂, subst, ◌∙◌, append_assoc, append-nil}
 use Rattle.std.specs.List.{flat_map, list_all}
-use Rattle.std.specs.Option.{option_map}
 use Rattle.predictive_parser.proofs.Meanings.{NoneShows}
 use Rattle.p416_lexemes.specs.declared.keyword.Keyword16.TheVariants as key
-use Rattle.p416_lexemes.specs.declared.lexeme.Literal16.{Literal16}
 use Rattle.p416_lexemes.specs.declared.mark.Mark16.TheVariants as mark_of
 use Rattle.p416_ast.specs.declared.grammar.parts.Type16.{Type16}
 use Rattle.p416_ast.specs.declared.grammar.parts.Type16.TheVariants as kind
 use Rattle.p416_ast.specs.declared.grammar.node.CaseLabel.TheVariants as label
 use Rattle.p416_ast.specs.Grammar.Tree.{Exp16, name, index, Stmt16, no_statements, block, empty, var, var_is, assign, expression, if_then, if_else, switch, no_cases}
 use Rattle.p416_ast.specs.Grammar.Tokens.{Seen16, id, quoted, number, dot, colon, equals, semicolon, less, greater, lookahead_text, paren_open, paren_close, brace_open, brace_close}
-use Rattle.p416_ast.specs.Grammar.Written.{written_option, written_exp, written_type, written_initial, written_var_of, written_stmt}
-use Rattle.p416_ast.specs.Grammar.Parentheses.{bare_exp, bare_stmt}
+use Rattle.p416_ast.specs.Grammar.Written.{written_option, written_exp, written_initial, written_var_of, written_stmt}
 use Rattle.p416_ast.specs.Grammar.Conditions.{is_option, is_call, ends_in_if}
 use Rattle.p416_reader.specs.declared.symbols.Word.TheVariants as word
 use Rattle.p416_reader.specs.declared.symbols.BodyWord.{BodyWord}
@@ -20,13 +17,13 @@ use Rattle.p416_reader.specs.declared.symbols.BodyWord.TheVariants as body
 use Rattle.p416_reader.specs.declared.symbols.BodyAction.TheVariants as act
 use Rattle.p416_reader.specs.declared.built.Built.{Built}
 use Rattle.p416_reader.specs.internal.Classes.{is_type_like, last_exp, is_mark, is_quoted}
-use Rattle.p416_reader.specs.internal.Actions.{put_body, with_exps, with_stmts, type_of}
+use Rattle.p416_reader.specs.internal.Actions.{put_body, with_stmts}
 use Rattle.p416_reader.specs.internal.Rows.{grammar16}
 use Rattle.p416_reader.proofs.Forms.{is_full, is_of, Suffix, written_suffix, is_suffix, dotted, with_suffixes, Tail, done, written_tail, is_tail, with_tail, stmts_of, CasePart, written_case_part, cases_on, End, assigned, ended, NamedEnd, plain, declared}
-use Rattle.p416_reader.proofs.Meaning.{meaning16, after_all, with_exp, put_suffix, put_tail, is_statement, are_statements, add_stmt, put_stmt, put_end, var_of, put_var_end, put_named_end, put_else, put_case_part, is_case_part, EndSpells, VarEndSpells, NamedEndSpells, ElseSpells}
+use Rattle.p416_reader.proofs.Meaning.{meaning16, after_all, with_exp, put_suffix, put_tail, is_statement, are_statements, add_stmt, put_stmt, put_end, var_of, put_var_end, put_named_end, put_else, put_case_part, is_case_part, EndSpells, NamedEndSpells, ElseSpells}
 use Rattle.p416_reader.proofs.Lists.{both, not_true, not_false}
 use Rattle.p416_reader.proofs.Fixed.{fixed16, by_name, by_number, by_name_where, by_test, is_mark_only, is_quoted_only}
-use Rattle.p416_reader.proofs.ExpressionLaws.{weaker, written_suffixes, suffixes_are, suffixes_built, written_tails, tail_is, tails_built, call_is, open_is, Named, by_itself, indexed, named_is, written_stmts, stmts_are, stmts_built, written_cases, cases_are, cases_built}
+use Rattle.p416_reader.proofs.ExpressionLaws.{weaker, written_suffixes, suffixes_are, suffixes_built, written_tails, tails_built, call_is, open_is, Named, by_itself, indexed, named_is, written_stmts, stmts_are, stmts_built, written_cases, cases_are, cases_built}
 use Rattle.p416_reader.proofs.Sound.Expressions as exps
 use Rattle.p416_reader.proofs.Sound.Expressions.{Means, Rows, full_tokens, full_is, full_built}
 

@@ -1,14 +1,10 @@
 -- That the rows of parsers and their states have the meaning of their words.
-use Rattle.std.proofs.Common.{◌≡◌, ℕ, Bool, true, false, not, ◌&&◌, ◌||◌, List, [], ◌∷◌, ◌++◌, map, Option, Some, None, refl, sym, ap, ap₂, subst, ◌∙◌, append_assoc, append-nil}
+use Rattle.std.proofs.Common.{◌≡◌, ℕ, true, false, ◌&&◌, ◌||◌, List, [], ◌∷◌, ◌++◌, map, Option, Some, None, refl, sym, ap, ap₂, subst, ◌∙◌, append_assoc}
 use Rattle.std.specs.List.{flat_map, list_all}
-use Rattle.std.specs.Option.{option_map}
 use Rattle.predictive_parser.proofs.Meanings.{MeansWord, RowsShow, NoneShows}
-use Rattle.predictive_parser.specs.Values.{older, extended}
 use Rattle.p416_lexemes.specs.declared.keyword.Keyword16.TheVariants as key
-use Rattle.p416_lexemes.specs.declared.lexeme.Literal16.{Literal16}
 use Rattle.p416_ast.specs.declared.grammar.parts.Type16.{Type16}
 use Rattle.p416_ast.specs.declared.grammar.node.CastType.TheVariants as cast_to
-use Rattle.p416_ast.specs.declared.grammar.parsers.Var.{Var}
 use Rattle.p416_ast.specs.declared.grammar.parsers.Target.{Target}
 use Rattle.p416_ast.specs.declared.grammar.parsers.Target.TheVariants as target_of
 use Rattle.p416_ast.specs.declared.grammar.parsers.Simple.{Simple}
@@ -19,26 +15,25 @@ use Rattle.p416_ast.specs.declared.grammar.parsers.SelectCase.{SelectCase}
 use Rattle.p416_ast.specs.declared.grammar.parsers.Transition.{Transition}
 use Rattle.p416_ast.specs.declared.grammar.parsers.Transition.TheVariants as transition_of
 use Rattle.p416_ast.specs.declared.grammar.parsers.State.{State}
-use Rattle.p416_ast.specs.Grammar.Tree.{Exp16, cast, parenthesized, Stmt16, no_statements}
+use Rattle.p416_ast.specs.Grammar.Tree.{Exp16, cast, parenthesized, Stmt16}
 use Rattle.p416_ast.specs.Grammar.Tokens.{Seen16, id, quoted, number, less, greater, comma, colon, semicolon, equals, mask, dots, paren_open, paren_close, brace_open, brace_close}
-use Rattle.p416_ast.specs.Grammar.Written.{written_option, after_commas, by_commas, written_type, written_initial, written_exp, written_stmt, written_var, written_target, written_simple, written_keyset, written_case, written_transition, written_state}
-use Rattle.p416_ast.specs.Grammar.Parentheses.{bare_exp, bare_stmt, bare_simple, bare_keyset, bare_case}
+use Rattle.p416_ast.specs.Grammar.Written.{written_option, after_commas, written_type, written_initial, written_exp, written_stmt, written_var, written_target, written_simple, written_keyset, written_case, written_transition, written_state}
+use Rattle.p416_ast.specs.Grammar.Parentheses.{bare_exp, bare_simple, bare_keyset, bare_case}
 use Rattle.p416_ast.specs.Grammar.Conditions.{with_parentheses, is_option, is_stmt, statements, is_parenthesized, is_var, is_simple, is_keyset, is_case, is_transition, is_state}
 use Rattle.p416_reader.specs.declared.symbols.Word.TheVariants as word
-use Rattle.p416_reader.specs.declared.symbols.BodyWord.TheVariants as body_word
 use Rattle.p416_reader.specs.declared.symbols.StateWord.{StateWord}
 use Rattle.p416_reader.specs.declared.symbols.StateWord.TheVariants as state
 use Rattle.p416_reader.specs.declared.symbols.StateAction.TheVariants as act
 use Rattle.p416_reader.specs.declared.built.Built.{Built}
-use Rattle.p416_reader.specs.internal.Actions.{cleared, first_exp, with_stmt, put_state}
+use Rattle.p416_reader.specs.internal.Actions.{cleared, first_exp, put_state}
 use Rattle.p416_reader.specs.internal.Rows.{grammar16}
-use Rattle.p416_reader.proofs.Forms.{is_full, is_of, Suffix, written_suffix, is_suffix, with_suffixes, bare_suffix, Tail, done, written_tail, is_tail, is_some_tail, with_tail, bare_tail, stmts_of, is_some_end, SimpleEnd, alone, masked, ranged, simple_with, written_end, is_simple_end, bare_end, ParenRest, single, longer, written_rest, is_rest, keyset_behind, OpenRest, tuple, closes, written_open, is_open_rest, keyset_open}
-use Rattle.p416_reader.proofs.Meaning.{meaning16, after_all, with_exp, put_suffix, put_tail, add_stmt, are_statements, put_simple, put_keyset, add_simple, add_case, put_transition, add_exp, add_var, add_state, same_exp, after_state, BodySpells, StateSpells}
-use Rattle.p416_reader.proofs.Lists.{all_added, both, left_true, right_true, not_false}
+use Rattle.p416_reader.proofs.Forms.{is_full, is_of, Suffix, is_suffix, bare_suffix, Tail, done, written_tail, is_tail, is_some_tail, with_tail, bare_tail, stmts_of, is_some_end, SimpleEnd, alone, masked, ranged, simple_with, written_end, is_simple_end, bare_end, single, longer, is_rest, keyset_behind, tuple, closes, keyset_open}
+use Rattle.p416_reader.proofs.Meaning.{meaning16, after_all, with_exp, put_suffix, put_tail, put_simple, put_keyset, add_simple, add_case, put_transition, add_exp, add_state, same_exp, after_state}
+use Rattle.p416_reader.proofs.Lists.{all_added, both}
 use Rattle.p416_reader.proofs.Fixed.{fixed16, by_name, by_number}
 use Rattle.p416_reader.proofs.ExpressionLaws.{written_stmts, stmts_are, stmts_built}
 use Rattle.p416_reader.proofs.Sound.Expressions.{full_tokens, full_is, full_built}
-use Rattle.p416_reader.proofs.Sound.Keysets.{with_is, bare_with, written_with, simple_tokens, plain_tail, plain_with, one_is, open_tokens, open_is, bare_opened, suffixes_first, suffixes_clear, tail_first, tail_clear}
+use Rattle.p416_reader.proofs.Sound.Keysets.{with_is, bare_with, simple_tokens, plain_tail, plain_with, one_is, open_tokens, open_is, bare_opened, suffixes_first, suffixes_clear, tail_first, tail_clear}
 
 abbrev pub Means : StateWord → Built → List Seen16 → Built → Type 0
 Means w b us end = MeansWord grammar16 fixed16 meaning16 (word.State w) b us end

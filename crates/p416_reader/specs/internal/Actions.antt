@@ -1,29 +1,22 @@
 -- What each action of the grammar builds: it takes the newest parts of some sorts and puts one in their place.
-use Rattle.std.specs.Prelude.{ℕ, Bool, true, false, List, [], ◌∷◌, ◌++◌, Option, Some, None}
+use Rattle.std.specs.Prelude.{ℕ, Bool, true, false, List, [], ◌∷◌, ◌++◌, Some, None}
 use Rattle.predictive_parser.specs.Values.{newest, older, extended}
 use Rattle.p416_lexemes.specs.declared.lexeme.Literal16.{Literal16}
 use Rattle.p416_ast.specs.declared.grammar.parts.Note.{Note}
 use Rattle.p416_ast.specs.declared.grammar.parts.Note.TheVariants as note
 use Rattle.p416_ast.specs.declared.grammar.parts.Type16.{Type16}
 use Rattle.p416_ast.specs.declared.grammar.parts.Type16.TheVariants as kind
-use Rattle.p416_ast.specs.declared.grammar.parts.Param.{Param}
 use Rattle.p416_ast.specs.declared.grammar.parts.Member.{Member}
 use Rattle.p416_ast.specs.declared.grammar.parts.Member.TheVariants as member
 use Rattle.p416_ast.specs.declared.grammar.parts.HashAlgorithm.TheVariants as hash
 use Rattle.p416_ast.specs.declared.grammar.node.CastType.TheVariants as cast_to
 use Rattle.p416_ast.specs.declared.grammar.node.CaseLabel.TheVariants as label
-use Rattle.p416_ast.specs.declared.grammar.parsers.Var.{Var}
-use Rattle.p416_ast.specs.declared.grammar.parsers.Target.{Target}
 use Rattle.p416_ast.specs.declared.grammar.parsers.Target.TheVariants as target
-use Rattle.p416_ast.specs.declared.grammar.parsers.Simple.{Simple}
 use Rattle.p416_ast.specs.declared.grammar.parsers.Simple.TheVariants as simple
-use Rattle.p416_ast.specs.declared.grammar.parsers.Keyset.{Keyset}
 use Rattle.p416_ast.specs.declared.grammar.parsers.Keyset.TheVariants as keyset
-use Rattle.p416_ast.specs.declared.grammar.parsers.Transition.{Transition}
 use Rattle.p416_ast.specs.declared.grammar.parsers.Transition.TheVariants as transition
 use Rattle.p416_ast.specs.declared.grammar.controls.Instance.{Instance}
 use Rattle.p416_ast.specs.declared.grammar.controls.Instance.TheVariants as instance
-use Rattle.p416_ast.specs.declared.grammar.controls.ActionName.{ActionName}
 use Rattle.p416_ast.specs.declared.grammar.controls.ActionName.TheVariants as action_name
 use Rattle.p416_ast.specs.declared.grammar.controls.Property.{Property}
 use Rattle.p416_ast.specs.declared.grammar.controls.Property.TheVariants as property
@@ -52,7 +45,6 @@ use Rattle.p416_reader.specs.internal.Built.{no_bodies}
 use Rattle.p416_reader.specs.declared.parts.Parts.{Parts}
 use Rattle.p416_reader.specs.declared.states.States.{States}
 use Rattle.p416_reader.specs.declared.controls.Controls.{Controls}
-use Rattle.p416_reader.specs.declared.declarations.Decls.{Decls}
 
 -- what stands in an empty place
 

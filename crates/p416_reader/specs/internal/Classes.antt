@@ -1,5 +1,5 @@
 -- Which tokens are of a class, and what is kept of one that is taken.
-use Rattle.std.specs.Prelude.{ℕ, Bool, true, false, not, ◌&&◌, nat_eq, nat_le, nat_lt, List, [], ◌∷◌, map, Option, Some, None, codes}
+use Rattle.std.specs.Prelude.{ℕ, Bool, true, false, not, ◌&&◌, nat_eq, nat_le, List, [], ◌∷◌, Option, Some, None, codes}
 use Rattle.std.specs.List.{list_any}
 use Rattle.std.specs.Str.{bytes_eq}
 use Rattle.predictive_parser.specs.Operators as operators
@@ -18,7 +18,7 @@ use Rattle.p416_ast.specs.declared.grammar.node.BinaryOperator.{BinaryOperator}
 use Rattle.p416_ast.specs.declared.grammar.node.BinaryOperator.TheVariants as binary
 use Rattle.p416_ast.specs.Grammar.Operators.{binary_power}
 use Rattle.p416_ast.specs.Grammar.Tokens.{Seen16, id, quoted, number, mark, string, annotation, include_line, joined, opens}
-use Rattle.p416_ast.specs.Grammar.Tree.{Exp16, name, index, call, lookahead, no_arguments}
+use Rattle.p416_ast.specs.Grammar.Tree.{Exp16, name, index, no_arguments}
 use Rattle.p416_ast.specs.Grammar.Conditions.{is_name_note, is_call, is_among, property_texts}
 use Rattle.p416_reader.specs.declared.symbols.Known.{Known}
 use Rattle.p416_reader.specs.declared.symbols.Known.TheVariants as known

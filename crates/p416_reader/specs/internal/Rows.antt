@@ -1,6 +1,6 @@
 -- The grammar of P4_16 as rows: what each word may begin with, and what follows. A word of the grammar that several lines
 -- begin with alike is read to the point where they part, so each row is known by one token (P4_16 1.2, "P4 grammar").
-use Rattle.std.specs.Prelude.{ℕ, suc, true, false, List, [], ◌∷◌, ◌++◌, Option, Some, None}
+use Rattle.std.specs.Prelude.{ℕ, suc, true, false, List, [], ◌∷◌, Option, Some, None}
 use Rattle.predictive_parser.specs.declared.symbol.Symbol.{Symbol}
 use Rattle.predictive_parser.specs.declared.symbol.Symbol.TheVariants.{Token, Put}
 use Rattle.predictive_parser.specs.declared.symbol.Symbol.TheVariants as symbol

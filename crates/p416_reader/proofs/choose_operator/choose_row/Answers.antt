@@ -1,4 +1,4 @@
-use Rattle.std.proofs.Common.{length, map, arith}
+use Rattle.std.proofs.Common.{map, arith}
 use Rattle.p416_reader.specs.internal.Lexemes.{seen_of}
 use Rattle.std.proofs.lemmas.List.{length-map}
 use Rattle.p416_reader.proofs.Choosing.{chosen_operator}

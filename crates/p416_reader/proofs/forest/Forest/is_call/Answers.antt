@@ -1,7 +1,6 @@
 use Rattle.std.proofs.Common.{sym, ap, ◌∙◌}
 use Rattle.p416_ast.specs.Grammar.Conditions.{is_call}
 use Rattle.p416_reader.specs.internal.Actions.{first_exp}
-use Rattle.p416_reader.specs.internal.Classes.{is_type_like}
 use Rattle.p416_reader.specs.internal.Forest.{Rooted}
 use Rattle.p416_reader.proofs.Newest.{newest_below, newest_exp}
 use Rattle.p416_reader.proofs.forest.Forest.is_call.Goals as goal

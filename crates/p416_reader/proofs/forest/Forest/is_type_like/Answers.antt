@@ -1,5 +1,4 @@
 use Rattle.std.proofs.Common.{sym, ap, ◌∙◌}
-use Rattle.p416_ast.specs.Grammar.Conditions.{is_call}
 use Rattle.p416_reader.specs.internal.Actions.{first_exp}
 use Rattle.p416_reader.specs.internal.Classes.{is_type_like}
 use Rattle.p416_reader.specs.internal.Forest.{Rooted}

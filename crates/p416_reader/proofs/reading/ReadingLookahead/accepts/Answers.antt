@@ -1,4 +1,4 @@
-use Rattle.std.proofs.Common.{length, arith}
+use Rattle.std.proofs.Common.{arith}
 use Rattle.std.proofs.lemmas.List.{length-map}
 use Rattle.p416_reader.specs.internal.Lexemes.{seen_of}
 use Rattle.p416_reader.proofs.reading.ReadingLookahead.accepts.Goals as goal
