@@ -1,0 +1,2 @@
+mod Idle
+pub mod Walked
