@@ -1,0 +1,4 @@
+pub mod Spaces
+pub mod Tokens
+pub mod Pages
+pub mod Put
