@@ -33,10 +33,10 @@ sample = record {
 }
 
 abbrev bits : List ℕ → ℕ → DeclaredField
-bits name width = record { name = name; width = Bits record { width = None; value = width }; attributes = [] }
+bits text width = record { name = text; width = Bits record { width = None; value = width }; attributes = [] }
 
 abbrev alone : List ℕ → Inst
-alone name = record { name = name; index = None }
+alone text = record { name = text; index = None }
 
 -- its syntax:
 --   header_type eth_t { fields { a : 48; b : 48; c : 16; } }
