@@ -4,8 +4,7 @@ use Rattle.std.specs.List.{list_any}
 use Rattle.p414_ast.specs.declared.syntax.Decl.{Decl}
 use Rattle.p414_ast.specs.declared.syntax.Sort.{Sort}
 use Rattle.p414_rules.specs.Names.{Name, names_in, has_name, repeats, repeats_behind}
-use Rattle.p414_rules.specs.Fields.{types}
-use Rattle.p414_rules.specs.Twice.{sorts, is_reserved, repeats_in, has_field_twice, repeats_within, declares_twice}
+use Rattle.p414_rules.specs.Twice.{sorts, is_reserved, repeats_in, declares_twice}
 
 first_false : (a b : Bool) → (a || b) ≡ false → a ≡ false
 first_false true b h = cc
