@@ -1,0 +1,9 @@
+//! Whether two tables, or two stateful objects, of a P4_16 program have one control-plane name, or a direct counter belongs
+//! to tables of two controls, which breaks rule T9.
+#![tactic(auto)]
+
+mod counters;
+mod names;
+mod shared;
+
+pub use shared::has_shared_names;
