@@ -1,0 +1,36 @@
+-- What a P4_16 program does with a packet, on v1model. Read Values and Frames first, then Expressions, Statements, and
+-- Passes, which names what the rest defines:
+--     Values        values, their parts, and what they start as
+--     Numbers       operators on values
+--     Frames        the frame of a packet, what a block works on, l-values, requests
+--     Signatures    what a control plane sees of the program
+--     Surroundings  what stands around the statements of a block
+--     Expressions   the values of expressions, and what l-values mean
+--     HeaderCalls   what the calls of headers and stacks do
+--     Externs       what each extern does
+--     Calls         calls as statements: arguments, copied in and out
+--     Statements    what statements do, and the count of work
+--     Tables        keys, the entry that is hit, and the action that runs
+--     Blocks        the blocks that are controls
+--     Parsing       how a packet is parsed, and which error ends that
+--     Passes        ingress, a second parsing, egress, and what is preserved
+--     Runs          a list of packets
+--     Fitting       which frames are those of a program
+--     Slots         the parts of a frame by number
+pub mod Values
+pub mod Numbers
+pub mod Frames
+pub mod Signatures
+pub mod Surroundings
+pub mod Expressions
+pub mod HeaderCalls
+pub mod Externs
+pub mod Calls
+pub mod Statements
+pub mod Tables
+pub mod Blocks
+pub mod Parsing
+pub mod Passes
+pub mod Runs
+pub mod Fitting
+pub mod Slots

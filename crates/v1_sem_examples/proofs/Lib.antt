@@ -1,0 +1,7 @@
+pub mod Operators
+pub mod Whole
+pub mod Parsers
+pub mod Headers
+pub mod Tables
+pub mod Externs
+pub mod Further
