@@ -1,0 +1,4 @@
+pub mod Loops
+pub mod Placing
+pub mod Programs
+pub mod Widths
