@@ -1,0 +1,3 @@
+-- Read Newest first.
+pub mod Newest
+pub mod internal

@@ -1,0 +1,3 @@
+-- Read Seen first: what a kind of code is among those of the rules.
+pub mod Seen
+pub mod internal
