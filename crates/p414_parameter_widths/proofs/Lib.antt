@@ -1,0 +1,7 @@
+mod Placing
+mod Loops
+mod Rows
+mod Asking
+mod Once
+mod Turning
+mod Ending

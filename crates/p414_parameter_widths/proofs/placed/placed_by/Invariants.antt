@@ -1,0 +1,8 @@
+use Rattle.std.proofs.Common.{◌≡◌, ◌++◌, map, drop}
+use Rattle.p414_rules.specs.Arguments.{placed}
+use Rattle.p414_calls.specs.Shown.{shown_argument}
+use Rattle.p414_call_check.specs.Shown.{shown_wanted, shown_placed}
+use Rattle.p414_parameter_widths.proofs.placed.placed_by.Given as goal
+
+abbrev pub invariant-loop-index : goal.invariant-loop-index
+invariant-loop-index l = map shown_placed l.found.items ++ placed (drop l.index (shown_wanted l.wanted)) (map shown_argument (drop l.index l.arguments)) ≡ placed (shown_wanted l.wanted) (map shown_argument l.arguments)
