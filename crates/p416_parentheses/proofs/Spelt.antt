@@ -1,0 +1,297 @@
+-- The tokens of a syntax with its parentheses are those of the syntax and marks.
+-- one that a text can have, each without them is.
+use Rattle.std.proofs.Common.{◌≡◌, Bool, true, false, List, [], ◌∷◌, ◌++◌, map, Option, Some, None, refl}
+use Rattle.std.specs.List.{flat_map, list_all}
+use Rattle.std.specs.Option.{option_map}
+use Rattle.p416_lexemes.specs.declared.keyword.Keyword16.TheVariants as key
+use Rattle.p416_ast.specs.declared.grammar.parts.Note.{Note}
+use Rattle.p416_ast.specs.declared.grammar.parsers.Var.{Var}
+use Rattle.p416_ast.specs.declared.grammar.parsers.Simple.{Simple}
+use Rattle.p416_ast.specs.declared.grammar.parsers.Simple.TheVariants as simple
+use Rattle.p416_ast.specs.declared.grammar.parsers.Keyset.{Keyset}
+use Rattle.p416_ast.specs.declared.grammar.parsers.Keyset.TheVariants as keyset
+use Rattle.p416_ast.specs.declared.grammar.parsers.SelectCase.{SelectCase}
+use Rattle.p416_ast.specs.declared.grammar.parsers.Transition.{Transition}
+use Rattle.p416_ast.specs.declared.grammar.parsers.Transition.TheVariants as transition
+use Rattle.p416_ast.specs.declared.grammar.parsers.State.{State}
+use Rattle.p416_ast.specs.declared.grammar.parsers.Parser16.{Parser16}
+use Rattle.p416_ast.specs.declared.grammar.controls.Instance.{Instance}
+use Rattle.p416_ast.specs.declared.grammar.controls.Instance.TheVariants as instance
+use Rattle.p416_ast.specs.declared.grammar.controls.Action16.{Action16}
+use Rattle.p416_ast.specs.declared.grammar.controls.TableKey.{TableKey}
+use Rattle.p416_ast.specs.declared.grammar.controls.Property.{Property}
+use Rattle.p416_ast.specs.declared.grammar.controls.Property.TheVariants as property
+use Rattle.p416_ast.specs.declared.grammar.controls.Table16.{Table16}
+use Rattle.p416_ast.specs.declared.grammar.controls.Local.{Local}
+use Rattle.p416_ast.specs.declared.grammar.controls.Local.TheVariants as local
+use Rattle.p416_ast.specs.declared.grammar.controls.Control16.{Control16}
+use Rattle.p416_ast.specs.declared.grammar.program.Decl16.{Decl16}
+use Rattle.p416_ast.specs.declared.grammar.program.Decl16.TheVariants as decl
+use Rattle.p416_ast.specs.declared.grammar.program.Syntax16.{Syntax16}
+use Rattle.p416_ast.specs.Grammar.Tree.{Exp16, literal, truth, error, name, member, index, slice, call, lookahead, cast, unary, binary, choice, parenthesized, no_arguments, argument, listed, Stmt16, no_statements, then, block, empty, var, var_is, assign, expression, if_then, if_else, switch, no_cases, case_of}
+use Rattle.p416_ast.specs.Grammar.Tokens.{Seen16, id, quoted, number, is_spelt_seen, seen_word, lookahead_text, opens, dot, dots, comma, colon, semicolon, equals, mask, question, greater, paren_close, brace_close, bracket_open, bracket_close, in_parens, in_braces}
+use Rattle.p416_ast.specs.Grammar.Operators.{unary_token, binary_tokens}
+use Rattle.p416_ast.specs.Grammar.Written.{written_option, after_commas, by_commas, written_notes, written_type, written_params, written_member, written_cast, written_bit, comma_behind, written_exp, written_initial, written_label, written_run, written_stmt, written_block, written_var, written_target, written_simple, written_keyset, written_case, written_transition, written_state, written_instance, written_object, written_action, written_action_name, written_key, written_property, written_table, written_local, written_decl, written_main, written}
+use Rattle.p416_parentheses.specs.Expressions.{is_wrapped, is_wrapped_base, wrapped, within, full, full_base}
+use Rattle.p416_parentheses.specs.Syntax.{full_stmt, full_var, full_simple, full_one, full_keyset, full_case, full_transition, full_state, full_parser, full_instance, full_action, full_key, full_property, full_table, full_local, full_control, full_decl, full_syntax}
+use Rattle.p416_parentheses.proofs.Kept.{both, left_true, right_true}
+
+-- each token is one that a text can have
+abbrev pub Spelt : List Seen16 → Type 0
+Spelt tokens = list_all is_spelt_seen tokens ≡ true
+
+-- where the one can be written, the other can
+abbrev Keeps : List Seen16 → List Seen16 → Type 0
+Keeps us vs = Spelt us → Spelt vs
+
+join : (us vs : List Seen16) → Spelt us → Spelt vs → Spelt (us ++ vs)
+join [] vs h k = k
+join (u ∷ us) vs h k = both (is_spelt_seen u) (list_all is_spelt_seen (us ++ vs)) (left_true (is_spelt_seen u) (list_all is_spelt_seen us) h) (join us vs (right_true (is_spelt_seen u) (list_all is_spelt_seen us) h) k)
+
+front : (us vs : List Seen16) → Spelt (us ++ vs) → Spelt us
+front [] vs h = refl
+front (u ∷ us) vs h = both (is_spelt_seen u) (list_all is_spelt_seen us) (left_true (is_spelt_seen u) (list_all is_spelt_seen (us ++ vs)) h) (front us vs (right_true (is_spelt_seen u) (list_all is_spelt_seen (us ++ vs)) h))
+
+back : (us vs : List Seen16) → Spelt (us ++ vs) → Spelt vs
+back [] vs h = h
+back (u ∷ us) vs h = back us vs (right_true (is_spelt_seen u) (list_all is_spelt_seen (us ++ vs)) h)
+
+-- one part and another, one behind the other
+pair : (us us2 vs vs2 : List Seen16) → Keeps us us2 → Keeps vs vs2 → Keeps (us ++ vs) (us2 ++ vs2)
+pair us us2 vs vs2 f g h = join us2 vs2 (f (front us vs h)) (g (back us vs h))
+
+-- the same behind and before what stays
+behind : (us vs vs2 : List Seen16) → Keeps vs vs2 → Keeps (us ++ vs) (us ++ vs2)
+behind us vs vs2 g = pair us us vs vs2 (λ h. h) g
+
+before : (us us2 vs : List Seen16) → Keeps us us2 → Keeps (us ++ vs) (us2 ++ vs)
+before us us2 vs f = pair us us2 vs vs f (λ h. h)
+
+-- lists
+
+flat : {A : Type 0} (write : A → List Seen16) (f : A → A) → ((x : A) → Keeps (write x) (write (f x))) → (xs : List A) → Keeps (flat_map write xs) (flat_map write (map f xs))
+flat write f each [] = λ h. h
+flat write f each (x ∷ xs) = pair (write x) (write (f x)) (flat_map write xs) (flat_map write (map f xs)) (each x) (flat write f each xs)
+
+commas : {A : Type 0} (write : A → List Seen16) (f : A → A) → ((x : A) → Keeps (write x) (write (f x))) → (xs : List A) → Keeps (after_commas write xs) (after_commas write (map f xs))
+commas write f each [] = λ h. h
+commas write f each (x ∷ xs) = pair (comma ∷ write x) (comma ∷ write (f x)) (after_commas write xs) (after_commas write (map f xs)) (each x) (commas write f each xs)
+
+listed_by : {A : Type 0} (write : A → List Seen16) (f : A → A) → ((x : A) → Keeps (write x) (write (f x))) → (xs : List A) → Keeps (by_commas write xs) (by_commas write (map f xs))
+listed_by write f each [] = λ h. h
+listed_by write f each (x ∷ xs) = pair (write x) (write (f x)) (after_commas write xs) (after_commas write (map f xs)) (each x) (commas write f each xs)
+
+-- expressions
+
+comma_spelt : (e : Exp16) → Spelt (comma_behind e)
+comma_spelt (literal n) = refl
+comma_spelt (truth v) = refl
+comma_spelt error = refl
+comma_spelt (name text) = refl
+comma_spelt (member e text) = refl
+comma_spelt (index e at) = refl
+comma_spelt (slice e high low) = refl
+comma_spelt (call e es) = refl
+comma_spelt (lookahead e of es) = refl
+comma_spelt (cast to e) = refl
+comma_spelt (unary operator e) = refl
+comma_spelt (binary operator a b) = refl
+comma_spelt (choice c a b) = refl
+comma_spelt (parenthesized e) = refl
+comma_spelt no_arguments = refl
+comma_spelt (argument first last) = refl
+comma_spelt (listed items) = refl
+
+wrapped_exps : (t : Bool) (e : Exp16) (us : List Seen16) → Keeps us (written_exp e) → Keeps us (written_exp (wrapped t e))
+wrapped_exps true e us f = λ h. join (written_exp e) (paren_close ∷ []) (f h) refl
+wrapped_exps false e us f = f
+
+pub within_exps : (e : Exp16) → Keeps (written_exp e) (written_exp (within e))
+within_exps (literal n) = λ h. h
+within_exps (truth v) = λ h. h
+within_exps error = λ h. h
+within_exps (name text) = λ h. h
+within_exps (member e text) = before (written_exp e) (written_exp (full_base e)) (dot ∷ seen_word text ∷ []) (wrapped_exps (is_wrapped_base e) (within e) (written_exp e) (within_exps e))
+within_exps (index e at) = before (written_exp e) (written_exp (full_base e)) (bracket_open ∷ number at ∷ bracket_close ∷ []) (wrapped_exps (is_wrapped_base e) (within e) (written_exp e) (within_exps e))
+within_exps (slice e high low) = before (written_exp e) (written_exp (full_base e)) (bracket_open ∷ number high ∷ colon ∷ number low ∷ bracket_close ∷ []) (wrapped_exps (is_wrapped_base e) (within e) (written_exp e) (within_exps e))
+within_exps (call e es) = pair (written_exp e) (written_exp (full_base e)) (in_parens (written_exp es)) (in_parens (written_exp (within es))) (wrapped_exps (is_wrapped_base e) (within e) (written_exp e) (within_exps e)) (before (written_exp es) (written_exp (within es)) (paren_close ∷ []) (within_exps es))
+within_exps (lookahead e of es) =
+    pair (written_exp e) (written_exp (full_base e)) (dot ∷ id lookahead_text ∷ opens ∷ (written_type of ++ greater ∷ in_parens (written_exp es))) (dot ∷ id lookahead_text ∷ opens ∷ (written_type of ++ greater ∷ in_parens (written_exp (within es))))
+    (wrapped_exps (is_wrapped_base e) (within e) (written_exp e) (within_exps e)) (behind (written_type of) (greater ∷ in_parens (written_exp es)) (greater ∷ in_parens (written_exp (within es))) (before (written_exp es) (written_exp (within es)) (paren_close ∷ []) (within_exps es)))
+within_exps (cast to e) = behind (in_parens (written_cast to)) (written_exp e) (written_exp (full e)) (wrapped_exps (is_wrapped e) (within e) (written_exp e) (within_exps e))
+within_exps (unary operator e) = behind (unary_token operator ∷ []) (written_exp e) (written_exp (full e)) (wrapped_exps (is_wrapped e) (within e) (written_exp e) (within_exps e))
+within_exps (binary operator a b) =
+    pair (written_exp a) (written_exp (full a)) (binary_tokens operator ++ (written_exp b)) (binary_tokens operator ++ (written_exp (full b))) (wrapped_exps (is_wrapped a) (within a) (written_exp a) (within_exps a))
+    (behind (binary_tokens operator) (written_exp b) (written_exp (full b)) (wrapped_exps (is_wrapped b) (within b) (written_exp b) (within_exps b)))
+within_exps (choice c a b) =
+    pair (written_exp c) (written_exp (full c)) (question ∷ ((written_exp a) ++ colon ∷ (written_exp b))) (question ∷ ((written_exp (full a)) ++ colon ∷ (written_exp (full b)))) (wrapped_exps (is_wrapped c) (within c) (written_exp c) (within_exps c))
+    (pair (written_exp a) (written_exp (full a)) (colon ∷ (written_exp b)) (colon ∷ (written_exp (full b))) (wrapped_exps (is_wrapped a) (within a) (written_exp a) (within_exps a)) (wrapped_exps (is_wrapped b) (within b) (written_exp b) (within_exps b)))
+within_exps (parenthesized e) = before (written_exp e) (written_exp (within e)) (paren_close ∷ []) (within_exps e)
+within_exps no_arguments = λ h. h
+within_exps (argument first last) =
+    pair (written_exp first) (written_exp (within first)) (comma_behind first ++ (written_exp last)) (comma_behind (within first) ++ (written_exp (full last))) (within_exps first)
+    (λ h. join (comma_behind (within first)) (written_exp (full last)) (comma_spelt (within first)) (wrapped_exps (is_wrapped last) (within last) (written_exp last) (within_exps last) (back (comma_behind first) (written_exp last) h)))
+within_exps (listed items) = before (written_exp items) (written_exp (within items)) (brace_close ∷ []) (within_exps items)
+
+pub full_exps : (e : Exp16) → Keeps (written_exp e) (written_exp (full e))
+full_exps e = wrapped_exps (is_wrapped e) (within e) (written_exp e) (within_exps e)
+
+-- statements
+
+pub full_stmts : (s : Stmt16) → Keeps (written_stmt s) (written_stmt (full_stmt s))
+full_stmts no_statements = λ h. h
+full_stmts (then first last) = pair (written_stmt first) (written_stmt (full_stmt first)) (written_stmt last) (written_stmt (full_stmt last)) (full_stmts first) (full_stmts last)
+full_stmts (block ss) = before (written_stmt ss) (written_stmt (full_stmt ss)) (brace_close ∷ []) (full_stmts ss)
+full_stmts empty = λ h. h
+full_stmts (var of text) = λ h. h
+full_stmts (var_is of text value) =
+    behind (written_type of) (id text ∷ ((equals ∷ (written_exp value)) ++ semicolon ∷ [])) (id text ∷ ((equals ∷ (written_exp (full value))) ++ semicolon ∷ []))
+    (behind (id text ∷ []) ((equals ∷ (written_exp value)) ++ semicolon ∷ []) ((equals ∷ (written_exp (full value))) ++ semicolon ∷ []) (before (written_exp value) (written_exp (full value)) (semicolon ∷ []) (full_exps value)))
+full_stmts (assign target value) =
+    pair (written_exp target) (written_exp (full target)) (equals ∷ ((written_exp value) ++ semicolon ∷ [])) (equals ∷ ((written_exp (full value)) ++ semicolon ∷ [])) (full_exps target)
+    (before (written_exp value) (written_exp (full value)) (semicolon ∷ []) (full_exps value))
+full_stmts (expression e) = before (written_exp e) (written_exp (full e)) (semicolon ∷ []) (full_exps e)
+full_stmts (if_then c holds) =
+    pair (in_parens (written_exp c)) (in_parens (written_exp (within c))) (written_stmt holds) (written_stmt (full_stmt holds)) (before (written_exp c) (written_exp (within c)) (paren_close ∷ []) (within_exps c)) (full_stmts holds)
+full_stmts (if_else c holds other) =
+    pair (in_parens (written_exp c)) (in_parens (written_exp (within c))) ((written_stmt holds) ++ quoted key.Else ∷ (written_stmt other)) ((written_stmt (full_stmt holds)) ++ quoted key.Else ∷ (written_stmt (full_stmt other))) (before (written_exp c) (written_exp (within c)) (paren_close ∷ []) (within_exps c))
+    (pair (written_stmt holds) (written_stmt (full_stmt holds)) (quoted key.Else ∷ (written_stmt other)) (quoted key.Else ∷ (written_stmt (full_stmt other))) (full_stmts holds) (full_stmts other))
+full_stmts (switch table cs) =
+    behind (in_parens (written_run table)) (in_braces (written_stmt cs)) (in_braces (written_stmt (full_stmt cs))) (before (written_stmt cs) (written_stmt (full_stmt cs)) (brace_close ∷ []) (full_stmts cs))
+full_stmts no_cases = λ h. h
+full_stmts (case_of first label ss) =
+    pair (written_stmt first) (written_stmt (full_stmt first)) (written_label label ++ colon ∷ in_braces (written_stmt ss)) (written_label label ++ colon ∷ in_braces (written_stmt (full_stmt ss))) (full_stmts first)
+    (behind (written_label label) (colon ∷ in_braces (written_stmt ss)) (colon ∷ in_braces (written_stmt (full_stmt ss))) (before (written_stmt ss) (written_stmt (full_stmt ss)) (brace_close ∷ []) (full_stmts ss)))
+
+initials : (o : Option Exp16) → Keeps (written_option written_initial o) (written_option written_initial (option_map full o))
+initials None = λ h. h
+initials (Some value) = full_exps value
+
+full_vars : (v : Var) → Keeps (written_var v) (written_var (full_var v))
+full_vars v =
+    let old = written_option written_initial v.initial ++ semicolon ∷ [] in
+    let new = written_option written_initial (option_map full v.initial) ++ semicolon ∷ [] in
+    behind (written_type v.of) (id v.name ∷ old) (id v.name ∷ new)
+    (behind (id v.name ∷ []) old new (before (written_option written_initial v.initial) (written_option written_initial (option_map full v.initial)) (semicolon ∷ []) (initials v.initial)))
+
+-- parsers
+
+full_simples : (s : Simple) → Keeps (written_simple s) (written_simple (full_simple s))
+full_simples simple.Default = λ h. h
+full_simples simple.Any = λ h. h
+full_simples (simple.Mask a b) = pair (written_exp a) (written_exp (full a)) (mask ∷ written_exp b) (mask ∷ written_exp (full b)) (full_exps a) (full_exps b)
+full_simples (simple.Range a b) = pair (written_exp a) (written_exp (full a)) (dots ∷ written_exp b) (dots ∷ written_exp (full b)) (full_exps a) (full_exps b)
+full_simples (simple.Value e) = full_exps e
+
+full_ones : (s : Simple) → Keeps (written_simple s) (written_simple (full_one s))
+full_ones simple.Default = λ h. h
+full_ones simple.Any = λ h. h
+full_ones (simple.Mask a b) = full_simples (simple.Mask a b)
+full_ones (simple.Range a b) = full_simples (simple.Range a b)
+full_ones (simple.Value e) = within_exps e
+
+full_keysets : (k : Keyset) → Keeps (written_keyset k) (written_keyset (full_keyset k))
+full_keysets (keyset.Tuple ss) = before (by_commas written_simple ss) (by_commas written_simple (map full_simple ss)) (paren_close ∷ []) (listed_by written_simple full_simple full_simples ss)
+full_keysets (keyset.One s) = full_ones s
+
+full_cases : (c : SelectCase) → Keeps (written_case c) (written_case (full_case c))
+full_cases c = before (written_keyset c.keyset) (written_keyset (full_keyset c.keyset)) (colon ∷ (written_target c.target ++ semicolon ∷ [])) (full_keysets c.keyset)
+
+full_transitions : (t : Transition) → Keeps (written_transition t) (written_transition (full_transition t))
+full_transitions (transition.Go t) = λ h. h
+full_transitions (transition.Select es cs) =
+    pair (in_parens (by_commas written_exp es)) (in_parens (by_commas written_exp (map full es))) (in_braces (flat_map written_case cs)) (in_braces (flat_map written_case (map full_case cs)))
+    (before (by_commas written_exp es) (by_commas written_exp (map full es)) (paren_close ∷ []) (listed_by written_exp full full_exps es))
+    (before (flat_map written_case cs) (flat_map written_case (map full_case cs)) (brace_close ∷ []) (flat written_case full_case full_cases cs))
+
+full_states : (s : State) → Keeps (written_state s) (written_state (full_state s))
+full_states s =
+    let old = written_stmt s.body ++ written_transition s.transition in
+    let new = written_stmt (full_stmt s.body) ++ written_transition (full_transition s.transition) in
+    behind (quoted key.State ∷ id s.name ∷ []) (in_braces old) (in_braces new)
+    (before old new (brace_close ∷ [])
+    (pair (written_stmt s.body) (written_stmt (full_stmt s.body)) (written_transition s.transition) (written_transition (full_transition s.transition)) (full_stmts s.body) (full_transitions s.transition)))
+
+full_parsers : (p : Parser16) → Keeps (written_decl (decl.Parser p)) (written_decl (decl.Parser (full_parser p)))
+full_parsers p =
+    let old = flat_map written_var p.vars ++ flat_map written_state p.states in
+    let new = flat_map written_var (map full_var p.vars) ++ flat_map written_state (map full_state p.states) in
+    behind (quoted key.Parser ∷ id p.name ∷ written_params p.parameters) (in_braces old) (in_braces new)
+    (before old new (brace_close ∷ [])
+    (pair (flat_map written_var p.vars) (flat_map written_var (map full_var p.vars)) (flat_map written_state p.states) (flat_map written_state (map full_state p.states)) (flat written_var full_var full_vars p.vars) (flat written_state full_state full_states p.states)))
+
+-- controls
+
+full_instances : (i : Instance) → Keeps (written_instance i) (written_instance (full_instance i))
+full_instances (instance.Counter size m text) =
+    let old = written_exp size ++ comma ∷ written_member m in
+    let new = written_exp (full size) ++ comma ∷ written_member m in
+    before (in_parens old) (in_parens new) (id text ∷ []) (before old new (paren_close ∷ []) (before (written_exp size) (written_exp (full size)) (comma ∷ written_member m) (full_exps size)))
+full_instances (instance.DirectCounter m text) = λ h. h
+full_instances (instance.Register width size text) =
+    let old = in_parens (written_exp size) ++ id text ∷ [] in
+    let new = in_parens (written_exp (full size)) ++ id text ∷ [] in
+    behind (written_bit width) (greater ∷ old) (greater ∷ new)
+    (before (in_parens (written_exp size)) (in_parens (written_exp (full size))) (id text ∷ []) (before (written_exp size) (written_exp (full size)) (paren_close ∷ []) (full_exps size)))
+full_instances (instance.Meter size m text) =
+    let old = written_exp size ++ comma ∷ written_member m in
+    let new = written_exp (full size) ++ comma ∷ written_member m in
+    before (in_parens old) (in_parens new) (id text ∷ []) (before old new (paren_close ∷ []) (before (written_exp size) (written_exp (full size)) (comma ∷ written_member m) (full_exps size)))
+
+full_keyed : (k : TableKey) → Keeps (written_key k) (written_key (full_key k))
+full_keyed k = before (written_exp k.exp) (written_exp (full k.exp)) (colon ∷ id k.kind ∷ (written_notes k.notes ++ semicolon ∷ [])) (full_exps k.exp)
+
+full_properties : (p : Property) → Keeps (written_property p) (written_property (full_property p))
+full_properties (property.Key ks) = before (flat_map written_key ks) (flat_map written_key (map full_key ks)) (brace_close ∷ []) (flat written_key full_key full_keyed ks)
+full_properties (property.Actions names) = λ h. h
+full_properties (property.Size n) = λ h. h
+full_properties (property.Counters text) = λ h. h
+full_properties (property.DefaultAction a arguments) =
+    let old = in_parens (written_exp arguments) ++ semicolon ∷ [] in
+    let new = in_parens (written_exp (within arguments)) ++ semicolon ∷ [] in
+    behind (written_action_name a) old new
+    (before (in_parens (written_exp arguments)) (in_parens (written_exp (within arguments))) (semicolon ∷ []) (before (written_exp arguments) (written_exp (within arguments)) (paren_close ∷ []) (within_exps arguments)))
+
+full_objects : (notes : List Note) (i : Instance) → Keeps (written_object notes i) (written_object notes (full_instance i))
+full_objects notes i = behind (written_notes notes) (written_instance i ++ semicolon ∷ []) (written_instance (full_instance i) ++ semicolon ∷ []) (before (written_instance i) (written_instance (full_instance i)) (semicolon ∷ []) (full_instances i))
+
+full_blocks : (s : Stmt16) → Keeps (written_block s) (written_block (full_stmt s))
+full_blocks s = before (written_stmt s) (written_stmt (full_stmt s)) (brace_close ∷ []) (full_stmts s)
+
+full_actions : (a : Action16) → Keeps (written_action a) (written_action (full_action a))
+full_actions a =
+    let old = written_params a.parameters ++ written_block a.body in
+    let new = written_params a.parameters ++ written_block (full_stmt a.body) in
+    behind (written_notes a.notes) (quoted key.Action ∷ id a.name ∷ old) (quoted key.Action ∷ id a.name ∷ new)
+    (behind (id a.name ∷ []) old new (behind (written_params a.parameters) (written_block a.body) (written_block (full_stmt a.body)) (full_blocks a.body)))
+
+full_tables : (t : Table16) → Keeps (written_table t) (written_table (full_table t))
+full_tables t =
+    let old = in_braces (flat_map written_property t.properties) in
+    let new = in_braces (flat_map written_property (map full_property t.properties)) in
+    behind (written_notes t.notes) (quoted key.Table ∷ id t.name ∷ old) (quoted key.Table ∷ id t.name ∷ new)
+    (behind (id t.name ∷ []) old new (before (flat_map written_property t.properties) (flat_map written_property (map full_property t.properties)) (brace_close ∷ []) (flat written_property full_property full_properties t.properties)))
+
+full_locals : (l : Local) → Keeps (written_local l) (written_local (full_local l))
+full_locals (local.Instance notes i) = full_objects notes i
+full_locals (local.Var v) = full_vars v
+full_locals (local.Action a) = full_actions a
+full_locals (local.Table t) = full_tables t
+
+full_controls : (c : Control16) → Keeps (written_decl (decl.Control c)) (written_decl (decl.Control (full_control c)))
+full_controls c =
+    let old = flat_map written_local c.locals ++ quoted key.Apply ∷ written_block c.body in
+    let new = flat_map written_local (map full_local c.locals) ++ quoted key.Apply ∷ written_block (full_stmt c.body) in
+    behind (quoted key.Control ∷ id c.name ∷ written_params c.parameters) (in_braces old) (in_braces new)
+    (before old new (brace_close ∷ [])
+    (pair (flat_map written_local c.locals) (flat_map written_local (map full_local c.locals)) (quoted key.Apply ∷ written_block c.body) (quoted key.Apply ∷ written_block (full_stmt c.body)) (flat written_local full_local full_locals c.locals) (full_blocks c.body)))
+
+full_decls : (d : Decl16) → Keeps (written_decl d) (written_decl (full_decl d))
+full_decls (decl.Header h) = λ k. k
+full_decls (decl.Struct s) = λ k. k
+full_decls (decl.Instance notes i) = full_objects notes i
+full_decls (decl.Parser p) = full_parsers p
+full_decls (decl.Control c) = full_controls c
+
+pub full_spelt_by : (s : Syntax16) → Spelt (written s) → Spelt (written (full_syntax s))
+full_spelt_by s = before (flat_map written_decl s.decls) (flat_map written_decl (map full_decl s.decls)) (written_main s.main) (flat written_decl full_decl full_decls s.decls)

@@ -1,0 +1,5 @@
+pub mod Runs
+pub mod Marks
+pub mod Numerals
+pub mod Again
+pub mod Keywords
