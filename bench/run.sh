@@ -1,6 +1,6 @@
 #!/bin/sh
 # Times look-ups, CRCs and sums, beside the plain scan of match_core and beside BTreeMap of plain Rust, and prints a table of
-# what is done in a second: the best of three runs. Then fields.sh times fields of bits, reading.sh the reading of P4_14, judging.sh
+# what is done in a second: the best of three runs. Then fields.sh times fields of bits, reading.sh and reading16.sh the reading of both languages, judging.sh
 # the rules of declarations, carry.sh the command `carry`, and check.sh `check` and `order`.
 # It wants rt and rustc. The gate doesn't run it. The program is proved first, in a scratch copy of the crates that it calls.
 set -eu

@@ -56,7 +56,7 @@ carry() {
         carry "$program14" "$entries" "$capture" --text out.p4 --sent out.pcap --report report.txt "$@"
 }
 
-# The program with one line changed is refused with this line, and the sentence is one of a rule that docs/MESSAGES.md has.
+# The program with one line changed is refused with this line, and a sentence is said.
 changed() {
     awk -v line="$2" -v put="$3" 'NR == line { print put; next } { print }' p1.p4 >changed.p4
     cmp -s changed.p4 p1.p4 && { words=$3; wrong "nothing is changed"; }
