@@ -1,5 +1,5 @@
-//! Whether two tables, or two stateful objects, of a P4_16 program have one control-plane name, or a direct counter belongs
-//! to tables of two controls, which breaks rule T9.
+//! Whether two tables, or two stateful objects, of a P4_16 program have one control-plane name, or a direct counter at the
+//! top belongs to two tables, which breaks rule T9.
 #![tactic(auto)]
 
 mod counters;
