@@ -1,0 +1,12 @@
+use Rattle.std.proofs.Common.{◌≡◌, map, drop}
+use Rattle.std.specs.List.{list_all}
+use Rattle.p416_rules.specs.Declarations.{top_names, layouts_of, struct_field}
+use Rattle.p416_rules.specs.Main.{is_metadata_field}
+use Rattle.p416_main_check.specs.internal.Seen.{AreOfBits}
+use Rattle.p416_main_check.proofs.structs.are_metadata_fields.Given as goal
+
+abbrev pub invariant-loop-field : goal.invariant-loop-field
+invariant-loop-field l =
+    (list_all (is_metadata_field (layouts_of l.top)) (map (struct_field (top_names l.top)) (drop l.field-index l.fields))
+    ≡ list_all (is_metadata_field (layouts_of l.top)) (map (struct_field (top_names l.top)) l.fields))
+    × AreOfBits l.top l.seen
