@@ -1,0 +1,11 @@
+use Rattle.std.proofs.Common.{◌≡◌, map, reverse}
+use Rattle.p416_rules.specs.Scopes.{inside, known_parameter}
+use Rattle.p416_rules.specs.Declarations.{top_names}
+use Rattle.p416_scopes.specs.Seen.{seen_scope}
+use Rattle.p416_scopes.proofs.scope.Scope.declare_parameters.Given as goal
+
+abbrev pub invariant-loop-parameter : goal.invariant-loop-parameter
+invariant-loop-parameter l = record {
+  scope : seen_scope l.self ≡ inside (seen_scope l.fn.self) (map (known_parameter (top_names l.fn.self.top.now)) (reverse (map (λ x. x.now) l.yielded)));
+  top : l.self.top ≡ l.fn.self.top;
+}

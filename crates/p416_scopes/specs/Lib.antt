@@ -1,0 +1,2 @@
+-- Read Seen first: what a scope of code is among those of the rules.
+pub mod Seen
