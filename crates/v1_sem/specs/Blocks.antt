@@ -1,6 +1,7 @@
 -- The blocks that are controls: what their actions and tables do, their variables, and their statements (P4_16 1.2, "Control
 -- blocks", "Actions", "Variable declarations"; `v1model.p4`, `V1Switch`). A block's parameters are the packet's headers, its
--- metadata and its standard metadata themselves: they are copied in and out by position, and no two of them are one.
+-- metadata and its standard metadata themselves. That can't be told from copying them in and out, since no two of them are
+-- one. The packet itself, a parameter of the deparser, is no value.
 use Rattle.std.specs.Prelude.{ℕ, zero, suc, if◌then◌else◌, List, [], ◌∷◌, length, map, filter_map, fold, slice_index_or, Option, Some, None}
 use Rattle.std.specs.Str.{bytes_eq}
 use Rattle.p416_ast.specs.declared.grammar.parsers.Var.{Var}
@@ -20,8 +21,8 @@ use Rattle.p416_rules.specs.Breaks.{scope_of}
 use Rattle.v1_sem.specs.declared.block.Block.{Block}
 use Rattle.v1_sem.specs.declared.block.Block.TheVariants.{Verify, Ingress, Egress, Compute, Deparse}
 use Rattle.v1_sem.specs.Values.{Value, a_member, no_members, to_member}
-use Rattle.v1_sem.specs.Frames.{Moment, ticked, is_stopped, going_on, Owner, of_headers, of_metadata, of_standard, of_variables, of_nothing, whole, stepped, written, closed}
-use Rattle.v1_sem.specs.Surroundings.{Setting, rooted, Surroundings, World, applies_none}
+use Rattle.v1_sem.specs.Frames.{Moment, ticked, is_stopped, going_on, Owner, of_headers, of_metadata, of_standard, of_variables, of_nothing, whole, stepped, put_at, closed}
+use Rattle.v1_sem.specs.Surroundings.{Setting, rooted, Surroundings, World, no_table_applies}
 use Rattle.v1_sem.specs.Expressions.{Valued, value_of}
 use Rattle.v1_sem.specs.Statements.{starts, no_label, run}
 use Rattle.v1_sem.specs.Tables.{applied}
@@ -34,7 +35,7 @@ abbrev pub act_at : Surroundings → ℕ → Action16 → Moment → Moment
 act_at b zero a m = m
 act_at b (suc calls) a m =
     closed m
-    (run (record { around = b; act = act_at b calls; apply = applies_none }) (action_scope b.scope a) no_label a.body m)
+    (run (record { around = b; act = act_at b calls; apply = no_table_applies }) (action_scope b.scope a) no_label a.body m)
 
 abbrev pub act : Surroundings → Action16 → Moment → Moment
 act b a m = act_at b (length (filter_map action_in b.locals)) a m
@@ -53,7 +54,7 @@ abbrev pub with_variables : Value → Moment → Moment
 with_variables v m = record m { frame = record m.frame { variables = v; inner = no_members } }
 
 abbrev pub with_value : Name → Valued → Moment
-with_value called x = going_on (written (stepped (whole of_variables) (to_member called)) x.value) x.moment
+with_value called x = going_on (put_at (stepped (whole of_variables) (to_member called)) x.value) x.moment
 
 abbrev pub with_initial : World → Moment → Var → Moment
 with_initial w m v = by_initial v.initial where

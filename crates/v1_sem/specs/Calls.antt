@@ -16,8 +16,8 @@ use Rattle.p416_rules.specs.Calls.{Place, any_bits, owner, emitted, place_of, me
 use Rattle.p416_rules.specs.Expressions.{kind_of, signature_of}
 use Rattle.p416_rules.specs.Uses.{wanted_by, arguments_of}
 use Rattle.p416_rules.specs.Writes.{is_written_place}
-use Rattle.v1_sem.specs.Values.{Value, a_member, no_members, some_bits, no_value, number_in, width_in, is_true, symbol_in, bits_of_list, member_in, kept, zero_value}
-use Rattle.v1_sem.specs.Frames.{Moment, going_on, Reference, nowhere, read, written, with_inner}
+use Rattle.v1_sem.specs.Values.{Value, a_member, no_members, some_bits, no_value, number_in, width_in, is_true, symbol_in, bits_of_list, member_in, fitted, zero_value}
+use Rattle.v1_sem.specs.Frames.{Moment, going_on, Reference, nowhere, read, put_at, with_inner}
 use Rattle.v1_sem.specs.Signatures.{object_number, plane_of_object}
 use Rattle.v1_sem.specs.Surroundings.{Surroundings, World, action_named}
 use Rattle.v1_sem.specs.Expressions.{Valued, valued, Referred, name_in, value_of, reference_of}
@@ -104,20 +104,20 @@ holds_at given n = is_true (value_at given n)
 -- what a parameter starts with: an `out` one at 0, any other with its argument, which is cut to the parameter's width
 abbrev pub copied_in : Option Direction → Value → Value → Value
 copied_in (Some Out) zero v = zero
-copied_in _ zero v = kept zero v
+copied_in _ zero v = fitted zero v
 
 -- the parameters of an action with its arguments
-abbrev pub bound : Scope → List Param → List Given → Value
-bound s [] given = no_members
-bound s (p ∷ parameters) [] = no_members
-bound s (p ∷ parameters) (g ∷ given) =
+abbrev pub bound_arguments : Scope → List Param → List Given → Value
+bound_arguments s [] given = no_members
+bound_arguments s (p ∷ parameters) [] = no_members
+bound_arguments s (p ∷ parameters) (g ∷ given) =
     a_member p.name (copied_in p.direction (zero_value s.layouts (kind_of_type s.names p.of)) g.value)
-    (bound s parameters given)
+    (bound_arguments s parameters given)
 
 -- an `out` or `inout` parameter goes back to its argument
 abbrev pub copied_back : Option Direction → Reference → Value → Moment → Moment
-copied_back (Some Out) to v m = written to v m
-copied_back (Some InOut) to v m = written to v m
+copied_back (Some Out) to v m = put_at to v m
+copied_back (Some InOut) to v m = put_at to v m
 copied_back _ to v m = m
 
 abbrev pub copied_out : List Param → List Given → Value → Moment → Moment
@@ -129,7 +129,7 @@ copied_out (p ∷ parameters) (g ∷ given) inner m =
 -- The body sees the block's own names and its parameters, and none of the variables of the statement that calls it.
 abbrev pub acted : World → Action16 → Arguments → Moment
 acted w a x =
-    let m = w.act a (with_inner (bound w.around.scope a.parameters x.given) x.moment) in
+    let m = w.act a (with_inner (bound_arguments w.around.scope a.parameters x.given) x.moment) in
     copied_out a.parameters x.given m.frame.inner (with_inner x.moment.frame.inner m)
 
 abbrev pub call_action : World → Scope → List Handed → Option Action16 → Exp16 → Moment → Moment
@@ -191,7 +191,7 @@ abbrev pub first_stack_of_next : Surroundings → Scope → List Exp16 → Momen
 first_stack_of_next b s [] m = None
 first_stack_of_next b s (e ∷ es) m = stack_of_next b s e m
 
--- the call of a method of something of a kind; what stands before the method is evaluated first
+-- the call of a method of something of a kind; a header or a stack is found before the arguments are evaluated
 abbrev pub method_call : World → Scope → Kind → Exp16 → Name → Exp16 → Moment → Moment
 method_call w s (header type) e word given m =
     if bytes_eq word (codes "isValid") then (value_of w s owner e m).moment
@@ -211,12 +211,13 @@ method_call w s (object kind) e word given m =
 method_call w s table e word given m = (w.apply (name_in e) m).moment
 method_call w s _ e word given m = m
 
-abbrev pub called : World → Scope → Exp16 → Exp16 → Moment → Moment
-called w s (name text) given m = named_call w s (sort_of s text) text given m
-called w s (member e word) given m = method_call w s (kind_of s e) e word given m
-called w s _ given m = m
+-- what a call of this with these arguments leaves
+abbrev pub call_leaves : World → Scope → Exp16 → Exp16 → Moment → Moment
+call_leaves w s (name text) given m = named_call w s (sort_of s text) text given m
+call_leaves w s (member e word) given m = method_call w s (kind_of s e) e word given m
+call_leaves w s _ given m = m
 
 -- A call as a statement. A value that it gives is let go.
 abbrev pub call_statement : World → Scope → Exp16 → Moment → Moment
-call_statement w s (call e given) m = called w s e given m
+call_statement w s (call e given) m = call_leaves w s e given m
 call_statement w s e m = (value_of w s owner e m).moment

@@ -13,7 +13,7 @@ use Rattle.p416_rules.specs.Names.{Name}
 use Rattle.p416_rules.specs.Kinds.{Kind, bits, boolean, header, stack, errors, enumeration, table}
 use Rattle.p416_rules.specs.Scopes.{Scope, kind_of_type}
 use Rattle.p416_rules.specs.BuiltIn.{error_names}
-use Rattle.p416_rules.specs.Calls.{Place, value, any_bits, owner, a_stack}
+use Rattle.p416_rules.specs.Calls.{Place, value, any_bits, owner, a_stack as an_indexed_stack}
 use Rattle.p416_rules.specs.Expressions.{kind_of}
 use Rattle.p416_rules.specs.Uses.{unary_place, left_place, right_place, cast_place, chosen_place}
 use Rattle.p416_rules.specs.Literals.{width_of_place}
@@ -100,19 +100,19 @@ method_value w table e x = told (w.apply (name_in e) x.moment)
 method_value w (header type) e x = valued (a_truth (header_in x.value).valid) x.moment
 method_value w _ e x = valued no_value x.moment
 
--- so many bits are left
+-- at least so many bits are left
 abbrev pub has_bits : Moment → ℕ → Bool
 has_bits m count = nat_lt count (8 * length m.unparsed + 1)
 
 -- the bits in front, which stay there; where too few are left an error is raised
-abbrev pub ahead : ℕ → Moment → Valued
-ahead width m =
+abbrev pub lookahead_bits : ℕ → Moment → Valued
+lookahead_bits width m =
     if has_bits m width then valued (a_number width (num (take width (octet_bits m.unparsed)))) m
     else valued (a_number width 0) (raised PacketTooShort m)
 
-abbrev pub looked_ahead : Kind → Moment → Valued
-looked_ahead (bits width) m = ahead width m
-looked_ahead _ m = valued no_value m
+abbrev pub lookahead_value : Kind → Moment → Valued
+lookahead_value (bits width) m = lookahead_bits width m
+lookahead_value _ m = valued no_value m
 
 -- the value of an expression at its place
 abbrev pub value_of : World → Scope → Place → Exp16 → Moment → Valued
@@ -121,10 +121,10 @@ value_of w s p (truth holds) m = valued (a_truth holds) m
 value_of w s p (name text) m = valued (read m.frame (named w.around m.frame text)) m
 value_of w s p (member e word) m = member_value (kind_of s e) word (value_of w s owner e m)
 value_of w s p (index e at) m =
-    let x = value_of w s a_stack e m in valued (part_of x.value (to_element at.value)) x.moment
+    let x = value_of w s an_indexed_stack e m in valued (part_of x.value (to_element at.value)) x.moment
 value_of w s p (slice e high low) m = slice_value (slice_of high low) (value_of w s any_bits e m)
 value_of w s p (call (member e word) given) m = method_value w (kind_of s e) e (value_of w s owner e m)
-value_of w s p (lookahead e to given) m = looked_ahead (kind_of_type s.names to) m
+value_of w s p (lookahead e to given) m = lookahead_value (kind_of_type s.names to) m
 value_of w s p (cast to e) m = let x = value_of w s (cast_place to) e m in valued (cast_value to x.value) x.moment
 value_of w s p (unary operator e) m =
     let x = value_of w s (unary_place p operator (kind_of s e)) e m in valued (unary_value operator x.value) x.moment

@@ -20,7 +20,9 @@ use Rattle.v1_sem.specs.Values.{Field, Header, Value, a_number, a_truth, an_erro
 use Rattle.v1_sem.specs.Frames.{Request, Frame}
 use Rattle.v1_sem.specs.Signatures.{signature16}
 use Rattle.v1_sem.specs.Surroundings.{Setting}
-use Rattle.v1_sem.specs.Passes.{Standing, Held}
+use Rattle.v1_sem.specs.Passes.{Between, Held}
+use Rattle.v1_sem.specs.Slots.{variable_kinds}
+use Rattle.v1_sem.specs.Numbered.{Numbered}
 
 -- a field of a header type
 pub record FitsField (f : FieldKind) (of : Field) : Type 0 where
@@ -82,6 +84,11 @@ pub record IsFrame (syntax : Syntax16) (f : Frame) : Type 0 where
   pub recirculate : IfSome f.recirculate FitsRequest
   pub events : All FitsEvent f.events
 
+-- the values of the program whose parts have numbers
+pub record IsNumbered (syntax : Syntax16) (x : Numbered) : Type 0 where
+  pub frame : IsFrame syntax x.frame
+  pub variables : AllZip (FitsKind (layouts_of syntax.decls)) (variable_kinds syntax) x.variables
+
 -- a preserved value of the program
 abbrev pub IsPreserved : Syntax16 → Value → Type 0
 IsPreserved syntax v = FitsKind (layouts_of syntax.decls) (metadata_kind syntax) v
@@ -104,7 +111,7 @@ abbrev pub IsSetting : Setting → Type 0
 IsSetting c = Fits c.entries (signature16 c.syntax)
 
 -- what may stand between two calls of a pass
-pub record IsStanding (c : Setting) (b : Standing) : Type 0 where
+pub record IsBetween (c : Setting) (b : Between) : Type 0 where
   pub store : IsStoreOf (signature16 c.syntax) c.entries b.store
   pub work : b.work < 2 ^ 64
   pub events : All FitsEvent b.events

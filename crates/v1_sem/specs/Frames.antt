@@ -73,7 +73,7 @@ raised e m = if is_stopped m then m else record m { stopped = Some e }
 abbrev pub going_on : (Moment → Moment) → Moment → Moment
 going_on f m = if is_stopped m then m else f m
 
--- an error by its number in the order of `error`
+-- an error by its number in the order of `error`, which is that of the names in `error_names`
 abbrev pub error_number : ParserError → ℕ
 error_number NoError = 0
 error_number PacketTooShort = 1
@@ -133,12 +133,13 @@ with_owned f of_nothing v = f
 abbrev pub place_value : Frame → Reference → Value
 place_value f r = part_at r.steps (owned f r.owner)
 
-abbrev pub bits_at : Option Slice → Value → Value
-bits_at None v = v
-bits_at (Some s) v = a_number s.width (sliced s (number_in v))
+-- a value, or the slice of it
+abbrev pub within_slice : Option Slice → Value → Value
+within_slice None v = v
+within_slice (Some s) v = a_number s.width (sliced s (number_in v))
 
 abbrev pub read : Frame → Reference → Value
-read f r = bits_at r.slice (place_value f r)
+read f r = within_slice r.slice (place_value f r)
 
 -- what is written there so that a slice has other bits
 abbrev pub around_slice : Option Slice → Value → Value → Value
@@ -155,11 +156,12 @@ write r v f =
 abbrev pub write_number : Reference → ℕ → Frame → Frame
 write_number r n f = write r (a_number (width_in (read f r)) n) f
 
-abbrev pub written : Reference → Value → Moment → Moment
-written r v m = record m { frame = write r v m.frame }
+-- a moment with a value written there
+abbrev pub put_at : Reference → Value → Moment → Moment
+put_at r v m = record m { frame = write r v m.frame }
 
-abbrev pub written_number : Reference → ℕ → Moment → Moment
-written_number r n m = record m { frame = write_number r n m.frame }
+abbrev pub number_put_at : Reference → ℕ → Moment → Moment
+number_put_at r n m = record m { frame = write_number r n m.frame }
 
 -- a field of standard metadata
 
@@ -172,9 +174,9 @@ with_standard word v f = record f { standard = with_part_at (to_member word ∷ 
 -- variables of statements
 
 -- how many variables there are
-abbrev pub depth : Value → ℕ
-depth (a_member called of rest) = suc (depth rest)
-depth _ = 0
+abbrev pub variable_count : Value → ℕ
+variable_count (a_member called of rest) = suc (variable_count rest)
+variable_count _ = 0
 
 -- without so many, the innermost first
 abbrev pub without : ℕ → Value → Value
@@ -190,7 +192,7 @@ with_inner v m = record m { frame = record m.frame { inner = v } }
 
 -- at the end of a block the variables that were declared since an earlier moment are there no longer
 abbrev pub closed : Moment → Moment → Moment
-closed before m = with_inner (without (depth m.frame.inner - depth before.frame.inner) m.frame.inner) m
+closed before m = with_inner (without (variable_count m.frame.inner - variable_count before.frame.inner) m.frame.inner) m
 
 -- requests and events
 
@@ -207,8 +209,8 @@ with_request Resubmit r f = record f { resubmit = r }
 with_request Recirculate r f = record f { recirculate = r }
 
 -- nothing is requested, and no table was applied
-abbrev pub without_requests : Frame → Frame
-without_requests f =
+abbrev pub without_requests_and_events : Frame → Frame
+without_requests_and_events f =
     record f { clone_i2e = None; clone_e2e = None; resubmit = None; recirculate = None; events = [] }
 
 abbrev pub with_event : Event → Frame → Frame

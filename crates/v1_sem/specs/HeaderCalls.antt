@@ -4,17 +4,17 @@ use Rattle.std.specs.Prelude.{ℕ, true, false, if◌then◌else◌, List, ◌++
 use Rattle.std.specs.Str.{bytes_eq}
 use Rattle.p416_rules.specs.Names.{Name}
 use Rattle.v1_sem.specs.Values.{a_header, a_stack, Header, header_in, place_in, elements_in, cleared}
-use Rattle.v1_sem.specs.Frames.{Moment, Reference, read, written}
+use Rattle.v1_sem.specs.Frames.{Moment, Reference, read, put_at}
 
--- an invalid header becomes valid with fields 0; a valid one stays as it is
+-- an invalid header becomes valid with fields 0, which the standard leaves open; a valid one stays as it is
 abbrev pub validated : Header → Header
 validated h = if h.valid then h else cleared true h
 
 abbrev pub set_valid : Reference → Moment → Moment
-set_valid r m = written r (a_header (validated (header_in (read m.frame r)))) m
+set_valid r m = put_at r (a_header (validated (header_in (read m.frame r)))) m
 
 abbrev pub set_invalid : Reference → Moment → Moment
-set_invalid r m = written r (a_header (cleared false (header_in (read m.frame r)))) m
+set_invalid r m = put_at r (a_header (cleared false (header_in (read m.frame r)))) m
 
 -- the first elements of a stack, so many and at most all, become invalid, and the others move up; what would move past the
 -- end is lost
@@ -27,11 +27,11 @@ popped count elements = drop count elements ++ map (cleared false) (take count e
 
 abbrev pub push_front : Reference → ℕ → Moment → Moment
 push_front r count m =
-    let v = read m.frame r in written r (a_stack (place_in v) (pushed count (elements_in v))) m
+    let v = read m.frame r in put_at r (a_stack (place_in v) (pushed count (elements_in v))) m
 
 abbrev pub pop_front : Reference → ℕ → Moment → Moment
 pop_front r count m =
-    let v = read m.frame r in written r (a_stack (place_in v) (popped count (elements_in v))) m
+    let v = read m.frame r in put_at r (a_stack (place_in v) (popped count (elements_in v))) m
 
 abbrev pub header_call : Name → Reference → Moment → Moment
 header_call word r m =

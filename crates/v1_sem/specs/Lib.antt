@@ -17,6 +17,9 @@
 --     Runs          a list of packets
 --     Fitting       which frames are those of a program
 --     Slots         the parts of a frame by number
+--     Numbered      what stands at a number: read and written
+--     Reentry       whether a program asks for further passes
+--     Meanings      the meanings of a program by their names
 pub mod Values
 pub mod Numbers
 pub mod Frames
@@ -34,3 +37,6 @@ pub mod Passes
 pub mod Runs
 pub mod Fitting
 pub mod Slots
+pub mod Numbered
+pub mod Reentry
+pub mod Meanings

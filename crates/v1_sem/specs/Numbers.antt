@@ -1,7 +1,7 @@
 -- Operators on values (P4_16 1.2, "Operations on fixed-width bit types (unsigned integers)", "Operations on Boolean
 -- values", "Operations on error types", "Casts"). Sums, differences and products are modulo 2 ^ width, `|+|` and `|-|`
 -- saturate, and a shift by the width or more gives 0. Both operands have one width but for shifts and `++`.
-use Rattle.std.specs.Prelude.{ℕ, ◌+◌, ◌-◌, ◌*◌, ◌/◌, ◌%◌, ◌^◌, min, Bool, true, false, not, ◌&&◌, ◌||◌, ◌==◌, nat_lt, nat_le, if◌then◌else◌, bit_and, bit_or, bit_xor}
+use Rattle.std.specs.Prelude.{ℕ, ◌+◌, ◌-◌, ◌*◌, ◌/◌, ◌%◌, ◌^◌, min, Bool, true, false, not, ◌==◌, nat_lt, nat_le, if◌then◌else◌, bit_and, bit_or, bit_xor}
 use Rattle.p4x_bits.specs.BitLists.{bit}
 use Rattle.p416_ast.specs.declared.grammar.node.CastType.{CastType}
 use Rattle.p416_ast.specs.declared.grammar.node.CastType.TheVariants as cast_to
@@ -41,7 +41,8 @@ shifted_left width a count = if nat_le width count then 0 else a * 2 ^ count % 2
 abbrev pub shifted_right : ℕ → ℕ → ℕ → ℕ
 shifted_right width a count = if nat_le width count then 0 else a / 2 ^ count
 
--- operators on values
+-- Operators on values, of which numbers stand behind their widths. `&&` and `||` aren't among them: what they evaluate is
+-- said with expressions.
 
 abbrev pub of_numbers : BinaryOperator → ℕ → ℕ → ℕ → ℕ → Value
 of_numbers Multiply w a v b = a_number w (product w a b)
@@ -71,8 +72,6 @@ is_same_truth false b = not b
 abbrev pub of_truths : BinaryOperator → Bool → Bool → Value
 of_truths Equal a b = a_truth (is_same_truth a b)
 of_truths NotEqual a b = a_truth (not (is_same_truth a b))
-of_truths And a b = a_truth (a && b)
-of_truths Or a b = a_truth (a || b)
 of_truths _ a b = no_value
 
 abbrev pub of_errors : BinaryOperator → ℕ → ℕ → Value
@@ -99,7 +98,7 @@ cast_value (cast_to.Bit w) (a_truth a) = a_number w.value (bit a)
 cast_value cast_to.Bool (a_number v a) = a_truth (not (a == 0))
 cast_value _ _ = no_value
 
--- the elements of a comparison of a value with what stands in a keyset are equal
+-- a key is equal to what a literal of a keyset stands for
 abbrev pub is_equal : Value → Value → Bool
 is_equal (a_number w a) (a_number v b) = a == b
 is_equal (a_truth a) (a_truth b) = is_same_truth a b

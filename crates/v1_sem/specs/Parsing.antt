@@ -32,7 +32,7 @@ use Rattle.v1_sem.specs.declared.parser_error.ParserError.TheVariants.{NoError, 
 use Rattle.v1_sem.specs.Values.{Value, a_truth, an_error, no_members, no_value, number_in, zero_value}
 use Rattle.v1_sem.specs.Numbers.{is_equal}
 use Rattle.v1_sem.specs.Frames.{Moment, ticked, is_stopped, raised, error_number, Owner, of_headers, of_metadata, of_standard, of_nothing, with_standard, with_inner}
-use Rattle.v1_sem.specs.Surroundings.{Setting, rooted, Surroundings, World, acts_none, applies_none}
+use Rattle.v1_sem.specs.Surroundings.{Setting, rooted, Surroundings, World, quiet_world}
 use Rattle.v1_sem.specs.Expressions.{literal_number, value_of}
 use Rattle.v1_sem.specs.Statements.{no_label, run}
 use Rattle.v1_sem.specs.Blocks.{begun, ended}
@@ -58,10 +58,10 @@ keys_from w s (e ∷ es) m =
     record { keys = record { kind = kind_of s e; value = x.value } ∷ rest.keys; moment = rest.moment }
 
 -- a literal that a key of a kind is compared with
-abbrev pub literal_value : Kind → Exp16 → Value
-literal_value k (literal n) = literal_number (literal_of k) n
-literal_value k (truth holds) = a_truth holds
-literal_value k _ = no_value
+abbrev pub keyset_value : Kind → Exp16 → Value
+keyset_value k (literal n) = literal_number (literal_of k) n
+keyset_value k (truth holds) = a_truth holds
+keyset_value k _ = no_value
 
 abbrev pub agrees : ℕ → ℕ → ℕ → Bool
 agrees n v mask = bit_and n mask == bit_and v mask
@@ -75,10 +75,10 @@ abbrev pub matches_simple : Key → Simple → Bool
 matches_simple k simple.Default = true
 matches_simple k simple.Any = true
 matches_simple k (simple.Mask v mask) =
-    agrees (number_in k.value) (number_in (literal_value k.kind v)) (number_in (literal_value k.kind mask))
+    agrees (number_in k.value) (number_in (keyset_value k.kind v)) (number_in (keyset_value k.kind mask))
 matches_simple k (simple.Range low high) =
-    is_between (number_in k.value) (number_in (literal_value k.kind low)) (number_in (literal_value k.kind high))
-matches_simple k (simple.Value v) = is_equal k.value (literal_value k.kind v)
+    is_between (number_in k.value) (number_in (keyset_value k.kind low)) (number_in (keyset_value k.kind high))
+matches_simple k (simple.Value v) = is_equal k.value (keyset_value k.kind v)
 
 -- one for each key
 abbrev pub matches_all : List Key → List Simple → Bool
@@ -110,14 +110,14 @@ to_target (target.State text) m = onward text m
 to_target target.Accept m = finished m
 to_target target.Reject m = finished m
 
-abbrev pub to_match : Option Target → Moment → Onward
-to_match (Some t) m = to_target t m
-to_match None m = finished (raised NoMatch m)
+abbrev pub to_found : Option Target → Moment → Onward
+to_found (Some t) m = to_target t m
+to_found None m = finished (raised NoMatch m)
 
 -- an error in a key ends parsing
 abbrev pub selected : List SelectCase → Keys → Onward
 selected cases x =
-    if is_stopped x.moment then finished x.moment else to_match (first_match x.keys cases) x.moment
+    if is_stopped x.moment then finished x.moment else to_found (first_match x.keys cases) x.moment
 
 abbrev pub leads : World → Scope → Transition → Moment → Onward
 leads w s (transition.Go t) m = to_target t m
@@ -177,9 +177,6 @@ around_parser c p = record {
   locals = [];
 }
 
-abbrev pub parser_world : Surroundings → World
-parser_world b = record { around = b; act = acts_none; apply = applies_none }
-
 -- the headers are an `out` parameter
 abbrev pub without_headers : Setting → Moment → Moment
 without_headers c m =
@@ -192,7 +189,7 @@ run_states w p m = ended (parse_from w p.states (most_states p.states m) (codes 
 
 abbrev pub run_parser : Setting → Option Parser16 → Moment → Moment
 run_parser c None m = m
-run_parser c (Some p) m = run_states (parser_world (around_parser c p)) p (without_headers c m)
+run_parser c (Some p) m = run_states (quiet_world (around_parser c p)) p (without_headers c m)
 
 -- the end of parsing
 pub record Parsed : Type 0 where

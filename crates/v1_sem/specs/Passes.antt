@@ -29,14 +29,14 @@ use Rattle.v1_sem.specs.declared.block.Block.TheVariants.{Verify, Ingress, Egres
 use Rattle.v1_sem.specs.declared.parser_error.ParserError.{ParserError}
 use Rattle.v1_sem.specs.declared.parser_error.ParserError.TheVariants.{NoError, PacketTooShort, StackOutOfBounds, NoMatch}
 use Rattle.v1_sem.specs.Values.{Value, a_number, a_member, no_members, zero_value}
-use Rattle.v1_sem.specs.Frames.{Frame, Moment, Request, standard_number, with_standard, without_requests}
+use Rattle.v1_sem.specs.Frames.{Frame, Moment, Request, standard_number, with_standard, without_requests_and_events}
 use Rattle.v1_sem.specs.Surroundings.{Setting}
 use Rattle.v1_sem.specs.Blocks.{control16}
 use Rattle.v1_sem.specs.Parsing.{Parsed, parse16}
 
 -- what is preserved
 
--- the metadata of a new item: what isn't preserved is 0
+-- metadata of which nothing is preserved: all of it is 0
 abbrev pub none_preserved : Syntax16 → Value
 none_preserved syntax = zero_value (layouts_of syntax.decls) (metadata_kind syntax)
 
@@ -46,28 +46,29 @@ struct_called [] text = []
 struct_called (decl.Struct x ∷ ds) text = if bytes_eq x.name text then x.fields else struct_called ds text
 struct_called (d ∷ ds) text = struct_called ds text
 
+-- the fields of what is declared to be of a type, and of a kind, if that is a struct
 abbrev pub fields_of_type : List Decl16 → Type16 → List StructField
 fields_of_type ds (type_of.Named text None) = struct_called ds text
 fields_of_type ds _ = []
 
-abbrev pub fields_of_kind : List Decl16 → Kind → List StructField
-fields_of_kind ds (struct text) = struct_called ds text
-fields_of_kind ds _ = []
+abbrev pub struct_fields : List Decl16 → Kind → List StructField
+struct_fields ds (struct text) = struct_called ds text
+struct_fields ds _ = []
 
 -- a field's own declaration bears `@field_list` with this number
 abbrev pub is_number : ℕ → Literal16 → Bool
 is_number list n = n.value == list
 
-abbrev pub bears : ℕ → StructField → Bool
-bears list f = list_any (is_number list) (flat_map list_numbers f.notes)
+abbrev pub is_in_list : ℕ → StructField → Bool
+is_in_list list f = list_any (is_number list) (flat_map list_numbers f.notes)
 
-abbrev pub if_borne : ℕ → StructField → ℕ → ℕ
-if_borne list f number = if bears list f then number else 0
+abbrev pub number_if_in_list : ℕ → StructField → ℕ → ℕ
+number_if_in_list list f number = if is_in_list list f then number else 0
 
 -- the bits of a struct that list preserves, with those of the structs in it, and 0 in place of the others
 abbrev pub preserved_in : List Decl16 → ℕ → List StructField → Value → Value
 preserved_in ds list (f ∷ fields) (a_member called (a_number width number) rest) =
-    a_member called (a_number width (if_borne list f number)) (preserved_in ds list fields rest)
+    a_member called (a_number width (number_if_in_list list f number)) (preserved_in ds list fields rest)
 preserved_in ds list (f ∷ fields) (a_member called of rest) =
     a_member called (preserved_in ds list (fields_of_type ds f.of) of) (preserved_in ds list fields rest)
 preserved_in ds list fields v = v
@@ -75,29 +76,11 @@ preserved_in ds list fields v = v
 -- what a request preserves, as it stands
 abbrev pub preserved : Syntax16 → Frame → Request → Value
 preserved syntax f request =
-    preserved_in syntax.decls request.1 (fields_of_kind syntax.decls (metadata_kind syntax)) f.metadata
+    preserved_in syntax.decls request.1 (struct_fields syntax.decls (metadata_kind syntax)) f.metadata
 
 -- frames as a pass begins
 
--- standard metadata that is 0 but for the port of arrival, the packet's length and its kind
-abbrev pub fresh_standard : Syntax16 → ℕ → ℕ → ℕ → Value
-fresh_standard syntax port octets kind =
-    let zeros : Frame = record {
-      headers = no_members;
-      metadata = no_members;
-      standard = zero_value (layouts_of syntax.decls) standard;
-      variables = no_members;
-      inner = no_members;
-      clone_i2e = None;
-      clone_e2e = None;
-      resubmit = None;
-      recirculate = None;
-      events = [];
-    } in
-    (with_standard (codes "ingress_port") (a_number 9 port)
-    (with_standard (codes "packet_length") (a_number 32 octets)
-    (with_standard (codes "instance_type") (a_number 32 kind) zeros))).standard
-
+-- these values, no variable, nothing requested, no table applied
 abbrev pub frame_of : Value → Value → Value → Frame
 frame_of headers metadata standard = record {
   headers = headers;
@@ -112,13 +95,27 @@ frame_of headers metadata standard = record {
   events = [];
 }
 
+-- standard metadata that is 0 but for the port of arrival, the packet's length and its kind
+abbrev pub fresh_standard : Syntax16 → ℕ → ℕ → ℕ → Value
+fresh_standard syntax port octets kind =
+    let zeros = frame_of no_members no_members (zero_value (layouts_of syntax.decls) standard) in
+    (with_standard (codes "ingress_port") (a_number 9 port)
+    (with_standard (codes "packet_length") (a_number 32 octets)
+    (with_standard (codes "instance_type") (a_number 32 kind) zeros))).standard
+
 -- all headers are invalid and all stacks at place 0, and the metadata is what is preserved
 abbrev pub new_frame : Syntax16 → ℕ → ℕ → ℕ → Value → Frame
 new_frame syntax port octets kind kept =
     frame_of (zero_value (layouts_of syntax.decls) (headers_kind syntax)) kept (fresh_standard syntax port octets kind)
 
+-- all numbers are 0, all headers invalid, all stacks at place 0
+abbrev pub blank_frame : Syntax16 → Frame
+blank_frame syntax =
+    frame_of (zero_value (layouts_of syntax.decls) (headers_kind syntax)) (none_preserved syntax)
+    (zero_value (layouts_of syntax.decls) standard)
+
 -- what stands between two calls of a pass: the store, the count of work, and the applications of tables in the last call
-pub record Standing : Type 0 where
+pub record Between : Type 0 where
   pub store : Contents
   pub work : ℕ
   pub events : List Event
@@ -129,7 +126,7 @@ pub record Held : Type 0 where
   pub unparsed : List ℕ
   pub port : ℕ
 
-abbrev pub moment_of : Standing → Frame → List ℕ → Moment
+abbrev pub moment_of : Between → Frame → List ℕ → Moment
 moment_of b f unparsed = record {
   frame = f;
   store = b.store;
@@ -141,13 +138,13 @@ moment_of b f unparsed = record {
 }
 
 -- an item as its pass begins
-abbrev pub begins : Setting → Standing → Item Value → Moment
-begins c b came =
+abbrev pub item_moment : Setting → Between → Item Value → Moment
+item_moment c b came =
     moment_of b (new_frame c.syntax came.port (length came.octets % 2 ^ 32) came.instance came.kept) came.octets
 
--- an answer, with what a pass leaves
-abbrev pub ends : {A : Type 0} → A → Moment → A × Standing
-ends answer m = (answer, record { store = m.store; work = m.work; events = m.frame.events })
+-- an answer, with what the pass that gives it leaves
+abbrev pub answered : {A : Type 0} → A → Moment → A × Between
+answered answer m = (answer, record { store = m.store; work = m.work; events = m.frame.events })
 
 -- ingress
 
@@ -158,12 +155,12 @@ is_no_error StackOutOfBounds = false
 is_no_error NoMatch = false
 
 -- verification, which is left out after an error, and ingress, which runs in any case
-abbrev pub behind_parser : Setting → Parsed → Moment
-behind_parser c p = control16 c Ingress (if is_no_error p.error then control16 c Verify p.moment else p.moment)
+abbrev pub verified_and_run : Setting → Parsed → Moment
+verified_and_run c p = control16 c Ingress (if is_no_error p.error then control16 c Verify p.moment else p.moment)
 
 -- Egress begins with nothing requested, and its own events.
-abbrev pub held_of : ℕ → Moment → Held
-held_of port m = record { frame = without_requests m.frame; unparsed = m.unparsed; port = port }
+abbrev pub handed_on : ℕ → Moment → Held
+handed_on port m = record { frame = without_requests_and_events m.frame; unparsed = m.unparsed; port = port }
 
 abbrev pub asked_clone : Syntax16 → Frame → Request → ℕ × Value
 asked_clone syntax f request = (request.0, preserved syntax f request)
@@ -176,32 +173,33 @@ abbrev pub next_after : Setting → ℕ → Moment → Option Request → Ingres
 next_after c port m (Some request) = after_ingress.Resubmit (preserved c.syntax m.frame request)
 next_after c port m None =
     if egress_spec m.frame == drop_port then after_ingress.Drop
-    else after_ingress.Go (egress_spec m.frame) (held_of port m)
+    else after_ingress.Go (egress_spec m.frame) (handed_on port m)
 
-abbrev pub ingress_end : Setting → ℕ → Moment → IngressEnd Value Held × Standing
+abbrev pub ingress_end : Setting → ℕ → Moment → IngressEnd Value Held × Between
 ingress_end c port m =
     let answer : IngressEnd Value Held = record {
       clone = option_map (asked_clone c.syntax m.frame) m.frame.clone_i2e;
       next = next_after c port m m.frame.resubmit;
     } in
-    ends answer m
+    answered answer m
 
 -- parsing, verification and ingress
-unfoldable pub ingress16 : Setting → Standing → Item Value → IngressEnd Value Held × Standing
-ingress16 c b came = ingress_end c came.port (behind_parser c (parse16 c (begins c b came)))
+unfoldable pub ingress16 : Setting → Between → Item Value → IngressEnd Value Held × Between
+ingress16 c b came = ingress_end c came.port (verified_and_run c (parse16 c (item_moment c b came)))
 
 -- parsing alone, of a clone made at the end of ingress
-unfoldable pub reparse16 : Setting → Standing → Item Value → Held × Standing
-reparse16 c b came = let p = parse16 c (begins c b came) in ends (held_of came.port p.moment) p.moment
+unfoldable pub reparse16 : Setting → Between → Item Value → Held × Between
+reparse16 c b came = let p = parse16 c (item_moment c b came) in answered (handed_on came.port p.moment) p.moment
 
 -- egress
 
--- as egress begins: on this port, of this kind, with nothing requested; the rest is as it was left
+-- as egress begins: on this port, of this kind, with nothing requested and no table applied, as what is held between two
+-- blocks has it already; the rest is as it was left
 abbrev pub egress_frame : Held → ℕ → ℕ → Frame
 egress_frame held port kind =
     with_standard (codes "egress_spec") (a_number 9 0)
     (with_standard (codes "egress_port") (a_number 9 port)
-    (with_standard (codes "instance_type") (a_number 32 kind) (without_requests held.frame)))
+    (with_standard (codes "instance_type") (a_number 32 kind) (without_requests_and_events held.frame)))
 
 -- A clone made behind egress has the headers, the octets that weren't parsed and the packet's length as egress left them,
 -- and its port of arrival. Its metadata is what is preserved, and the rest of its standard metadata is 0 until its egress
@@ -233,16 +231,16 @@ leaves c f octets (Some request) = after_egress.Recirculate octets (preserved c.
 leaves c f octets None = after_egress.Send octets
 
 -- after egress the clone, then a dropped packet ends the pass, and only one that leaves is put together
-abbrev pub egress_end : Setting → ℕ → Moment → EgressEnd Value Held × Standing
+abbrev pub egress_end : Setting → ℕ → Moment → EgressEnd Value Held × Between
 egress_end c arrived m =
-    if egress_spec m.frame == drop_port then ended after_egress.Drop m
+    if egress_spec m.frame == drop_port then with_clone after_egress.Drop m
     else
-    let out = put_together c m in ended (leaves c m.frame (octets_left out) m.frame.recirculate) out where
-      ended : EgressNext Value → Moment → EgressEnd Value Held × Standing
-      ended next left =
-          ends (record { clone = option_map (asked_egress_clone c.syntax arrived m) m.frame.clone_e2e; end = next }) left
+    let out = put_together c m in with_clone (leaves c m.frame (octets_left out) m.frame.recirculate) out where
+      with_clone : EgressNext Value → Moment → EgressEnd Value Held × Between
+      with_clone next left =
+          answered (record { clone = option_map (asked_egress_clone c.syntax arrived m) m.frame.clone_e2e; end = next }) left
 
 -- egress, the clone, and then the computation of checksums and the deparser
-unfoldable pub egress16 : Setting → Standing → Held → ℕ → ℕ → EgressEnd Value Held × Standing
+unfoldable pub egress16 : Setting → Between → Held → ℕ → ℕ → EgressEnd Value Held × Between
 egress16 c b held port kind =
     egress_end c held.port (control16 c Egress (moment_of b (egress_frame held port kind) held.unparsed))

@@ -9,13 +9,13 @@ use Rattle.fabric.specs.Fabric.{Machine, Whole, fabric_of}
 use Rattle.v1_sem.specs.Values.{Value}
 use Rattle.v1_sem.specs.Signatures.{signature16}
 use Rattle.v1_sem.specs.Surroundings.{Setting}
-use Rattle.v1_sem.specs.Passes.{Standing, Held, none_preserved, ingress16, reparse16, egress16}
+use Rattle.v1_sem.specs.Passes.{Between, Held, none_preserved, ingress16, reparse16, egress16}
 
-abbrev pub events_of : Standing → List Event
+abbrev pub events_of : Between → List Event
 events_of b = b.events
 
 -- the four functions of a program's passes
-abbrev pub machine16 : Setting → Machine Standing Value Held
+abbrev pub machine16 : Setting → Machine Between Value Held
 machine16 c = record {
   nothing = λ b. (none_preserved c.syntax, b);
   ingress = λ b came. ingress16 c b came;
@@ -24,11 +24,11 @@ machine16 c = record {
 }
 
 -- as a run begins
-abbrev pub before : Setting → Standing
+abbrev pub before : Setting → Between
 before c = record { store = first_store (signature16 c.syntax) c.entries; work = 0; events = [] }
 
 -- the sent packets, the store, how many items were cut, and the work
-unfoldable pub Run16 : Setting → ℕ → List Arrival → Whole Standing
+unfoldable pub Run16 : Setting → ℕ → List Arrival → Whole Between
 Run16 c bound arrivals = fabric_of (machine16 c) c.entries.sessions bound (before c) arrivals
 
 abbrev pub Work16 : Setting → ℕ → List Arrival → ℕ

@@ -94,16 +94,16 @@ pub record Object : Type 0 where
   pub plane : Name
   pub instance : Instance
 
-abbrev pub local_object : Local → Option Object
-local_object (local.Instance notes i) = Some (record { plane = plane_name notes (instance_name i); instance = i })
-local_object _ = None
+abbrev pub own_object : Local → Option Object
+own_object (local.Instance notes i) = Some (record { plane = plane_name notes (instance_name i); instance = i })
+own_object _ = None
 
 abbrev pub objects_in : Decl16 → List Object
 objects_in (decl.Instance notes i) = record { plane = plane_name notes (instance_name i); instance = i } ∷ []
-objects_in (decl.Control c) = filter_map local_object c.locals
+objects_in (decl.Control c) = filter_map own_object c.locals
 objects_in _ = []
 
--- at the top alone
+-- the object that a declaration at the top declares, if it does
 abbrev pub top_object : Decl16 → Option Object
 top_object (decl.Instance notes i) = Some (record { plane = plane_name notes (instance_name i); instance = i })
 top_object _ = None
@@ -119,7 +119,7 @@ or_at_top ds text (Some plane) = plane
 or_at_top ds text None = unwrap_or (plane_among (filter_map top_object ds) text) text
 
 abbrev pub plane_of_object : List Decl16 → List Local → Name → Name
-plane_of_object ds locals text = or_at_top ds text (plane_among (filter_map local_object locals) text)
+plane_of_object ds locals text = or_at_top ds text (plane_among (filter_map own_object locals) text)
 
 -- keys
 
@@ -170,12 +170,12 @@ action_sig s t plane = record {
 
 -- tables
 
-abbrev pub literal_value : Literal16 → ℕ
-literal_value n = n.value
+abbrev pub size_written : Literal16 → ℕ
+size_written n = n.value
 
 -- how many entries a table may have; a greater number counts as the greatest of 32 bits
 abbrev pub table_size : Table16 → ℕ
-table_size t = min (2 ^ 32 - 1) (option_map_or literal_value (size_of t.properties) 1024)
+table_size t = min (2 ^ 32 - 1) (option_map_or size_written (size_of t.properties) 1024)
 
 -- the number of the direct counter that the name behind `counters` means
 abbrev pub direct_number : Syntax16 → List Local → Name → ℕ
@@ -193,6 +193,7 @@ table_sig syntax locals s t = record {
   direct = direct_of syntax locals t;
 }
 
+-- `packets_and_bytes` counts both, and so does what is no type of counters
 abbrev pub counted_by : Member → CountKind
 counted_by (member_of.CounterType Packets) = count_packets
 counted_by (member_of.CounterType Bytes) = count_bytes

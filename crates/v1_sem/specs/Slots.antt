@@ -27,10 +27,10 @@ use Rattle.v1_sem.specs.Values.{Step, to_member, to_element}
 
 -- which of a frame's values a part belongs to; variables and parameters of actions are counted from 0
 pub data PartOwner : Type 0 where
-  of_headers : PartOwner
-  of_metadata : PartOwner
-  of_standard : PartOwner
-  of_variable : (number : ℕ) → PartOwner
+  the_headers : PartOwner
+  the_metadata : PartOwner
+  the_standard : PartOwner
+  the_variable : (number : ℕ) → PartOwner
 
 -- a part by the value that it belongs to, and the steps that lead to it from there
 pub record FramePart : Type 0 where
@@ -139,12 +139,12 @@ parts_of paths owner k = map (part_with owner) (paths k)
 abbrev pub variable_parts : (Kind → List (List Step)) → ℕ → List Kind → List FramePart
 variable_parts paths number [] = []
 variable_parts paths number (k ∷ kinds) =
-    parts_of paths (of_variable number) k ++ variable_parts paths (suc number) kinds
+    parts_of paths (the_variable number) k ++ variable_parts paths (suc number) kinds
 
 abbrev pub frame_parts : Syntax16 → (Kind → List (List Step)) → List FramePart
 frame_parts syntax paths =
-    parts_of paths of_headers (headers_kind syntax) ++ parts_of paths of_metadata (metadata_kind syntax)
-    ++ parts_of paths of_standard standard ++ variable_parts paths 0 (variable_kinds syntax)
+    parts_of paths the_headers (headers_kind syntax) ++ parts_of paths the_metadata (metadata_kind syntax)
+    ++ parts_of paths the_standard standard ++ variable_parts paths 0 (variable_kinds syntax)
 
 abbrev pub slots_of : Syntax16 → List FramePart
 slots_of syntax = let layouts = layouts_of syntax.decls in frame_parts syntax (slot_paths layouts (length layouts))
@@ -168,10 +168,10 @@ is_same_path (a ∷ xs) (b ∷ ys) = is_same_step a b && is_same_path xs ys
 is_same_path _ _ = false
 
 abbrev pub is_same_owner : PartOwner → PartOwner → Bool
-is_same_owner of_headers of_headers = true
-is_same_owner of_metadata of_metadata = true
-is_same_owner of_standard of_standard = true
-is_same_owner (of_variable m) (of_variable n) = nat_eq m n
+is_same_owner the_headers the_headers = true
+is_same_owner the_metadata the_metadata = true
+is_same_owner the_standard the_standard = true
+is_same_owner (the_variable m) (the_variable n) = nat_eq m n
 is_same_owner _ _ = false
 
 abbrev pub is_same_part : FramePart → FramePart → Bool

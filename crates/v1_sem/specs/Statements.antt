@@ -14,8 +14,8 @@ use Rattle.p416_rules.specs.Scopes.{Scope, kind_of_type}
 use Rattle.p416_rules.specs.Calls.{value}
 use Rattle.p416_rules.specs.Expressions.{kind_of}
 use Rattle.p416_rules.specs.Statements.{behind, assigned_place}
-use Rattle.v1_sem.specs.Values.{Value, is_true, kept, zero_value}
-use Rattle.v1_sem.specs.Frames.{Moment, ticked, is_stopped, going_on, written, declared, closed}
+use Rattle.v1_sem.specs.Values.{Value, is_true, fitted, zero_value}
+use Rattle.v1_sem.specs.Frames.{Moment, ticked, is_stopped, going_on, put_at, declared, closed}
 use Rattle.v1_sem.specs.Surroundings.{World}
 use Rattle.v1_sem.specs.Expressions.{Valued, value_of, reference_of}
 use Rattle.v1_sem.specs.Calls.{call_statement}
@@ -27,14 +27,14 @@ abbrev pub starts : Scope → Type16 → Value
 starts s t = zero_value s.layouts (kind_of_type s.names t)
 
 abbrev pub initialized : Scope → Type16 → Name → Valued → Moment
-initialized s t called x = going_on (declared called (kept (starts s t) x.value)) x.moment
+initialized s t called x = going_on (declared called (fitted (starts s t) x.value)) x.moment
 
 -- assignments: what the target means is found first, then the value is evaluated, and then it is written
 abbrev pub assigned : World → Scope → Exp16 → Exp16 → Moment → Moment
 assigned w s target e m =
     let r = reference_of w.around s target m in
     let x = value_of w s (assigned_place (kind_of s target)) e r.moment in
-    going_on (written r.reference x.value) x.moment
+    going_on (put_at r.reference x.value) x.moment
 
 abbrev pub condition : World → Scope → Exp16 → Moment → Valued
 condition w s c m = value_of w s (value boolean) c m

@@ -27,7 +27,8 @@ abbrev pub rooted : List Name → List Owner → List Root
 rooted (called ∷ names) (owner ∷ owners) = record { called = called; owner = owner } ∷ rooted names owners
 rooted _ _ = []
 
--- a block: its scope, its parameters, and what it declares, which a parser doesn't
+-- a block: its scope, its parameters, and what a control declares; for a parser nothing, since its variables and its states
+-- are handed over by themselves
 pub record Surroundings : Type 0 where
   pub setting : Setting
   pub scope : Scope
@@ -49,12 +50,15 @@ pub record World : Type 0 where
   pub apply : Name → Moment → Applied
 
 -- no table is applied: so in actions, in keys and in parsers
-abbrev pub applies_none : Name → Moment → Applied
-applies_none text m = record { hit = false; action = None; moment = m }
+abbrev pub no_table_applies : Name → Moment → Applied
+no_table_applies text m = record { hit = false; action = None; moment = m }
 
 -- no action is called: so in parsers, and in keys
-abbrev pub acts_none : Action16 → Moment → Moment
-acts_none a m = m
+abbrev pub no_action_runs : Action16 → Moment → Moment
+no_action_runs a m = m
+
+abbrev pub quiet_world : Surroundings → World
+quiet_world b = record { around = b; act = no_action_runs; apply = no_table_applies }
 
 -- which of the frame's values a name means: a variable of the statements or a parameter of the action that runs, then a
 -- parameter of the block, then a variable of the block
@@ -67,7 +71,7 @@ abbrev pub named : Surroundings → Frame → Name → Reference
 named b f text =
     if has_member f.inner text then stepped (whole of_inner) (to_member text) else by_root b.roots text
 
--- the action and the table of a control with a name
+-- of a control the action with a name, and the table with a name
 
 abbrev pub action_called : List Action16 → Name → Option Action16
 action_called [] text = None

@@ -8,7 +8,6 @@ use Rattle.match_core.specs.declared.entries.DefaultCall.{DefaultCall}
 use Rattle.match_core.specs.declared.entries.TableFill.{TableFill}
 use Rattle.match_core.specs.Best.{best, entry_at}
 use Rattle.match_core.specs.Tables.{filled_of}
-use Rattle.p4x_bits.specs.BitLists.{bit}
 use Rattle.p416_ast.specs.declared.grammar.parts.Param.{Param}
 use Rattle.p416_ast.specs.declared.grammar.controls.Action16.{Action16}
 use Rattle.p416_ast.specs.declared.grammar.controls.ActionName.{ActionName}
@@ -23,25 +22,16 @@ use Rattle.p416_rules.specs.Declarations.{is_exact}
 use Rattle.p416_rules.specs.Uses.{arguments_of}
 use Rattle.p416_rules.specs.Tables.{action_plane}
 use Rattle.p416_rules.specs.Totals.{size_value as literal_in}
-use Rattle.v1_sem.specs.Values.{Value, a_number, a_truth, a_member, no_members, number_in, kept, zero_value}
+use Rattle.v1_sem.specs.Values.{Value, a_number, a_member, no_members, as_number, fitted, zero_value}
 use Rattle.v1_sem.specs.Frames.{Hit, Moment, with_frame, with_inner, with_event}
 use Rattle.v1_sem.specs.Signatures.{planes_of, place_among, action_with, key_scope, table_sig, table_number}
-use Rattle.v1_sem.specs.Surroundings.{Surroundings, Applied, World, acts_none, applies_none, action_named, table_named}
+use Rattle.v1_sem.specs.Surroundings.{Surroundings, Applied, quiet_world, action_named, table_named}
 use Rattle.v1_sem.specs.Expressions.{value_of}
 
 -- keys: their expressions see the block's own names, and apply no table
-
-abbrev pub key_world : Surroundings → World
-key_world b = record { around = b; act = acts_none; apply = applies_none }
-
--- a truth value is 1 or 0
-abbrev pub key_number : Value → ℕ
-key_number (a_truth holds) = bit holds
-key_number v = number_in v
-
 abbrev pub key_value : Surroundings → Moment → TableKey → ℕ
 key_value b m k =
-    key_number (value_of (key_world b) (key_scope b.scope) (table_key (is_exact k)) k.exp (with_inner no_members m)).value
+    as_number (value_of (quiet_world b) (key_scope b.scope) (table_key (is_exact k)) k.exp (with_inner no_members m)).value
 
 abbrev pub key_values : Surroundings → Moment → Table16 → List ℕ
 key_values b m t = map (key_value b m) (keys_of t.properties)
@@ -67,14 +57,14 @@ pub record Chosen : Type 0 where
   pub number : ℕ
   pub arguments : List ℕ
 
--- the name of the action with this number
-abbrev pub declared_name : ActionName → Name
-declared_name (action_name.Declared text) = text
-declared_name action_name.NoAction = []
+abbrev pub listed_name : ActionName → Name
+listed_name (action_name.Declared text) = text
+listed_name action_name.NoAction = []
 
+-- the name of the action with this number
 abbrev pub name_of_number : Scope → Table16 → ℕ → Name
 name_of_number s t number =
-    declared_name (action_with s (actions_of t.properties) (slice_index_or (planes_of s t) number []))
+    listed_name (action_with s (actions_of t.properties) (slice_index_or (planes_of s t) number []))
 
 abbrev pub chosen_by : Scope → Table16 → ℕ → List ℕ → Chosen
 chosen_by s t number arguments =
@@ -87,7 +77,7 @@ chosen_entry s t e = chosen_by s t e.action e.arguments
 abbrev pub chosen_default : Scope → Table16 → DefaultCall → Chosen
 chosen_default s t d = chosen_by s t d.action d.arguments
 
--- the table's own default; its arguments are literals
+-- the table's own default; its arguments are literals, of numbers alone
 abbrev pub own_default : Scope → Table16 → ActionName → Option Chosen
 own_default s t action_name.NoAction = None
 own_default s t (action_name.Declared text) = Some (record {
@@ -112,7 +102,7 @@ abbrev pub bound_numbers : Scope → List Param → List ℕ → Value
 bound_numbers s [] numbers = no_members
 bound_numbers s (p ∷ parameters) [] = no_members
 bound_numbers s (p ∷ parameters) (n ∷ numbers) =
-    a_member p.name (kept (zero_value s.layouts (kind_of_type s.names p.of)) (a_number 0 n))
+    a_member p.name (fitted (zero_value s.layouts (kind_of_type s.names p.of)) (a_number 0 n))
     (bound_numbers s parameters numbers)
 
 -- the entry that was hit, for the direct counter of the table
@@ -123,8 +113,8 @@ hit_of _ _ = None
 abbrev pub run_action : Surroundings → (Action16 → Moment → Moment) → Option Hit → List ℕ → Option Action16 → Moment → Moment
 run_action b act hit arguments None m = m
 run_action b act hit arguments (Some a) m =
-    let begun : Moment = record (with_inner (bound_numbers b.scope a.parameters arguments) m) { hit = hit } in
-    record (with_inner m.frame.inner (act a begun)) { hit = m.hit }
+    let entered : Moment = record (with_inner (bound_numbers b.scope a.parameters arguments) m) { hit = hit } in
+    record (with_inner m.frame.inner (act a entered)) { hit = m.hit }
 
 abbrev pub run_chosen : Surroundings → (Action16 → Moment → Moment) → Option Hit → Option Chosen → Moment → Moment
 run_chosen b act hit None m = m
@@ -137,8 +127,8 @@ abbrev pub number_of : Chosen → ℕ
 number_of k = k.number
 
 -- the application is noted with the table's number, the entry and the action
-abbrev pub noted : ℕ → Option ℕ → Option Chosen → Moment → Moment
-noted table entry k m =
+abbrev pub with_application : ℕ → Option ℕ → Option Chosen → Moment → Moment
+with_application table entry k m =
     with_frame m (with_event (record { table = table; entry = entry; action = option_map number_of k }) m.frame)
 
 abbrev pub applied_by : Surroundings → (Action16 → Moment → Moment) → Table16 → Option ℕ → Moment → Applied
@@ -149,7 +139,7 @@ applied_by b act t entry m =
       hit = is_some entry;
       action = option_map called_in k;
       moment =
-          run_chosen b act (hit_of sig.direct entry) k (noted (table_number b.setting.syntax t) entry k m);
+          run_chosen b act (hit_of sig.direct entry) k (with_application (table_number b.setting.syntax t) entry k m);
     }
 
 -- the application of the table with a name

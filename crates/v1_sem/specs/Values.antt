@@ -2,6 +2,7 @@
 -- header stacks", "Operations on struct types").
 use Rattle.std.specs.Prelude.{ℕ, zero, suc, ◌+◌, ◌-◌, ◌*◌, ◌/◌, ◌%◌, ◌^◌, Bool, true, false, if◌then◌else◌, List, [], ◌∷◌, length, map, replicate, slice_index_or, slice_set, Option, Some, None}
 use Rattle.std.specs.Str.{bytes_eq}
+use Rattle.p4x_bits.specs.BitLists.{bit}
 use Rattle.p416_rules.specs.Names.{Name}
 use Rattle.p416_rules.specs.Kinds.{Kind, bits, boolean, error_code, header, stack, struct}
 use Rattle.p416_rules.specs.Scopes.{Layout, FieldKind, fields_in}
@@ -45,6 +46,12 @@ abbrev pub width_in : Value → ℕ
 width_in (a_number width number) = width
 width_in _ = 0
 
+-- a value as one number: a truth value is 1 or 0, and an error its number in the order of `error`
+abbrev pub as_number : Value → ℕ
+as_number (a_truth holds) = bit holds
+as_number (an_error number) = number
+as_number v = number_in v
+
 abbrev pub is_true : Value → Bool
 is_true (a_truth holds) = holds
 is_true _ = false
@@ -83,7 +90,7 @@ abbrev pub field_in : List Field → Name → Option Field
 field_in [] word = None
 field_in (f ∷ fields) word = if bytes_eq f.called word then Some f else field_in fields word
 
--- a field of an invalid header reads 0
+-- a field of an invalid header reads 0 (the standard leaves open what it reads)
 abbrev pub field_value : Bool → Option Field → Value
 field_value valid None = no_value
 field_value valid (Some f) = a_number f.width (if valid then f.number else 0)
@@ -117,7 +124,7 @@ with_field [] word n = []
 with_field (f ∷ fields) word n =
     if bytes_eq f.called word then with_number f n ∷ fields else f ∷ with_field fields word n
 
--- a write to a field of an invalid header does nothing
+-- a write to a field of an invalid header does nothing (the standard leaves open what it does to that header)
 abbrev pub with_header_field : Header → Name → Value → Header
 with_header_field h word v =
     if h.valid then record { valid = true; fields = with_field h.fields word (number_in v) } else h
@@ -133,15 +140,16 @@ with_part (a_stack place elements) (to_element n) v = a_stack place (slice_set e
 with_part old (to_member word) v = with_member old word v
 with_part old (to_element n) v = old
 
--- What is kept of a value where another one stood: bits keep their width, so that a number is cut or extended to it; a
--- header, a stack, a struct is taken as it is, with its validity and its place ("Assignment statement").
-abbrev pub kept : Value → Value → Value
-kept (a_number width old) v = a_number width (number_in v % 2 ^ width)
-kept old v = v
+-- A value as it stands where another one stood: bits keep the width that was there, so that a number is cut or extended to
+-- it; a header, a stack or a struct is taken as it is, with its validity ("Assignment statement"). That a stack takes its
+-- place with it is this project's own.
+abbrev pub fitted : Value → Value → Value
+fitted (a_number width old) v = a_number width (number_in v % 2 ^ width)
+fitted old v = v
 
 -- a value with another one written to the part that steps lead to
 abbrev pub with_part_at : List Step → Value → Value → Value
-with_part_at [] v old = kept old v
+with_part_at [] v old = fitted old v
 with_part_at (step ∷ steps) v old = with_part old step (with_part_at steps v (part_of old step))
 
 -- slices
@@ -158,15 +166,15 @@ sliced s n = n / 2 ^ s.low % 2 ^ s.width
 abbrev pub spliced : Slice → ℕ → ℕ → ℕ
 spliced s old n = old - old % 2 ^ (s.low + s.width) + n % 2 ^ s.width * 2 ^ s.low + old % 2 ^ s.low
 
--- values as they start: numbers are 0, headers invalid, stacks at place 0 ("Default values"; the standard leaves what a
--- variable starts as open)
+-- values as they start: numbers are 0, truth values false, errors NoError, headers invalid, stacks at place 0 ("Default
+-- values"; the standard leaves what a variable starts as open)
 
 abbrev pub zero_field : FieldKind → Field
 zero_field f = record { called = f.called; width = bits_in f.kind; number = 0 }
 
--- a header of this type that is valid or not, with all fields 0
-abbrev pub zero_header : List Layout → Name → Bool → Header
-zero_header layouts type valid = record { valid = valid; fields = map zero_field (fields_in layouts type) }
+-- an invalid header of this type, with all fields 0
+abbrev pub zero_header : List Layout → Name → Header
+zero_header layouts type = record { valid = false; fields = map zero_field (fields_in layouts type) }
 
 abbrev pub members_from : (Kind → Value) → List FieldKind → Value
 members_from value [] = no_members
@@ -177,8 +185,8 @@ abbrev pub zero_within : List Layout → ℕ → Kind → Value
 zero_within layouts n (bits width) = a_number width 0
 zero_within layouts n boolean = a_truth false
 zero_within layouts n error_code = an_error 0
-zero_within layouts n (header type) = a_header (zero_header layouts type false)
-zero_within layouts n (stack type size) = a_stack 0 (replicate size (zero_header layouts type false))
+zero_within layouts n (header type) = a_header (zero_header layouts type)
+zero_within layouts n (stack type size) = a_stack 0 (replicate size (zero_header layouts type))
 zero_within layouts zero (struct type) = no_members
 zero_within layouts (suc n) (struct type) = members_from (λ k. zero_within layouts n k) (fields_in layouts type)
 zero_within layouts n _ = no_value

@@ -7,7 +7,7 @@ pub enum ParserError {
     NoError,
     /// An extraction or `lookahead` wants more bits than are left.
     PacketTooShort,
-    /// `next` of a full stack, or `last` of a stack of which nothing was extracted.
+    /// `next` of a full stack, or `last` of a stack at place 0.
     StackOutOfBounds,
     /// No case of a select matches.
     NoMatch,

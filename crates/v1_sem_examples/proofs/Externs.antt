@@ -1,5 +1,5 @@
 -- Each extern. The packet is 12 34 00 00, but where another one stands.
-use Rattle.std.proofs.Common.{◌≡◌, ℕ, List, [], ◌∷◌, refl}
+use Rattle.std.proofs.Common.{◌≡◌, ℕ, List, [], ◌∷◌, ◌++◌, refl}
 use Rattle.std.specs.Prelude.{codes, true, false}
 use Rattle.p4x_bits.specs.BitLists.{num, bits}
 use Rattle.state_store.specs.declared.cells.Cells.TheVariants.{Counts, Numbers, Colours}
@@ -67,7 +67,7 @@ crc32_of_digits : sends_of (hashes h_z (codes "crc32") (n 16 0) (digits ∷ []) 
 unfolding num bits run signature16 control16 parse16 ingress16 reparse16 egress16 Run16
 crc32_of_digits = refl
 
--- the complement of 1234 + 0001, with the items of both headers' fields joined
+-- the complement of 1234 + 0001: the bits of two fields and of a literal, one after another
 csum16_of_items : sends_of (hashes h_z (codes "csum16") (n 16 0) (h_x ∷ h_y ∷ n 16 1 ∷ []) (n 32 65536) ∷ []) ≡ sends 3 (0x12 ∷ 0x34 ∷ 0xed ∷ 0xca ∷ []) 7
 unfolding num bits run signature16 control16 parse16 ingress16 reparse16 egress16 Run16
 csum16_of_items = refl
@@ -102,7 +102,7 @@ updates_with_payload : outcome (plainly (program (record small { compute = sums 
 unfolding num bits run signature16 control16 parse16 ingress16 reparse16 egress16 Run16
 updates_with_payload = refl
 
--- ingress writes `checksum_error` to x
+-- ingress writes 1 to x where `checksum_error` is 1
 abbrev verifying : Stmt16 → Sample
 verifying x =
     record small {
@@ -179,8 +179,8 @@ reads : outcome (setting (on (codes "r") (codes "write") (n 32 1 ∷ n 8 0xab �
 unfolding num bits run signature16 control16 parse16 ingress16 reparse16 egress16 Run16
 reads = refl
 
--- m.execute_meter(32w0, hdr.h.x); an index out of range gives 0 and takes no colour
-takes_colours : outcome (setting (on (codes "m") (codes "execute_meter") (n 32 0 ∷ h_x ∷ []) ∷ on (codes "m") (codes "execute_meter") (n 32 2 ∷ h_z ∷ []) ∷ on (codes "m") (codes "execute_meter") (n 32 1 ∷ h_y ∷ []) ∷ [])) packet ≡ sends 3 (2 ∷ 1 ∷ 0 ∷ 0 ∷ []) 9
+-- m.execute_meter(32w0, hdr.h.x); an index out of range gives 0, which is written to z, and takes no colour
+takes_colours : outcome (setting (assign h_z (n 16 7) ∷ on (codes "m") (codes "execute_meter") (n 32 0 ∷ h_x ∷ []) ∷ on (codes "m") (codes "execute_meter") (n 32 2 ∷ h_z ∷ []) ∷ on (codes "m") (codes "execute_meter") (n 32 1 ∷ h_y ∷ []) ∷ [])) packet ≡ sends 3 (2 ∷ 1 ∷ 0 ∷ 0 ∷ []) 10
 unfolding num bits run signature16 control16 parse16 ingress16 reparse16 egress16 Run16
 takes_colours = refl
 
@@ -241,3 +241,18 @@ resubmits = refl
 recirculates : outcome (plainly (program (record small { egress = if_first (block (statements (assign h_z (n 16 7) ∷ asks (again (codes "recirculate_preserving_field_list"))))) ∷ if_then (binary Equal (sm (codes "instance_type")) (n 32 4)) (assign h_y (meta (codes "k"))) ∷ [] }))) packet ≡ sends 3 (0x12 ∷ 5 ∷ 0 ∷ 7 ∷ []) 21
 unfolding num bits run signature16 control16 parse16 ingress16 reparse16 egress16 Run16
 recirculates = refl
+
+-- behind its last colour a meter gives 0
+runs_out_of_colours : outcome (setting (assign h_z (n 16 7) ∷ on (codes "m") (codes "execute_meter") (n 32 0 ∷ h_x ∷ []) ∷ on (codes "m") (codes "execute_meter") (n 32 0 ∷ h_y ∷ []) ∷ on (codes "m") (codes "execute_meter") (n 32 0 ∷ h_z ∷ []) ∷ [])) packet ≡ sends 3 (2 ∷ 1 ∷ 0 ∷ 0 ∷ []) 10
+unfolding num bits run signature16 control16 parse16 ingress16 reparse16 egress16 Run16
+runs_out_of_colours = refl
+
+-- the last request of a kind counts: list 0, which preserves nothing, and then list 1
+asks_twice : outcome (plainly (program (record (doing (if_first (block (statements (does (calls (codes "resubmit_preserving_field_list") (n 8 0 ∷ [])) ∷ asks (again (codes "resubmit_preserving_field_list"))))) ∷ [])) { egress = tells }))) packet ≡ sends 3 (6 ∷ 5 ∷ 0 ∷ 0 ∷ []) 18
+unfolding num bits run signature16 control16 parse16 ingress16 reparse16 egress16 Run16
+asks_twice = refl
+
+-- a clone is made beside a resubmission, and the packet's first pass sends nothing
+clones_and_resubmits : outcome (with_session (program (record (doing (if_first (block (statements (asks (again (codes "resubmit_preserving_field_list")) ++ clones (codes "I2E") ∷ []))) ∷ [])) { egress = tells }))) packet ≡ record { sent = (9, 1 ∷ 5 ∷ 0 ∷ 0 ∷ []) ∷ (3, 6 ∷ 5 ∷ 0 ∷ 0 ∷ []) ∷ []; work = 26 }
+unfolding num bits run signature16 control16 parse16 ingress16 reparse16 egress16 Run16
+clones_and_resubmits = refl

@@ -1,7 +1,7 @@
 -- Further examples: variables of blocks, structs, standard metadata, objects at the top, defaults with arguments, and what
 -- clones and repeated packets carry. The packet is 12 34 00 00.
 use Rattle.std.proofs.Common.{◌≡◌, ℕ, List, [], ◌∷◌, refl}
-use Rattle.std.specs.Prelude.{codes, Some, None}
+use Rattle.std.specs.Prelude.{codes, true, false, Some, None}
 use Rattle.p4x_bits.specs.BitLists.{num, bits}
 use Rattle.state_store.specs.declared.cells.Cells.TheVariants.{Counts}
 use Rattle.match_core.specs.declared.entries.KeyMatch.TheVariants as key_match
@@ -10,15 +10,17 @@ use Rattle.fabric.specs.Queue.{run}
 use Rattle.p416_ast.specs.declared.grammar.parts.Type16.TheVariants.{Bool as BoolType}
 use Rattle.p416_ast.specs.declared.grammar.parts.Member.TheVariants as member_of
 use Rattle.p416_ast.specs.declared.grammar.parts.CounterType.TheVariants.{Packets}
+use Rattle.p416_ast.specs.declared.grammar.parsers.Target.TheVariants as target
+use Rattle.p416_ast.specs.declared.grammar.parsers.Transition.TheVariants as transition
 use Rattle.p416_ast.specs.declared.grammar.controls.Instance.TheVariants as instance
 use Rattle.p416_ast.specs.declared.grammar.controls.Local.{Local}
 use Rattle.p416_ast.specs.declared.grammar.controls.Local.TheVariants as local
 use Rattle.p416_ast.specs.declared.grammar.controls.Property.TheVariants as property
-use Rattle.p416_ast.specs.declared.grammar.node.BinaryOperator.TheVariants.{Add, Equal, Concatenate}
+use Rattle.p416_ast.specs.declared.grammar.node.BinaryOperator.TheVariants.{Add, Equal, Concatenate, And, Or}
 use Rattle.p416_ast.specs.declared.grammar.node.CastType.TheVariants.{Bit}
 use Rattle.p416_ast.specs.declared.grammar.program.Decl16.TheVariants as decl
 use Rattle.p416_ast.specs.declared.grammar.program.Syntax16.{Syntax16}
-use Rattle.p416_ast.specs.Grammar.Tree.{Exp16, name, member, index, slice, cast, binary, choice, Stmt16, assign, if_then, var, var_is}
+use Rattle.p416_ast.specs.Grammar.Tree.{Exp16, truth, name, member, index, slice, cast, binary, choice, Stmt16, assign, if_then, var, var_is}
 use Rattle.p416_ast.specs.Grammar.Tree as tree
 use Rattle.v1_sem.specs.Signatures.{signature16}
 use Rattle.v1_sem.specs.Blocks.{control16}
@@ -27,7 +29,7 @@ use Rattle.v1_sem.specs.Passes.{ingress16, reparse16, egress16}
 use Rattle.v1_sem.specs.Runs.{Run16}
 use Rattle.v1_sem_examples.specs.Parts.{n, number, named, bits_type, param, key, action, table, an_action, hdr, field, sm, method, calls, given, does, statements, extract, emit, state, accept, var as variable}
 use Rattle.v1_sem_examples.specs.Samples.{small_types, small, doing, program, to_port_3}
-use Rattle.v1_sem_examples.specs.Packets.{Outcome, plainly, filled, ran, told, outcome, sends, cells}
+use Rattle.v1_sem_examples.specs.Packets.{Outcome, plainly, filled, ran_from, ran, told, outcome, sends, cells}
 
 abbrev packet : List ℕ
 packet = 0x12 ∷ 0x34 ∷ 0 ∷ 0 ∷ []
@@ -69,8 +71,8 @@ chooses_header : sends_of (assign h_y (member (choice (method (index (hdr (codes
 unfolding num bits run signature16 control16 parse16 ingress16 reparse16 egress16 Run16
 chooses_header = refl
 
--- the port of arrival and the packet's length
-came_in : told (ran (plainly (program (doing (assign h_x (slice (sm (codes "ingress_port")) (number 7) (number 0)) ∷ assign h_y (slice (sm (codes "packet_length")) (number 7) (number 0)) ∷ [])))) packet) ≡ sends 3 (0 ∷ 4 ∷ 0 ∷ 0 ∷ []) 8
+-- the port of arrival, 9, and the packet's length
+came_in : told (ran_from 9 (plainly (program (doing (assign h_x (slice (sm (codes "ingress_port")) (number 7) (number 0)) ∷ assign h_y (slice (sm (codes "packet_length")) (number 7) (number 0)) ∷ [])))) packet) ≡ sends 3 (9 ∷ 4 ∷ 0 ∷ 0 ∷ []) 8
 unfolding num bits run signature16 control16 parse16 ingress16 reparse16 egress16 Run16
 came_in = refl
 
@@ -163,3 +165,32 @@ again_and_again = program (record small { egress = does (calls (codes "recircula
 is_cut : (ran (plainly again_and_again) packet).cut ≡ 1
 unfolding num bits run signature16 control16 parse16 ingress16 reparse16 egress16 Run16
 is_cut = refl
+
+-- `true && false` and `true || false`
+connects : sends_of (if_then (binary And (truth true) (truth false)) (assign h_x (n 8 1)) ∷ if_then (binary Or (truth true) (truth false)) (assign h_y (n 8 1)) ∷ []) ≡ sends 3 (0x12 ∷ 1 ∷ 0 ∷ 0 ∷ []) 9
+unfolding num bits run signature16 control16 parse16 ingress16 reparse16 egress16 Run16
+connects = refl
+
+-- what a parser writes to `egress_spec` ingress sees: sm.egress_spec = 9w5, and ingress writes no port
+parser_writes_port : outcome (plainly (program (record small { states = state (codes "start") (assign (sm (codes "egress_spec")) (n 9 5) ∷ extract (hdr (codes "h")) ∷ []) accept ∷ []; ingress = [] }))) packet ≡ sends 5 packet 6
+unfolding num bits run signature16 control16 parse16 ingress16 reparse16 egress16 Run16
+parser_writes_port = refl
+
+-- verify runs behind `reject`: its one statement counts
+verifies_behind_reject : outcome (plainly (program (record small { states = state (codes "start") (extract (hdr (codes "h")) ∷ []) (transition.Go target.Reject) ∷ []; verify = assign h_x (n 8 1) ∷ [] }))) packet ≡ sends 3 (1 ∷ 0x34 ∷ 0 ∷ 0 ∷ []) 7
+unfolding num bits run signature16 control16 parse16 ingress16 reparse16 egress16 Run16
+verifies_behind_reject = refl
+
+-- A truth value as a key is 1 or 0. table t { key = { hdr.h.isValid() : exact; } actions = { a; } }, with an entry for 1.
+abbrev keyed_by_truth : List Local
+keyed_by_truth =
+    action (codes "a") [] (statements (assign h_y (n 8 7) ∷ []))
+    ∷ table (codes "t") (property.Key (key (method (hdr (codes "h")) (codes "isValid") []) (codes "exact") ∷ []) ∷ property.Actions (an_action (codes "a") ∷ []) ∷ [])
+    ∷ []
+
+abbrev for_1 : List TableFill
+for_1 = record { entries = record { keys = key_match.Exact 1 ∷ []; priority = 0; action = 0; arguments = [] } ∷ []; default = None } ∷ []
+
+matches_a_truth : outcome (filled (program (record (doing (does (method (variable (codes "t")) (codes "apply") []) ∷ [])) { ingress_locals = keyed_by_truth })) for_1) packet ≡ sends 3 (0x12 ∷ 7 ∷ 0 ∷ 0 ∷ []) 8
+unfolding num bits run signature16 control16 parse16 ingress16 reparse16 egress16 Run16
+matches_a_truth = refl

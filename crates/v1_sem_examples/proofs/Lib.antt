@@ -5,3 +5,4 @@ pub mod Headers
 pub mod Tables
 pub mod Externs
 pub mod Further
+pub mod Slots

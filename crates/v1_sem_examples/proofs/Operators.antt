@@ -4,7 +4,7 @@ use Rattle.std.specs.Prelude.{true, false, map}
 use Rattle.p416_ast.specs.declared.grammar.node.CastType.TheVariants.{Bit, Bool as Truth}
 use Rattle.p416_ast.specs.declared.grammar.node.UnaryOperator.TheVariants.{Not, Complement, Negate}
 use Rattle.p416_ast.specs.declared.grammar.node.BinaryOperator.{BinaryOperator}
-use Rattle.p416_ast.specs.declared.grammar.node.BinaryOperator.TheVariants.{Multiply, Add, Subtract, SaturatingAdd, SaturatingSubtract, Concatenate, ShiftLeft, ShiftRight, BitAnd, BitXor, BitOr, Less, LessEqual, Greater, GreaterEqual, Equal, NotEqual, And, Or}
+use Rattle.p416_ast.specs.declared.grammar.node.BinaryOperator.TheVariants.{Multiply, Add, Subtract, SaturatingAdd, SaturatingSubtract, Concatenate, ShiftLeft, ShiftRight, BitAnd, BitXor, BitOr, Less, LessEqual, Greater, GreaterEqual, Equal, NotEqual}
 use Rattle.v1_sem.specs.Values.{Value, a_number, a_truth, an_error, Slice, sliced, spliced}
 use Rattle.v1_sem.specs.Numbers.{unary_value, binary_value, cast_value}
 use Rattle.v1_sem_examples.specs.Parts.{number}
@@ -126,12 +126,6 @@ truths_are_equal = refl
 
 turns_round : unary_value Not (a_truth true) ≡ a_truth false
 turns_round = refl
-
-both_hold : binary_value And (a_truth true) (a_truth false) ≡ a_truth false
-both_hold = refl
-
-one_holds : binary_value Or (a_truth true) (a_truth false) ≡ a_truth true
-one_holds = refl
 
 errors_differ : binary_value NotEqual (an_error 0) (an_error 3) ≡ a_truth true
 errors_differ = refl

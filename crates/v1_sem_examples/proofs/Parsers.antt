@@ -212,3 +212,21 @@ seeing =
 ingress_runs_after_an_error : outcome (plainly seeing) packet ≡ sends 3 (0x12 ∷ 0xee ∷ 0 ∷ 0 ∷ 5 ∷ 6 ∷ 7 ∷ []) 8
 unfolding num bits run signature16 control16 parse16 ingress16 reparse16 egress16 Run16
 ingress_runs_after_an_error = refl
+
+-- the bits in front: hdr.h.x = p.lookahead<bit<8>>(), and hdr.h.z = p.lookahead<bit<12>>(), of 07 f0
+abbrev looking : Exp16 → ℕ → Syntax16
+looking to width =
+    starting (extract (hdr (codes "h")) ∷ assign to (lookahead (name (codes "p")) (bits_type width) no_arguments) ∷ []) accept
+
+sees_an_octet : outcome (plainly (looking (field (codes "h") (codes "x")) 8)) (1 ∷ 2 ∷ 3 ∷ 4 ∷ 7 ∷ 0xf0 ∷ []) ≡ sends 3 (7 ∷ 2 ∷ 3 ∷ 4 ∷ 7 ∷ 0xf0 ∷ []) 7
+unfolding num bits run signature16 control16 parse16 ingress16 reparse16 egress16 Run16
+sees_an_octet = refl
+
+sees_twelve_bits : outcome (plainly (looking (field (codes "h") (codes "z")) 12)) (1 ∷ 2 ∷ 3 ∷ 4 ∷ 7 ∷ 0xf0 ∷ []) ≡ sends 3 (1 ∷ 2 ∷ 0 ∷ 0x7f ∷ 7 ∷ 0xf0 ∷ []) 7
+unfolding num bits run signature16 control16 parse16 ingress16 reparse16 egress16 Run16
+sees_twelve_bits = refl
+
+-- 8 bits are left, and 12 are too many
+sees_too_few_bits : parsed (looking (field (codes "h") (codes "z")) 12) (1 ∷ 2 ∷ 3 ∷ 4 ∷ 7 ∷ []) ≡ ends PacketTooShort 2 (7 ∷ [])
+unfolding num bits parse16
+sees_too_few_bits = refl

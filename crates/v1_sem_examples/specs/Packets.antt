@@ -14,7 +14,7 @@ use Rattle.v1_sem.specs.Signatures.{signature16}
 use Rattle.v1_sem.specs.Surroundings.{Setting}
 use Rattle.v1_sem.specs.Values.{Value}
 use Rattle.v1_sem.specs.Parsing.{Parsed, parse16}
-use Rattle.v1_sem.specs.Passes.{Standing, none_preserved, begins}
+use Rattle.v1_sem.specs.Passes.{Between, none_preserved, item_moment}
 use Rattle.v1_sem.specs.Runs.{before, Run16}
 use Rattle.v1_sem.specs.declared.parser_error.ParserError.{ParserError}
 
@@ -50,12 +50,15 @@ pub record Outcome : Type 0 where
 abbrev pub port_and_octets : Sent → ℕ × List ℕ
 port_and_octets s = (s.port, s.octets)
 
-abbrev pub told : Whole Standing → Outcome
+abbrev pub told : Whole Between → Outcome
 told w = record { sent = map port_and_octets w.sent; work = w.state.work }
 
--- the packet comes in on port 0, and 8 passes are made at most
-abbrev pub ran : Setting → List ℕ → Whole Standing
-ran c octets = Run16 c 8 (arrival 0 octets ∷ [])
+-- the packet comes in on a port, and 8 passes are made at most
+abbrev pub ran_from : ℕ → Setting → List ℕ → Whole Between
+ran_from port c octets = Run16 c 8 (arrival port octets ∷ [])
+
+abbrev pub ran : Setting → List ℕ → Whole Between
+ran c octets = ran_from 0 c octets
 
 abbrev pub outcome : Setting → List ℕ → Outcome
 outcome c octets = told (ran c octets)
@@ -79,7 +82,7 @@ abbrev pub item : Syntax16 → List ℕ → Item Value
 item syntax octets = record { octets = octets; port = 0; instance = 0; kept = none_preserved syntax }
 
 abbrev pub parsed : Syntax16 → List ℕ → Parse
-parsed syntax octets = let c = plainly syntax in parse_told (parse16 c (begins c (before c) (item syntax octets)))
+parsed syntax octets = let c = plainly syntax in parse_told (parse16 c (item_moment c (before c) (item syntax octets)))
 
 abbrev pub ends : ParserError → ℕ → List ℕ → Parse
 ends error work left = record { error = error; work = work; left = left }

@@ -4,7 +4,7 @@ use Rattle.std.specs.Prelude.{◌%◌, ◌^◌, ◌==◌, Bool, not, ◌&&◌, i
 use Rattle.p4x_bits.specs.BitLists.{octet_bits}
 use Rattle.p416_rules.specs.Names.{Name}
 use Rattle.v1_sem.specs.Values.{Value, a_number, number_in, width_in}
-use Rattle.v1_sem.specs.Frames.{Moment, with_frame, Reference, written_number, with_standard}
+use Rattle.v1_sem.specs.Frames.{Moment, with_frame, Reference, number_put_at, with_standard}
 use Rattle.v1_sem.specs.Externs.Hashes.{result_of}
 
 -- a list with the octets that weren't parsed behind it
@@ -25,4 +25,4 @@ verify_checksum condition list field algorithm m =
 -- `update_checksum(condition, { .. }, field, algorithm)`: the field gets the result
 abbrev pub update_checksum : Bool → List Bool → Reference → Name → Moment → Moment
 update_checksum condition list to algorithm m =
-    if condition then written_number to (result_of algorithm list) m else m
+    if condition then number_put_at to (result_of algorithm list) m else m

@@ -3,7 +3,7 @@ use Rattle.std.specs.Prelude.{ℕ, ◌+◌, ◌%◌, ◌==◌, Bool, if◌then�
 use Rattle.std.specs.Str.{bytes_eq}
 use Rattle.calc_core.specs.Calculations.{csum16, crc16, crc32, identity}
 use Rattle.p416_rules.specs.Names.{Name}
-use Rattle.v1_sem.specs.Frames.{Moment, Reference, written_number}
+use Rattle.v1_sem.specs.Frames.{Moment, Reference, number_put_at}
 
 -- what the algorithm with this name gives of a list of bits
 abbrev pub result_of : Name → List Bool → ℕ
@@ -18,4 +18,4 @@ in_range base result bound = if bound == 0 then base else base + result % bound
 
 -- `hash(r, algorithm, base, { .. }, bound)`: what is given is cut to its target
 abbrev pub hash : Reference → Name → ℕ → List Bool → ℕ → Moment → Moment
-hash to algorithm base list bound m = written_number to (in_range base (result_of algorithm list) bound) m
+hash to algorithm base list bound m = number_put_at to (in_range base (result_of algorithm list) bound) m

@@ -4,7 +4,7 @@ use Rattle.std.specs.Prelude.{ℕ, ◌+◌, ◌/◌, Bool, true, if◌then◌els
 use Rattle.p4x_bits.specs.BitLists.{num, bits, octet_bits}
 use Rattle.v1_sem.specs.declared.parser_error.ParserError.TheVariants.{PacketTooShort}
 use Rattle.v1_sem.specs.Values.{Value, a_header, a_stack, Field, Header, header_in, place_in, elements_in, with_number}
-use Rattle.v1_sem.specs.Frames.{Moment, raised, Reference, read, written}
+use Rattle.v1_sem.specs.Frames.{Moment, raised, Reference, read, put_at}
 use Rattle.v1_sem.specs.Expressions.{has_bits}
 
 abbrev pub field_width : Field → ℕ
@@ -15,31 +15,31 @@ abbrev pub header_width : Header → ℕ
 header_width h = sum (map field_width h.fields)
 
 -- fields with the numbers of bits that stand one after another
-abbrev pub filled : List Field → List Bool → List Field
-filled [] rest = []
-filled (f ∷ fields) rest = with_number f (num (take f.width rest)) ∷ filled fields (drop f.width rest)
+abbrev pub fields_filled : List Field → List Bool → List Field
+fields_filled [] rest = []
+fields_filled (f ∷ fields) rest = with_number f (num (take f.width rest)) ∷ fields_filled fields (drop f.width rest)
 
 -- the next bits become the header's fields, and it is valid, also where it was
-abbrev pub taken : Reference → Moment → Moment
-taken r m =
+abbrev pub extracted : Reference → Moment → Moment
+extracted r m =
     let h = header_in (read m.frame r) in
-    let filled_header : Header = record { valid = true; fields = filled h.fields (octet_bits m.unparsed) } in
+    let filled_header : Header = record { valid = true; fields = fields_filled h.fields (octet_bits m.unparsed) } in
     let left = drop (header_width h / 8) m.unparsed in
-    record (written r (a_header filled_header) m) { unparsed = left }
+    record (put_at r (a_header filled_header) m) { unparsed = left }
 
 -- an extraction of `next` moves the place of its stack by one
 abbrev pub moved : Option Reference → Moment → Moment
 moved None m = m
-moved (Some r) m = let v = read m.frame r in written r (a_stack (place_in v + 1) (elements_in v)) m
+moved (Some r) m = let v = read m.frame r in put_at r (a_stack (place_in v + 1) (elements_in v)) m
 
 -- `p.extract(h)`, with the stack whose `next` is extracted, if one is. Where too few bits are left nothing moves.
 abbrev pub extract : Reference → Option Reference → Moment → Moment
 extract r next m =
-    if has_bits m (header_width (header_in (read m.frame r))) then moved next (taken r m) else raised PacketTooShort m
+    if has_bits m (header_width (header_in (read m.frame r))) then moved next (extracted r m) else raised PacketTooShort m
 
 -- the bits of fields
-abbrev pub field_bits : Field → List Bool
-field_bits f = bits f.width f.number
+abbrev pub bits_of_field : Field → List Bool
+bits_of_field f = bits f.width f.number
 
 -- the octets whose bits these are; a header is whole octets
 abbrev pub octets_in : List Bool → List ℕ
@@ -47,13 +47,13 @@ octets_in (a ∷ b ∷ c ∷ d ∷ e ∷ f ∷ g ∷ h ∷ rest) = num (a ∷ b 
 octets_in _ = []
 
 -- the octets of a header if it is valid
-abbrev pub header_octets : Header → List ℕ
-header_octets h = if h.valid then octets_in (flat_map field_bits h.fields) else []
+abbrev pub octets_of_header : Header → List ℕ
+octets_of_header h = if h.valid then octets_in (flat_map bits_of_field h.fields) else []
 
 -- a header, or the elements of a stack in order
 abbrev pub octets_of : Value → List ℕ
-octets_of (a_header h) = header_octets h
-octets_of (a_stack place elements) = flat_map header_octets elements
+octets_of (a_header h) = octets_of_header h
+octets_of (a_stack place elements) = flat_map octets_of_header elements
 octets_of _ = []
 
 -- `p.emit(x)`

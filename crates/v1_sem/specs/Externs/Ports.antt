@@ -2,8 +2,8 @@
 use Rattle.std.specs.Prelude.{codes}
 use Rattle.state_store.specs.Ports.{drop_port}
 use Rattle.v1_sem.specs.Values.{to_member}
-use Rattle.v1_sem.specs.Frames.{Moment, Reference, stepped, written_number}
+use Rattle.v1_sem.specs.Frames.{Moment, Reference, stepped, number_put_at}
 
 -- `mark_to_drop(sm)`
 abbrev pub mark_to_drop : Reference → Moment → Moment
-mark_to_drop r m = written_number (stepped r (to_member (codes "egress_spec"))) drop_port m
+mark_to_drop r m = number_put_at (stepped r (to_member (codes "egress_spec"))) drop_port m
