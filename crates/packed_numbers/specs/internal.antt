@@ -1,0 +1,2 @@
+-- How the numbers are kept.
+pub mod Placed
