@@ -1,0 +1,2 @@
+-- How frames are kept.
+pub mod Parts

@@ -1,0 +1,109 @@
+// The parts of a frame.
+ghost use Rattle.std.specs.Prelude.{◌≡◌, ◌<◌, ◌≤◌, ◌^◌, length, All, OnOk, IfOk};
+ghost use Rattle.v1_frames.specs.Layouts.{no_parts, with_number_part, with_header_part, with_stack_part};
+
+use name_numbers::narrow;
+use p4x_bits::OutOfMemory;
+use packed_numbers::Widths;
+use std::alloc::Global;
+use std::marker::Model;
+
+/// The slots of a header: those from one number up to another, which is behind the last.
+#[derive(Clone, Copy, Debug, PartialEq, Eq, Drop)]
+pub struct HeaderSlots {
+    /// The first.
+    pub from: usize,
+    /// The one behind the last.
+    pub to: usize,
+}
+
+/// Which parts the frames of a program have: the bits of each slot and the header of which it is a field, the slots of each
+/// header, and the size of each stack. The parts are numbered in the order in which they are added. After want of memory a
+/// layout isn't used again.
+#[derive(Drop)]
+pub struct FrameLayout {
+    pub(crate) widths: Widths,
+    pub(crate) owners: Vec<Option<u32>>,
+    pub(crate) headers: Vec<HeaderSlots>,
+    pub(crate) sizes: Vec<u32>,
+}
+
+impl Model for FrameLayout {
+    ghost use Rattle.v1_frames.specs.Layouts.{Layout};
+    ghost use Rattle.v1_frames.specs.internal.Parts.{layout_with, AreParts};
+
+    ghost Value = { Layout };
+
+    ghost view = { λ l. layout_with l.widths l.owners.items l.headers.items l.sizes.items };
+
+    ghost invariant = { λ l. AreParts l.widths l.owners.items l.headers.items };
+}
+
+impl FrameLayout {
+    /// No parts.
+    pub fn new(alloc: Global) -> Self
+        ensures { result ≡ no_parts }
+    {
+        FrameLayout {
+            widths: Widths::new(alloc),
+            owners: Vec::new(alloc),
+            headers: Vec::new(alloc),
+            sizes: Vec::new(alloc),
+        }
+    }
+
+    /// How many slots there are.
+    pub fn slots(&self) -> usize
+        ensures { result ≡ length self.now.widths }
+    {
+        self.widths.len()
+    }
+
+    /// How many headers there are.
+    pub fn headers(&self) -> usize
+        ensures { result ≡ length self.now.headers }
+    {
+        self.headers.len()
+    }
+
+    /// How many stacks there are.
+    pub fn stacks(&self) -> usize
+        ensures { result ≡ length self.now.sizes }
+    {
+        self.sizes.len()
+    }
+
+    /// One slot more, of so many bits, which is no field of a header. The one error is want of memory.
+    pub fn add_number(&mut self, width: u8) -> Result<(), OutOfMemory>
+        requires { width ≤ 128 }
+        ensures { OnOk result (self.new ≡ with_number_part self.old width) }
+    {
+        self.owners.push(None)?;
+        self.widths.push(width)?;
+        Ok(())
+    }
+
+    /// One header more, with fields of so many bits each. The one error is want of memory.
+    pub fn add_header(&mut self, widths: &[u8]) -> Result<(), OutOfMemory>
+        requires { All (λ width. width ≤ 128) widths.now }
+        ensures { OnOk result (self.new ≡ with_header_part self.old widths.now) }
+    {
+        let header = narrow(self.headers.len())?;
+        let from = self.widths.len();
+        for width in widths {
+            self.owners.push(Some(header))?;
+            self.widths.push(*width)?;
+        }
+        let to = self.widths.len();
+        self.headers.push(HeaderSlots { from, to })?;
+        Ok(())
+    }
+
+    /// One stack more, of so many elements, which are headers by themselves. The one error is want of memory.
+    pub fn add_stack(&mut self, size: u32) -> Result<(), OutOfMemory>
+        ensures { OnOk result (self.new ≡ with_stack_part self.old size) }
+    {
+        self.sizes.push(size)?;
+        Ok(())
+    }
+}

@@ -1,0 +1,2 @@
+-- Layouts: the parts of the frames of the tests.
+pub mod Layouts

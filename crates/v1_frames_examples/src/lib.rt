@@ -1,0 +1,5 @@
+//! Tests of packed frames.
+#![tactic(auto)]
+
+#[cfg(test)]
+mod tests;
