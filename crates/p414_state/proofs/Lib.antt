@@ -1,0 +1,5 @@
+pub mod Elements
+pub mod Instances
+pub mod Numbers
+pub mod Parts
+pub mod Programs

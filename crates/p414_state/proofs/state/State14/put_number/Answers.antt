@@ -1,0 +1,7 @@
+use Rattle.p414_state.proofs.Instances.{number_seen}
+use Rattle.p414_state.proofs.state.State14.put_number.Goals as goal
+
+pub returns-then-has-clause-put : goal.returns-then-has-clause-put
+returns-then-has-clause-put c =
+    number_seen c.self.inside.octets.items c.self.inside.parsed c.self.inside.standard c.self.inside.requests c.self.inside.events.items c.self.inside.instances.items c.args.instance c.args.element c.args.field c.args.value c.index_mut.result.now c.put.new.self c.args.self.now c.self.view_is
+    c.if-has.ensures c.index_mut.ensures.value c.put.ensures
