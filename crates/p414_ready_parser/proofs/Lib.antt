@@ -1,0 +1,6 @@
+mod Loops
+mod Powers
+mod Valuing
+mod Doing
+mod Selects
+mod Parsing

@@ -1,0 +1,92 @@
+// The fields of header types by number.
+ghost use Rattle.std.specs.Prelude.{◌≡◌, ◌++◌, map, option_copied, option_to_list, IfOk, OnOk};
+ghost use Rattle.p414_ast.specs.References.{referred};
+ghost use Rattle.p414_ast.specs.declared.syntax.Sort.TheVariants as sort;
+ghost use Rattle.p414_rules.specs.Expansion.{type_fields};
+ghost use Rattle.p414_rules.specs.Fields.{header_type_in, type_name_in, types};
+ghost use Rattle.p414_rules.specs.Names.{field_name, name_in, names_in};
+
+use name_numbers::{Numbering, number_names};
+use p4x_bits::{OutOfMemory, Text};
+use p414_ast::{Decl, Field};
+use std::alloc::Global;
+
+/// The names of these fields.
+fn names_of_fields(alloc: Global, fields: &[Field]) -> Result<Vec<&[u8]>, OutOfMemory>
+    ensures { IfOk result (λ names. map referred names.items ≡ map field_name fields.now) }
+{
+    let mut names = Vec::new(alloc);
+    for field in fields {
+        names.push(field.name.as_slice())?;
+    }
+    Ok(names)
+}
+
+/// The fields of a header type by number.
+fn numbered<'a>(alloc: Global, fields: &'a [Field]) -> Result<Numbering<'a>, OutOfMemory>
+    ensures { IfOk result (λ numbering. numbering ≡ map field_name fields.now) }
+{
+    let names = names_of_fields(alloc, fields)?;
+    number_names(alloc, names)
+}
+
+/// Puts the fields of a declaration last, if it is a header type.
+fn add_type<'a>(
+    alloc: Global,
+    found: &mut Vec<Numbering<'a>>,
+    decl: &'a Decl,
+) -> Result<(), OutOfMemory>
+    ensures { OnOk result (found.new.items ≡ found.old.items ++ map type_fields (option_to_list (header_type_in decl.now))) }
+{
+    if let Decl::HeaderType(header_type) = decl {
+        found.push(numbered(alloc, header_type.fields())?)?;
+    }
+    Ok(())
+}
+
+/// The fields of each header type by number, in the order of the types. The one error is want of memory.
+#[tactic(auto, using(crate::proofs::Loops::type_now))]
+pub fn fields_of_types(alloc: Global, decls: &[Decl]) -> Result<Vec<Numbering<'_>>, OutOfMemory>
+    ensures { IfOk result (λ found. found.items ≡ map type_fields (types decls.now)) }
+{
+    let mut found = Vec::new(alloc);
+    for decl in decls {
+        add_type(alloc, &mut found, decl)?;
+    }
+    Ok(found)
+}
+
+/// The name of the type of an instance.
+pub fn type_name_in(decl: &Decl) -> Option<&Text>
+    ensures { option_copied result ≡ type_name_in decl.now }
+{
+    match decl {
+        Decl::Header(declared) => Some(&declared.header_type),
+        Decl::Metadata(declared) => Some(&declared.header_type),
+        _ => None,
+    }
+}
+
+/// Puts the name of an instance last, if a declaration makes one.
+fn add_instance<'a>(found: &mut Vec<&'a [u8]>, decl: &'a Decl) -> Result<(), OutOfMemory>
+    ensures { OnOk result (map referred found.new.items ≡ map referred found.old.items ++ option_to_list (name_in sort.Instance decl.now)) }
+{
+    match decl {
+        Decl::Header(declared) => found.push(declared.name.as_slice())?,
+        Decl::Metadata(declared) => found.push(declared.name.as_slice())?,
+        _ => {}
+    }
+    Ok(())
+}
+
+/// The names of all instances, in order. The one error is want of memory.
+#[tactic(auto, using(crate::proofs::Loops::name_now))]
+pub fn instance_names(alloc: Global, decls: &[Decl]) -> Result<Vec<&[u8]>, OutOfMemory>
+    ensures { IfOk result (λ found. map referred found.items ≡ names_in sort.Instance decls.now) }
+{
+    let mut found = Vec::new(alloc);
+    for decl in decls {
+        add_instance(&mut found, decl)?;
+    }
+    Ok(found)
+}
