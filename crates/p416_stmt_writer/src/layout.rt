@@ -1,0 +1,165 @@
+// The parts that a statement is written with, in order.
+ghost use Rattle.std.specs.Prelude.{◌≡◌, ◌++◌, OnOk};
+ghost use Rattle.p416_stmt_writer.specs.Layouts.{layout, part, step_of, steps, IsPushed};
+
+use crate::work::Work;
+use p4x_bits::OutOfMemory;
+use p416_ast::grammar::{StmtHead, StmtView};
+use p416_exp_writer::{Form, push_five, push_four};
+use p416_lexemes::{Keyword16, Mark16};
+use p416_sheet::{Gap, TextView, Token16};
+use work_stack::Stack;
+
+/// The deepest level of lines: what stands deeper stands as deep.
+const DEEPEST: u8 = 32;
+
+macro_rules! mark {
+    ($gap:expr, $mark:expr) => {
+        Work::Put($gap, Token16::Mark($mark))
+    };
+}
+
+macro_rules! word {
+    ($gap:expr, $word:expr) => {
+        Work::Put($gap, Token16::Word($word))
+    };
+}
+
+macro_rules! name {
+    ($text:expr) => {
+        Work::Put(Gap::Space, Token16::Name(TextView::new($text.as_slice())))
+    };
+}
+
+/// The level of the lines in a block.
+fn deeper(level: u8) -> u8 {
+    if level < DEEPEST { level + 1 } else { level }
+}
+
+/// Puts the parts of a statement in front of what is left.
+pub fn push_statement<'a>(
+    left: &mut Stack<Work<'a>>,
+    gap: Gap,
+    level: u8,
+    statement: StmtView<'a>,
+) -> Result<(), OutOfMemory>
+    ensures { OnOk result (IsPushed statement.entry left.old left.new) }
+{
+    let head = statement.head();
+    push_parts(left, gap, level, head)
+}
+
+/// The same by the outermost constructor.
+fn push_parts<'a>(
+    left: &mut Stack<Work<'a>>,
+    gap: Gap,
+    level: u8,
+    head: StmtHead<'a>,
+) -> Result<(), OutOfMemory>
+    ensures { OnOk result (steps left.new ≡ layout head.entry ++ steps left.old) }
+{
+    match head {
+        StmtHead::NoStatements => Ok(()),
+        StmtHead::Then(before, last) => left.push_two(
+            Work::Stmt(Gap::Line(level), level, before),
+            Work::Stmt(Gap::Line(level), level, last),
+        ),
+        StmtHead::Block(statements) => left.push_three(
+            mark!(gap, Mark16::BraceOpen),
+            Work::Stmt(Gap::Nothing, deeper(level), statements),
+            mark!(Gap::Line(level), Mark16::BraceClose),
+        ),
+        StmtHead::Empty => left.push(mark!(gap, Mark16::Semicolon)),
+        StmtHead::Var(of, called) => left.push_three(
+            Work::Type(gap, of),
+            name!(called),
+            mark!(Gap::Nothing, Mark16::Semicolon),
+        ),
+        StmtHead::VarIs(of, called, e) => push_five(
+            left,
+            Work::Type(gap, of),
+            name!(called),
+            mark!(Gap::Space, Mark16::Assign),
+            Work::Exp(Gap::Space, Form::Full, e),
+            mark!(Gap::Nothing, Mark16::Semicolon),
+        ),
+        StmtHead::Assign(e, f) => push_four(
+            left,
+            Work::Exp(gap, Form::Full, e),
+            mark!(Gap::Space, Mark16::Assign),
+            Work::Exp(Gap::Space, Form::Full, f),
+            mark!(Gap::Nothing, Mark16::Semicolon),
+        ),
+        StmtHead::Expression(e) => left.push_two(
+            Work::Exp(gap, Form::Full, e),
+            mark!(Gap::Nothing, Mark16::Semicolon),
+        ),
+        StmtHead::If(e, a) => {
+            let body = body_of(level, a);
+            push_five(
+                left,
+                word!(gap, Keyword16::If),
+                mark!(Gap::Space, Mark16::ParenOpen),
+                Work::Exp(Gap::Nothing, Form::Within, e),
+                mark!(Gap::Nothing, Mark16::ParenClose),
+                body,
+            )
+        }
+        StmtHead::IfElse(e, a, b) => {
+            let before = else_gap(level, &a);
+            let body = body_of(level, a);
+            left.push_two(word!(before, Keyword16::Else), else_body_of(level, b))?;
+            push_five(
+                left,
+                word!(gap, Keyword16::If),
+                mark!(Gap::Space, Mark16::ParenOpen),
+                Work::Exp(Gap::Nothing, Form::Within, e),
+                mark!(Gap::Nothing, Mark16::ParenClose),
+                body,
+            )
+        }
+        StmtHead::Switch(table, cases) => left.push_three(
+            Work::Run(gap, TextView::new(table.as_slice())),
+            Work::Stmt(Gap::Nothing, deeper(level), cases),
+            mark!(Gap::Line(level), Mark16::BraceClose),
+        ),
+        StmtHead::NoCases => Ok(()),
+        StmtHead::Case(before, label, statements) => push_four(
+            left,
+            Work::Stmt(Gap::Nothing, level, before),
+            Work::Label(Gap::Line(level), label),
+            Work::Stmt(Gap::Nothing, deeper(level), statements),
+            mark!(Gap::Line(level), Mark16::BraceClose),
+        ),
+    }
+}
+
+/// The statement behind a condition: a block on the line of the condition, any other on a line of its own.
+fn body_of(level: u8, statement: StmtView<'_>) -> Work<'_>
+    ensures { step_of result ≡ part statement.entry }
+{
+    match statement.head() {
+        StmtHead::Block(_) => Work::Stmt(Gap::Space, level, statement),
+        _ => Work::Stmt(Gap::Line(deeper(level)), deeper(level), statement),
+    }
+}
+
+/// The statement behind `else`: a block and a further `if` on the line of the `else`, any other on a line of its own.
+fn else_body_of(level: u8, statement: StmtView<'_>) -> Work<'_>
+    ensures { step_of result ≡ part statement.entry }
+{
+    match statement.head() {
+        StmtHead::Block(_) => Work::Stmt(Gap::Space, level, statement),
+        StmtHead::If(_, _) => Work::Stmt(Gap::Space, level, statement),
+        StmtHead::IfElse(_, _, _) => Work::Stmt(Gap::Space, level, statement),
+        _ => Work::Stmt(Gap::Line(deeper(level)), deeper(level), statement),
+    }
+}
+
+/// What stands in front of `else`.
+fn else_gap(level: u8, statement: &StmtView<'_>) -> Gap {
+    match statement.head() {
+        StmtHead::Block(_) => Gap::Space,
+        _ => Gap::Line(level),
+    }
+}
