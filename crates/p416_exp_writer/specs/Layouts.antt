@@ -143,6 +143,15 @@ argument_layout true gap before last = Visit gap form.Full last ∷ []
 argument_layout false gap before last =
     Visit gap form.Within before ∷ put_mark Nothing mark_of.Comma ∷ Visit Space form.Full last ∷ []
 
+-- what opens the parentheses of a call
+abbrev pub call_opening : Part
+call_opening = part.Put Nothing (token.Mark mark_of.ParenOpen)
+
+-- what is called, and the arguments in their parentheses
+abbrev pub call_layout : Gap → Exp16 → Part → Exp16 → List Work
+call_layout gap e opening given =
+    Visit gap form.Base e ∷ Say opening ∷ Visit Nothing form.Within given ∷ put_mark Nothing mark_of.ParenClose ∷ []
+
 -- the parts of an expression in order, with what stands in front of the first
 abbrev pub layout : Gap → ExpHead → List Work
 layout gap (head.Literal n) = Say (part.Put gap (token.Number n)) ∷ []
@@ -152,12 +161,8 @@ layout gap (head.Name text) = Say (part.Put gap (token.Name text.now)) ∷ []
 layout gap (head.Member e word) = Visit gap form.Base e ∷ Say (part.Member word.now) ∷ []
 layout gap (head.Index e at) = Visit gap form.Base e ∷ Say (part.Index at) ∷ []
 layout gap (head.Slice e high low) = Visit gap form.Base e ∷ Say (part.Slice high low) ∷ []
-layout gap (head.Call e given) =
-    Visit gap form.Base e ∷ put_mark Nothing mark_of.ParenOpen ∷ Visit Nothing form.Within given
-    ∷ put_mark Nothing mark_of.ParenClose ∷ []
-layout gap (head.Lookahead e of given) =
-    Visit gap form.Base e ∷ Say (part.Lookahead of) ∷ Visit Nothing form.Within given
-    ∷ put_mark Nothing mark_of.ParenClose ∷ []
+layout gap (head.Call e given) = call_layout gap e call_opening given
+layout gap (head.Lookahead e of given) = call_layout gap e (part.Lookahead of) given
 layout gap (head.Cast to e) = Say (part.Cast gap to) ∷ Visit Space form.Full e ∷ []
 layout gap (head.Unary operator e) = put_mark gap (prefix_mark operator) ∷ Visit Nothing form.Full e ∷ []
 layout gap (head.Binary operator a b) =

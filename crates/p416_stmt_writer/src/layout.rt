@@ -1,10 +1,11 @@
 // The parts that a statement is written with, in order.
 ghost use Rattle.std.specs.Prelude.{◌≡◌, ◌++◌, OnOk};
+ghost use Rattle.p416_ast.specs.declared.grammar.views.StmtHead.TheVariants.{VarIs, Assign, If, IfElse, Switch, Case};
 ghost use Rattle.p416_stmt_writer.specs.Layouts.{layout, part, step_of, steps, IsPushed};
 
 use crate::work::Work;
-use p4x_bits::OutOfMemory;
-use p416_ast::grammar::{StmtHead, StmtView};
+use p4x_bits::{OutOfMemory, Text};
+use p416_ast::grammar::{CaseLabel, ExpView, StmtHead, StmtView, Type16};
 use p416_exp_writer::{Form, push_five, push_four};
 use p416_lexemes::{Keyword16, Mark16};
 use p416_sheet::{Gap, TextView, Token16};
@@ -75,63 +76,128 @@ fn push_parts<'a>(
             name!(called),
             mark!(Gap::Nothing, Mark16::Semicolon),
         ),
-        StmtHead::VarIs(of, called, e) => push_five(
-            left,
-            Work::Type(gap, of),
-            name!(called),
-            mark!(Gap::Space, Mark16::Assign),
-            Work::Exp(Gap::Space, Form::Full, e),
-            mark!(Gap::Nothing, Mark16::Semicolon),
-        ),
-        StmtHead::Assign(e, f) => push_four(
-            left,
-            Work::Exp(gap, Form::Full, e),
-            mark!(Gap::Space, Mark16::Assign),
-            Work::Exp(Gap::Space, Form::Full, f),
-            mark!(Gap::Nothing, Mark16::Semicolon),
-        ),
+        StmtHead::VarIs(of, called, e) => push_variable(left, gap, of, called, e),
+        StmtHead::Assign(e, f) => push_assignment(left, gap, e, f),
         StmtHead::Expression(e) => left.push_two(
             Work::Exp(gap, Form::Full, e),
             mark!(Gap::Nothing, Mark16::Semicolon),
         ),
-        StmtHead::If(e, a) => {
-            let body = body_of(level, a);
-            push_five(
-                left,
-                word!(gap, Keyword16::If),
-                mark!(Gap::Space, Mark16::ParenOpen),
-                Work::Exp(Gap::Nothing, Form::Within, e),
-                mark!(Gap::Nothing, Mark16::ParenClose),
-                body,
-            )
-        }
-        StmtHead::IfElse(e, a, b) => {
-            let before = else_gap(level, &a);
-            let body = body_of(level, a);
-            left.push_two(word!(before, Keyword16::Else), else_body_of(level, b))?;
-            push_five(
-                left,
-                word!(gap, Keyword16::If),
-                mark!(Gap::Space, Mark16::ParenOpen),
-                Work::Exp(Gap::Nothing, Form::Within, e),
-                mark!(Gap::Nothing, Mark16::ParenClose),
-                body,
-            )
-        }
-        StmtHead::Switch(table, cases) => left.push_three(
-            Work::Run(gap, TextView::new(table.as_slice())),
-            Work::Stmt(Gap::Nothing, deeper(level), cases),
-            mark!(Gap::Line(level), Mark16::BraceClose),
-        ),
+        StmtHead::If(e, a) => push_if(left, gap, level, e, a),
+        StmtHead::IfElse(e, a, b) => push_if_else(left, gap, level, e, a, b),
+        StmtHead::Switch(table, cases) => push_switch(left, gap, level, table, cases),
         StmtHead::NoCases => Ok(()),
-        StmtHead::Case(before, label, statements) => push_four(
-            left,
-            Work::Stmt(Gap::Nothing, level, before),
-            Work::Label(Gap::Line(level), label),
-            Work::Stmt(Gap::Nothing, deeper(level), statements),
-            mark!(Gap::Line(level), Mark16::BraceClose),
-        ),
+        StmtHead::Case(before, label, inner) => push_case(left, level, before, label, inner),
     }
+}
+
+/// Puts a variable with its initial value in front of what is left.
+fn push_variable<'a>(
+    left: &mut Stack<Work<'a>>,
+    gap: Gap,
+    of: &'a Type16,
+    called: &'a Text,
+    e: ExpView<'a>,
+) -> Result<(), OutOfMemory>
+    ensures { OnOk result (steps left.new ≡ layout (VarIs of.entry called.entry e.entry) ++ steps left.old) }
+{
+    push_five(
+        left,
+        Work::Type(gap, of),
+        name!(called),
+        mark!(Gap::Space, Mark16::Assign),
+        Work::Exp(Gap::Space, Form::Full, e),
+        mark!(Gap::Nothing, Mark16::Semicolon),
+    )
+}
+
+/// Puts an assignment in front of what is left.
+fn push_assignment<'a>(
+    left: &mut Stack<Work<'a>>,
+    gap: Gap,
+    e: ExpView<'a>,
+    f: ExpView<'a>,
+) -> Result<(), OutOfMemory>
+    ensures { OnOk result (steps left.new ≡ layout (Assign e.entry f.entry) ++ steps left.old) }
+{
+    push_four(
+        left,
+        Work::Exp(gap, Form::Full, e),
+        mark!(Gap::Space, Mark16::Assign),
+        Work::Exp(Gap::Space, Form::Full, f),
+        mark!(Gap::Nothing, Mark16::Semicolon),
+    )
+}
+
+/// Puts an `if` without `else` in front of what is left.
+fn push_if<'a>(
+    left: &mut Stack<Work<'a>>,
+    gap: Gap,
+    level: u8,
+    e: ExpView<'a>,
+    a: StmtView<'a>,
+) -> Result<(), OutOfMemory>
+    ensures { OnOk result (steps left.new ≡ layout (If e.entry a.entry) ++ steps left.old) }
+{
+    push_five(
+        left,
+        word!(gap, Keyword16::If),
+        mark!(Gap::Space, Mark16::ParenOpen),
+        Work::Exp(Gap::Nothing, Form::Within, e),
+        mark!(Gap::Nothing, Mark16::ParenClose),
+        body_of(level, a),
+    )
+}
+
+/// Puts an `if` with `else` in front of what is left.
+fn push_if_else<'a>(
+    left: &mut Stack<Work<'a>>,
+    gap: Gap,
+    level: u8,
+    e: ExpView<'a>,
+    a: StmtView<'a>,
+    b: StmtView<'a>,
+) -> Result<(), OutOfMemory>
+    ensures { OnOk result (steps left.new ≡ layout (IfElse e.entry a.entry b.entry) ++ steps left.old) }
+{
+    let before = else_gap(level, &a);
+    left.push_two(word!(before, Keyword16::Else), else_body_of(level, b))?;
+    push_if(left, gap, level, e, a)
+}
+
+/// Puts a `switch` with its cases in front of what is left.
+fn push_switch<'a>(
+    left: &mut Stack<Work<'a>>,
+    gap: Gap,
+    level: u8,
+    table: &'a Text,
+    cases: StmtView<'a>,
+) -> Result<(), OutOfMemory>
+    ensures { OnOk result (steps left.new ≡ layout (Switch table.entry cases.entry) ++ steps left.old) }
+{
+    left.push_three(
+        Work::Run(gap, TextView::new(table.as_slice())),
+        Work::Stmt(Gap::Nothing, deeper(level), cases),
+        mark!(Gap::Line(level), Mark16::BraceClose),
+    )
+}
+
+/// Puts a list of cases with its last case in front of what is left.
+fn push_case<'a>(
+    left: &mut Stack<Work<'a>>,
+    level: u8,
+    before: StmtView<'a>,
+    label: &'a CaseLabel,
+    statements: StmtView<'a>,
+) -> Result<(), OutOfMemory>
+    ensures { OnOk result (steps left.new ≡ layout (Case before.entry label.entry statements.entry) ++ steps left.old) }
+{
+    push_four(
+        left,
+        Work::Stmt(Gap::Nothing, level, before),
+        Work::Label(Gap::Line(level), label),
+        Work::Stmt(Gap::Nothing, deeper(level), statements),
+        mark!(Gap::Line(level), Mark16::BraceClose),
+    )
 }
 
 /// The statement behind a condition: a block on the line of the condition, any other on a line of its own.
