@@ -1,0 +1,51 @@
+// Controls and what is declared in them.
+use crate::lists::write_all;
+use crate::names::write_heading;
+use crate::objects::write_object;
+use crate::params::{write_block, write_params};
+use crate::written::Written;
+use p4x_bits::OutOfMemory;
+use p416_ast::grammar::{Control16, Local};
+use p416_lexemes::{Keyword16, Mark16};
+use p416_sheet::{Gap, Put16, Sheet16, TextView, Token16, put_tokens};
+use std::alloc::Global;
+
+impl Written for Local {
+    ghost use Rattle.p416_ast.specs.Grammar.Written.{written_local};
+    ghost use Rattle.p416_parentheses.specs.Syntax.{full_local};
+
+    ghost plain = { written_local };
+
+    ghost full = { λ l. written_local (full_local l) };
+
+    fn write(&self, alloc: Global, sheet: &mut Sheet16, gap: Gap) -> Result<(), OutOfMemory> {
+        match self {
+            Local::Instance(notes, object) => {
+                write_object(alloc, sheet, gap, notes.as_slice(), object)
+            }
+            Local::Var(var) => var.write(alloc, sheet, gap),
+            Local::Action(action) => action.write(alloc, sheet, gap),
+            Local::Table(table) => table.write(alloc, sheet, gap),
+        }
+    }
+}
+
+impl Written for Control16 {
+    ghost use Rattle.p416_ast.specs.Grammar.Written.{written_control};
+    ghost use Rattle.p416_parentheses.specs.Syntax.{full_control};
+
+    ghost plain = { written_control };
+
+    ghost full = { λ c. written_control (full_control c) };
+
+    #[tactic(auto, using(crate::proofs::Spelt::control_params, crate::proofs::Spelt::control_locals, crate::proofs::Spelt::control_body))]
+    fn write(&self, alloc: Global, sheet: &mut Sheet16, gap: Gap) -> Result<(), OutOfMemory> {
+        write_heading(alloc, sheet, gap, Keyword16::Control, &self.name)?;
+        write_params(alloc, sheet, self.parameters.as_slice())?;
+        put_tokens(alloc, sheet, &[mark!(Gap::Space, BraceOpen)])?;
+        write_all(alloc, sheet, Gap::Line(1), self.locals.as_slice())?;
+        put_tokens(alloc, sheet, &[word!(Gap::Line(1), Apply)])?;
+        write_block(alloc, sheet, &self.body)?;
+        put_tokens(alloc, sheet, &[mark!(Gap::Line(0), BraceClose)])
+    }
+}

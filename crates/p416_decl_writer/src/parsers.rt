@@ -1,0 +1,29 @@
+// Parsers.
+use crate::lists::write_all;
+use crate::names::write_heading;
+use crate::params::write_params;
+use crate::written::Written;
+use p4x_bits::OutOfMemory;
+use p416_ast::grammar::Parser16;
+use p416_lexemes::{Keyword16, Mark16};
+use p416_sheet::{Gap, Put16, Sheet16, TextView, Token16, put_tokens};
+use std::alloc::Global;
+
+impl Written for Parser16 {
+    ghost use Rattle.p416_ast.specs.Grammar.Written.{written_parser};
+    ghost use Rattle.p416_parentheses.specs.Syntax.{full_parser};
+
+    ghost plain = { written_parser };
+
+    ghost full = { λ p. written_parser (full_parser p) };
+
+    #[tactic(auto, using(crate::proofs::Spelt::parser_params, crate::proofs::Spelt::parser_vars, crate::proofs::Spelt::parser_states))]
+    fn write(&self, alloc: Global, sheet: &mut Sheet16, gap: Gap) -> Result<(), OutOfMemory> {
+        write_heading(alloc, sheet, gap, Keyword16::Parser, &self.name)?;
+        write_params(alloc, sheet, self.parameters.as_slice())?;
+        put_tokens(alloc, sheet, &[mark!(Gap::Space, BraceOpen)])?;
+        write_all(alloc, sheet, Gap::Line(1), self.vars.as_slice())?;
+        write_all(alloc, sheet, Gap::Line(1), self.states.as_slice())?;
+        put_tokens(alloc, sheet, &[mark!(Gap::Line(0), BraceClose)])
+    }
+}
