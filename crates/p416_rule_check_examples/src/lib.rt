@@ -7,6 +7,8 @@ mod cells;
 #[cfg(test)]
 mod depths;
 #[cfg(test)]
+mod main_blocks;
+#[cfg(test)]
 mod planes;
 #[cfg(test)]
 mod setting;
