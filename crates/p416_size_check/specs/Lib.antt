@@ -1,0 +1,1 @@
+-- The contracts are the definitions of `p416_rules`.
