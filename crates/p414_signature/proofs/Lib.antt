@@ -1,0 +1,5 @@
+mod Ordered
+mod Places
+mod Counting
+mod TableNames
+mod Gathering

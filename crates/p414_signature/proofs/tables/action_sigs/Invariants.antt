@@ -1,0 +1,7 @@
+use Rattle.std.proofs.Common.{◌≡◌, ◌++◌, map, drop}
+use Rattle.p414_ast.specs.References.{referred}
+use Rattle.p414_sem.specs.Signatures.{action_sig}
+use Rattle.p414_signature.proofs.tables.action_sigs.Given as goal
+
+abbrev pub invariant-loop-name : goal.invariant-loop-name
+invariant-loop-name l = l.actions ++ map (action_sig l.names) (map referred (drop l.name-index l.ordered)) ≡ map (action_sig l.names) (map referred l.ordered)
