@@ -14,7 +14,7 @@ use Rattle.p416_ast.specs.declared.grammar.controls.Control16.{Control16}
 use Rattle.p416_ast.specs.declared.grammar.program.Decl16.{Decl16}
 use Rattle.p416_ast.specs.Grammar.Tree.{Exp16}
 use Rattle.p416_ast.specs.Grammar.Tokens.{Seen16, id, quoted, comma, equals, paren_open, paren_close, brace_open, brace_close, in_parens, in_braces}
-use Rattle.p416_ast.specs.Grammar.Written.{after_commas, by_commas, written_notes, written_params, written_exp, written_var, written_simple, written_case, written_state, written_parser, written_key, written_property, written_table, written_block, written_local, written_control, written_decl}
+use Rattle.p416_ast.specs.Grammar.Written.{by_commas, written_notes, written_params, written_exp, written_var, written_simple, written_case, written_state, written_parser, written_key, written_property, written_table, written_block, written_local, written_control, written_decl}
 use Rattle.token_sheet.specs.Words.{Word}
 use Rattle.p416_spelling.specs.Words.{word16, words16}
 use Rattle.p416_parentheses.specs.Expressions.{full}

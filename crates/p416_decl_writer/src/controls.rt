@@ -7,7 +7,7 @@ use crate::written::Written;
 use p4x_bits::OutOfMemory;
 use p416_ast::grammar::{Control16, Local};
 use p416_lexemes::{Keyword16, Mark16};
-use p416_sheet::{Gap, Put16, Sheet16, TextView, Token16, put_tokens};
+use p416_sheet::{Gap, Put16, Sheet16, Token16, put_tokens};
 use std::alloc::Global;
 
 impl Written for Local {

@@ -16,7 +16,7 @@ use p4x_bits::{OutOfMemory, Text};
 use p416_ast::grammar::{Exp, Instance, Member, Note};
 use p416_exp_writer::{Form, write_expression};
 use p416_lexemes::{Keyword16, Literal16, Mark16};
-use p416_sheet::{Gap, Put16, Sheet16, TextView, Token16, put_tokens};
+use p416_sheet::{Gap, Put16, Sheet16, Token16, put_tokens};
 use std::alloc::Global;
 
 impl Written for Instance {

@@ -16,7 +16,7 @@ use p4x_bits::OutOfMemory;
 use p416_ast::grammar::{Exp, Keyset, SelectCase, Simple, State, Target, Transition};
 use p416_exp_writer::{Form, write_expression};
 use p416_lexemes::{Keyword16, Mark16};
-use p416_sheet::{Gap, Put16, Sheet16, TextView, Token16, put_tokens};
+use p416_sheet::{Gap, Put16, Sheet16, Token16, put_tokens};
 use p416_stmt_writer::write_statements;
 use std::alloc::Global;
 

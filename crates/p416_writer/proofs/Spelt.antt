@@ -1,5 +1,5 @@
 -- The parts of a syntax that a text can have have tokens that can stand in a text.
-use Rattle.std.proofs.Common.{◌≡◌, true, ◌++◌, sym, ◌∙◌}
+use Rattle.std.proofs.Common.{◌≡◌, true, sym, ◌∙◌}
 use Rattle.std.specs.List.{list_all, flat_map}
 use Rattle.std.proofs.lemmas.List.Folds.{list_all-append}
 use Rattle.std.proofs.lemmas.Bool.{and_parts}
