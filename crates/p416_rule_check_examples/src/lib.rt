@@ -13,4 +13,8 @@ mod planes;
 #[cfg(test)]
 mod setting;
 #[cfg(test)]
+mod sizes;
+#[cfg(test)]
 mod states;
+#[cfg(test)]
+mod tops;
