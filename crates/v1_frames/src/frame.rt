@@ -16,7 +16,8 @@ use std::marker::Model;
 /// the applications of tables (P4_16 1.2, "Operations on headers", "Operations on header stacks"; numbers, requests and
 /// applications are this project's own).
 ///
-/// A field of an invalid header reads 0, and a write to it does nothing. Only `new`, `push_event` and `copy` take memory.
+/// A field of an invalid header reads 0, and a write to it does nothing. Only `of_layout`, `push_event` and `copy` take
+/// memory.
 #[derive(Drop)]
 pub struct Frame {
     numbers: PackedNumbers,

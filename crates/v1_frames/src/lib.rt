@@ -1,6 +1,6 @@
 //! The frame of a packet under a P4_16 program, packed: numbers, truth values and errors lie side by side in one run of
 //! octets, each header has one bit for its validity, and parts are named by their numbers. All memory is taken by
-//! `Frame::new`, so that reading and writing take none.
+//! `Frame::of_layout`, but for copies and events, so that reading and writing take none.
 #![tactic(auto)]
 
 mod frame;
