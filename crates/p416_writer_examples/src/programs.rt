@@ -48,7 +48,7 @@ V1Switch(P(), C()) main;
 /// Objects, actions, tables and a control.
 const CONTROLLED: &[u8] = b"#include <core.p4>
 #include <v1model.p4>
-@name(\"c.all\")
+@name(\"c_all\")
 counter(16, CounterType.packets) c;
 control C(inout headers h, inout standard_metadata_t s) {
     direct_counter(CounterType.bytes) d;
