@@ -1,0 +1,6 @@
+pub mod Accepted
+mod Joining
+pub mod Meaning
+mod Moving
+mod Turns
+pub mod Widths
