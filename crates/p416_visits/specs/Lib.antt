@@ -1,0 +1,2 @@
+-- Read Left first: which statements are still to be visited.
+pub mod Left
