@@ -37,8 +37,8 @@ fn tables_in_order<'a>(
 /// The signature of the program of these names: its tables with their keys and actions, and its counters, meters and
 /// registers, both by the octet order of their names (P4_14 1.0.5, "Table Declarations", "Counters", "Meters",
 /// "Registers", "Actions"; the order, the width of a parameter and the size of a table that gives none are this project's
-/// own). No action calls itself. In time O(n log n) in the program; the one error is want of memory, which numbers count
-/// as that are too large to keep, such as no program has that keeps the rules.
+/// own). No action calls itself. In time O(n log n) in the program and the signature; the one error is want of memory,
+/// which numbers count as that are too large to keep, such as no program has that keeps the rules.
 #[tactic(auto, unfolding(p414_sem::specs::Signatures::signature14))]
 pub fn signature_of(alloc: Global, names: &Names14<'_>) -> Result<Signature, OutOfMemory>
     requires { ActionCallsItself names.now → ⊥ }

@@ -1,4 +1,4 @@
-//! What the places of expressions of P4_16 ask for, and what calls want for their arguments, give, and where they may stand.
+//! What the places of expressions of P4_16 ask for, and what calls want for their arguments, give and write.
 #![tactic(auto)]
 
 mod callee;

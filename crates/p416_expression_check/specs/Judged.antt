@@ -1,5 +1,6 @@
 -- The first rule that a use breaks, of those that what is known of it tells: T7, T11 and the rest of T8 are about more than
--- one use, T9 about tables, and T12 about sizes.
+-- one use; T9's test of an expression, which counts a direct counter, asks all names in scope; and the depth of T12 is judged
+-- by itself.
 use Rattle.std.specs.Prelude.{if◌then◌else◌, Option, Some, None}
 use Rattle.p416_rules.specs.declared.rule.ProgramRule.{ProgramRule}
 use Rattle.p416_rules.specs.declared.rule.ProgramRule.TheVariants.{T1, T2, T3, T4, T5, T6, T8, T10}
