@@ -1,44 +1,45 @@
-// One header, element of a stack, or metadata.
-ghost use Rattle.std.specs.Prelude.{◌≡◌, ℕ, ◌+◌, ◌*◌, ◌^◌, ◌<◌, ◌≤◌, true, length, map, take, drop, replicate, ◌++◌, IfOk};
+// Headers by themselves.
+ghost use Rattle.std.specs.Prelude.{◌≡◌, ℕ, ◌+◌, ◌*◌, ◌^◌, ◌<◌, ◌≤◌, true, false, length, map, take, drop, replicate, ◌++◌, IfOk};
 ghost use Rattle.p4x_bits.specs.BitLists.{num, bits, octet_bits};
-ghost use Rattle.p414_state.specs.internal.Cells.{Packed, emptied};
+ghost use Rattle.p414_state.specs.internal.Cells.{emptied, first_emptied};
 
 use p4x_bits::{OutOfMemory, read_octet_field, write_octet_field};
 use p414_layout::FieldPlace;
 use std::alloc::Global;
 use std::marker::Model;
 
-/// A header, an element of a stack, or metadata: whether it is valid, and the octets in which its fields lie side by side.
+/// A header, an element of a stack, or metadata by itself: whether it is valid, and the octets in which its fields lie side
+/// by side, as on the wire.
 #[derive(Drop)]
-pub struct Element {
+pub struct PackedHeader {
     valid: bool,
     octets: Vec<u8>,
 }
 
-impl Model for Element {
-    ghost use Rattle.p414_state.specs.internal.Cells.{Packed};
+impl Model for PackedHeader {
+    ghost use Rattle.p414_state.specs.Headers.{Packed};
 
     ghost Value = { Packed };
 
     ghost view = { λ e. record { valid = e.valid; octets = e.octets.items } };
 }
 
-impl Element {
-    /// An element of so many octets, all 0. The one error is want of memory.
-    pub fn new(alloc: Global, valid: bool, octets: usize) -> Result<Element, OutOfMemory>
+impl PackedHeader {
+    /// One of so many octets, all 0. The one error is want of memory.
+    pub fn new(alloc: Global, valid: bool, octets: usize) -> Result<PackedHeader, OutOfMemory>
         ensures { IfOk result (λ element. element ≡ record { valid = valid; octets = replicate octets 0 }) }
     {
-        Ok(Element {
+        Ok(PackedHeader {
             valid,
             octets: vec![in alloc; 0u8; octets]?,
         })
     }
 
     /// The same again. The one error is want of memory.
-    pub fn copy(&self, alloc: Global) -> Result<Element, OutOfMemory>
+    pub fn copy(&self, alloc: Global) -> Result<PackedHeader, OutOfMemory>
         ensures { IfOk result (λ element. element ≡ self.now) }
     {
-        Ok(Element {
+        Ok(PackedHeader {
             valid: self.valid,
             octets: Vec::from_slice(alloc, &self.octets)?,
         })
@@ -90,19 +91,49 @@ impl Element {
         self.octets.copy_from_slice(octets);
     }
 
-    /// How many octets there are.
-    pub fn room(&self) -> usize
-        ensures { result ≡ length self.now.octets }
+    /// Makes it the same as another one of as many octets.
+    pub fn assign(&mut self, header: &PackedHeader)
+        requires { length header.now.octets ≡ length self.old.octets }
+        ensures { self.new ≡ header.now }
     {
-        self.octets.len()
+        self.valid = header.valid;
+        self.octets.copy_from_slice(&header.octets);
+    }
+
+    /// Its octets.
+    pub fn octets(&self) -> &[u8]
+        ensures { result.now ≡ self.now.octets }
+    {
+        &self.octets
+    }
+}
+
+/// The same elements again. The one error is want of memory.
+pub fn copy_all(alloc: Global, elements: &[PackedHeader]) -> Result<Vec<PackedHeader>, OutOfMemory>
+    ensures { IfOk result (λ copies. copies.items ≡ elements.now) }
+{
+    let mut copies = Vec::with_capacity(alloc, elements.len())?;
+    for element in elements {
+        copies.push(element.copy(alloc)?)?;
+    }
+    Ok(copies)
+}
+
+/// Makes so many of these from the first on valid or invalid, with all bits 0.
+pub fn empty_first(elements: &mut Vec<PackedHeader>, count: usize, valid: bool)
+    requires { count ≤ length elements.old.items }
+    ensures { elements.new.items ≡ first_emptied valid count elements.old.items }
+{
+    for index in 0..count {
+        elements[index].clear(valid);
     }
 }
 
 /// Makes all of these invalid, with all bits 0.
-pub fn empty_all(elements: &mut Vec<Element>)
-    ensures { elements.new.items ≡ map emptied elements.old.items }
+#[tactic(auto, using(crate::proofs::Elements::emptied_all))]
+pub fn empty_all(elements: &mut Vec<PackedHeader>)
+    ensures { elements.new.items ≡ map (emptied false) elements.old.items }
 {
-    for index in 0..elements.len() {
-        elements[index].clear(false);
-    }
+    let count = elements.len();
+    empty_first(elements, count, false);
 }
