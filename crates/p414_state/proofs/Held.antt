@@ -1,11 +1,11 @@
 -- Headers and stacks that are copied from an instance or put into it, and what an instance is like at any time.
-use Rattle.std.proofs.Common.{◌≡◌, ℕ, ◌+◌, ◌*◌, ◌%◌, ◌/◌, ◌^◌, ◌<◌, ◌≤◌, Bool, true, false, List, [], ◌∷◌, ◌++◌, length, take, drop, map, get_or, set, replicate, subst, refl, sym, ap, ap₂, ◌∙◌, arith, Result, Ok, Err, length-take-le, length-drop, take-append-drop}
+use Rattle.std.proofs.Common.{◌≡◌, ℕ, ◌+◌, ◌*◌, ◌%◌, ◌/◌, ◌<◌, Bool, false, List, [], ◌∷◌, ◌++◌, length, take, drop, map, get_or, set, subst, refl, sym, ap, ap₂, ◌∙◌, arith, Result, Ok, Err, length-take-le, length-drop, take-append-drop}
 use Rattle.std.specs.Prelude.{IfOk}
 use Rattle.std.specs.List.{All}
 use Rattle.std.proofs.lemmas.List.{get_or-map, length-map, nil_from_length}
-use Rattle.p4x_bits.specs.BitLists.{num, bits, octet_bits}
+use Rattle.p4x_bits.specs.BitLists.{octet_bits}
 use Rattle.p4x_bits.proofs.BitLists.{length-octet_bits, bits-num, num_of_take_below}
-use Rattle.p414_sem.specs.State.{Header, no_header}
+use Rattle.p414_sem.specs.State.{Header}
 use Rattle.p414_sem.specs.Packing.{numbers_in, bits_in}
 use Rattle.p414_sem.specs.Fitting.{FitsHeader, FitWidths}
 use Rattle.p414_layout.specs.declared.shape.Shape.{Shape}

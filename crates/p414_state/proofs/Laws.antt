@@ -1,5 +1,5 @@
 -- Laws for those who let what was read in one moment fall on another.
-use Rattle.std.proofs.Common.{◌≡◌, ℕ, zero, suc, ◌^◌, ◌<◌, ◌≤◌, Bool, true, false, List, [], ◌∷◌, length, get_or, Option, Some, None, replicate, subst, refl, sym, ap, ap₂, ◌∙◌, arith, ⊎_elim}
+use Rattle.std.proofs.Common.{◌≡◌, ℕ, suc, ◌<◌, ◌≤◌, Bool, true, false, List, [], ◌∷◌, length, Option, Some, None, replicate, refl, sym, ap, ◌∙◌, ⊎_elim}
 use Rattle.std.specs.Prelude.{option_and_then, unwrap_or}
 use Rattle.std.specs.Option.{option_map_or}
 use Rattle.std.proofs.lemmas.Bool.{cases_lt}
@@ -17,7 +17,7 @@ use Rattle.p414_layout.specs.Placed.{total, octets_for}
 use Rattle.p414_layout.specs.Shapes.{shape_at, shape_in, element_count, layout_of}
 use Rattle.p414_layout.proofs.Programs.{shape_numbered}
 use Rattle.p414_state.specs.Packets.{Packet, IsHeader}
-use Rattle.p414_state.specs.Headers.{Packed, header_in, IsPacked, HoldsHeader, FitsAt}
+use Rattle.p414_state.specs.Headers.{Packed, header_in, HoldsHeader, FitsAt}
 
 -- A header of one instance is one of another instance that has the same fields and is no metadata.
 pub held_as : (a b : Shape) (h : Header) (p : Packed) → a.widths ≡ b.widths → b.metadata ≡ false → HoldsHeader a h p → HoldsHeader b h p

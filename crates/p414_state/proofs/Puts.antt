@@ -1,20 +1,19 @@
 -- Headers and stacks that are copied from a packet or put into it.
-use Rattle.std.proofs.Common.{◌≡◌, ℕ, ◌<◌, ◌≤◌, ◌%◌, Bool, true, false, List, [], length, map, get_or, set, subst, slice_get, Option, Some, None, option_map, Result, Ok, Err, refl, sym, ap, ap₂, ◌∙◌, arith, ⊎_elim}
+use Rattle.std.proofs.Common.{◌≡◌, ℕ, ◌<◌, ◌≤◌, ◌%◌, Bool, List, [], length, map, get_or, set, subst, slice_get, Option, Some, None, option_map, Result, Ok, Err, refl, sym, ap, ap₂, ◌∙◌, arith, ⊎_elim}
 use Rattle.std.specs.Prelude.{unwrap_or, IfOk}
-use Rattle.std.specs.List.{All}
 use Rattle.std.proofs.lemmas.Bool.{cases_lt}
 use Rattle.std.proofs.lemmas.List.{get_or_past, set_past, length-map}
 use Rattle.fabric.specs.declared.items.Event.{Event}
 use Rattle.p4x_bits.specs.BitLists.{octet_bits}
 use Rattle.p414_sem.specs.Packing.{bits_in}
-use Rattle.p414_sem.specs.State.{Header, Instance, no_header, no_instance, header_at, elements_at, place_of, with_header, with_elements, with_instance, cleared}
+use Rattle.p414_sem.specs.State.{Header, Instance, no_header, no_instance, header_at, elements_at, place_of, with_header, with_elements, cleared}
 use Rattle.p414_layout.specs.declared.shape.Shape.{Shape}
 use Rattle.p414_layout.specs.Placed.{total}
 use Rattle.p414_layout.specs.Shapes.{no_shape, shape_at, element_count}
 use Rattle.p414_state.specs.declared.standard.StandardFields.{StandardFields}
 use Rattle.p414_state.specs.declared.requests.Requests.{Requests}
 use Rattle.p414_state.specs.Packets.{Packet, with_state}
-use Rattle.p414_state.specs.Headers.{Packed, header_in, IsPacked, ArePacked, HoldsHeader, HoldsStack, HasElement, IsWhole, FitsShape, FitsAt}
+use Rattle.p414_state.specs.Headers.{Packed, header_in, HoldsHeader, HoldsStack, IsWhole, FitsShape, FitsAt}
 use Rattle.p414_state.specs.internal.Cells.{Laid, element_in, with_element, with_all}
 use Rattle.p414_state.specs.internal.Parts.{shape_of, instance_of, packet_of}
 use Rattle.p414_state.proofs.Instances.{shape_is, instance_is, header_is, header_put, replaced, shape_seen, instance_seen}

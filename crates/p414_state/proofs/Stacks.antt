@@ -1,16 +1,14 @@
 -- Elements that are moved up or down.
-use Rattle.std.proofs.Common.{◌≡◌, ℕ, ◌+◌, ◌-◌, ◌<◌, ◌≤◌, min, Bool, true, false, List, [], ◌∷◌, ◌++◌, length, take, drop, map, get_or, replicate, subst, refl, sym, ap, ap₂, ◌∙◌, arith, length-take-le, length-drop}
-use Rattle.std.specs.List.{All}
-use Rattle.std.proofs.lemmas.List.{take-map, drop-map, take_min, drop_min, take_at, drop_at, take-append-le, map-append, length-map, length-append, length-replicate, length-take}
+use Rattle.std.proofs.Common.{◌≡◌, ℕ, ◌+◌, ◌-◌, ◌≤◌, min, Bool, true, false, List, [], ◌∷◌, ◌++◌, length, take, drop, map, replicate, subst, refl, sym, ap, ap₂, ◌∙◌, arith, length-take-le, length-drop}
+use Rattle.std.proofs.lemmas.List.{take-map, drop-map, drop_min, take_at, drop_at, map-append, length-map, length-append, length-replicate, length-take}
 use Rattle.std.proofs.lemmas.List.Elements.{All-append, All-take, All-drop}
 use Rattle.std.proofs.Math.Seq.{take-append-add}
 use Rattle.p4x_bits.specs.BitLists.{octet_bits}
 use Rattle.p414_sem.specs.State.{Header, blank, cleared}
 use Rattle.p414_sem.specs.Effects.{pushed, popped}
 use Rattle.p414_layout.specs.declared.shape.Shape.{Shape}
-use Rattle.p414_layout.specs.Shapes.{element_count}
 use Rattle.p414_state.specs.Headers.{Packed, header_in, IsPacked, ArePacked, HoldsStack}
-use Rattle.p414_state.specs.internal.Cells.{emptied, first_emptied, raised, lowered}
+use Rattle.p414_state.specs.internal.Cells.{emptied, raised, lowered}
 use Rattle.p414_state.proofs.Numbers.{length-numbers_in, numbers_of_zeros}
 use Rattle.p414_state.proofs.Elements.{emptied_each}
 
