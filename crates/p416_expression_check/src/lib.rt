@@ -11,3 +11,5 @@ mod stands;
 mod takes;
 
 pub use judge::broken_rule;
+pub use literals::is_too_large;
+pub use stands::applies_nothing;

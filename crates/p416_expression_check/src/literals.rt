@@ -44,8 +44,8 @@ fn is_over(number: u128, width: u128) -> bool
     }
 }
 
-/// Whether a number doesn't fit the width that is written, else this one.
-fn is_too_large(wanted: Option<u128>, number: Literal16) -> bool
+/// Whether a number doesn't fit the width that is written with it, else this one, in bits (T4).
+pub fn is_too_large(wanted: Option<u128>, number: Literal16) -> bool
     ensures { result ≡ rules.is_too_large wanted number }
 {
     match number.width {

@@ -127,8 +127,8 @@ fn is_parser_part(part: Part<'_>) -> bool
     matches!(part, Part::InParser)
 }
 
-/// Whether no table may be applied in a part.
-pub(crate) fn applies_nothing(part: Part<'_>) -> bool
+/// Whether no table may be applied in a part of a declaration: in an action or a key (T8).
+pub fn applies_nothing(part: Part<'_>) -> bool
     ensures { result ≡ applies_nothing (seen_part part.entry) }
 {
     match part {

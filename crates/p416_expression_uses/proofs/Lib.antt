@@ -1,0 +1,4 @@
+pub mod Defaults
+pub mod Finding
+pub mod Lowest
+pub mod Running
