@@ -1,4 +1,4 @@
-// Written programs with one header, one parser state and one table without keys.
+// Programs with one header, one parser state and one table without keys.
 use p4x_bits::{Rows, Text};
 use p414_one_table::Field;
 
