@@ -1,5 +1,5 @@
 // The run of octets.
-ghost use Rattle.std.specs.Prelude.{◌≡◌, ◌^◌, ◌<◌, ◌≤◌, length, replicate, slice_index, IfOk};
+ghost use Rattle.std.specs.Prelude.{◌≡◌, ℕ, ◌^◌, ◌<◌, ◌≤◌, length, replicate, slice_index, IfOk};
 ghost use Rattle.packed_numbers.specs.Packing.{zeros, with_number, with_zeros};
 
 use crate::widths::Widths;
@@ -60,6 +60,14 @@ impl<'w> PackedNumbers<'w> {
         ensures numbers { result ≡ length self.now.numbers }
     {
         self.widths.len()
+    }
+
+    /// What holds of all numbers: there is one for each width, and it is below 2 ^ width. It does nothing.
+    pub fn are_whole(&self)
+        ensures many { length self.now.numbers ≡ length self.now.widths }
+        ensures fit { (i : ℕ) → i < length self.now.widths → slice_index self.now.numbers i < 2 ^ slice_index self.now.widths i }
+    {
+        let _count = self.widths.len();
     }
 
     /// The bits of a number.
