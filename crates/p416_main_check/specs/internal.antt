@@ -1,2 +1,3 @@
 -- What private functions name.
+pub mod Places
 pub mod Seen

@@ -40,16 +40,18 @@ fn block_kind<'a>(top: &Top<'a>, block: Option<Block<'_>>, place: usize) -> Kind
     }
 }
 
-/// The kinds of headers and metadata of a program: those that the first block of `main` has.
+/// The kinds of a program's headers and metadata.
 #[derive(Clone, Copy, Drop)]
-struct Pair<'a> {
-    headers: Kind<'a>,
-    metadata: Kind<'a>,
+pub struct MainKinds<'a> {
+    /// What its headers are.
+    pub headers: Kind<'a>,
+    /// What its metadata is.
+    pub metadata: Kind<'a>,
 }
 
 /// Whether these are the parameters of a parser: a packet that is read, headers, metadata and the standard metadata.
 #[tactic(auto, using(crate::proofs::Blocks::too_few, crate::proofs::Blocks::too_many))]
-fn are_of_parser(top: &Top<'_>, parameters: &[Param], of: Pair<'_>) -> bool
+fn are_of_parser(top: &Top<'_>, parameters: &[Param], of: MainKinds<'_>) -> bool
     ensures { result ≡ are_same_shapes (parser_block (seen_kind of.entry.headers) (seen_kind of.entry.metadata)).parameters (map (parameter_shape (top_names top.now)) parameters.now) }
 {
     let [packet, headers, metadata, standard] = parameters else {
@@ -63,7 +65,7 @@ fn are_of_parser(top: &Top<'_>, parameters: &[Param], of: Pair<'_>) -> bool
 
 /// Whether these are the parameters of ingress or egress: headers, metadata and the standard metadata.
 #[tactic(auto, using(crate::proofs::Blocks::too_few, crate::proofs::Blocks::too_many))]
-fn are_of_pipeline(top: &Top<'_>, parameters: &[Param], of: Pair<'_>) -> bool
+fn are_of_pipeline(top: &Top<'_>, parameters: &[Param], of: MainKinds<'_>) -> bool
     ensures { result ≡ are_same_shapes (pipeline_block (seen_kind of.entry.headers) (seen_kind of.entry.metadata)).parameters (map (parameter_shape (top_names top.now)) parameters.now) }
 {
     let [headers, metadata, standard] = parameters else {
@@ -75,7 +77,7 @@ fn are_of_pipeline(top: &Top<'_>, parameters: &[Param], of: Pair<'_>) -> bool
 }
 
 /// Whether the block of this name is a parser with its parameters.
-fn is_parser(top: &Top<'_>, name: &Text, of: Pair<'_>) -> bool
+fn is_parser(top: &Top<'_>, name: &Text, of: MainKinds<'_>) -> bool
     ensures { result ≡ is_block (parser_block (seen_kind of.entry.headers) (seen_kind of.entry.metadata)) (block_of (top_names top.now) top.now name.now) }
 {
     match block_of(top.decls(), name.as_slice()) {
@@ -85,7 +87,7 @@ fn is_parser(top: &Top<'_>, name: &Text, of: Pair<'_>) -> bool
 }
 
 /// Whether the block of this name is a control of headers and metadata.
-fn is_checksum(top: &Top<'_>, name: &Text, of: Pair<'_>) -> bool
+fn is_checksum(top: &Top<'_>, name: &Text, of: MainKinds<'_>) -> bool
     ensures { result ≡ is_block (checksum_block (seen_kind of.entry.headers) (seen_kind of.entry.metadata)) (block_of (top_names top.now) top.now name.now) }
 {
     let Some(Block::Control([headers, metadata])) = block_of(top.decls(), name.as_slice()) else {
@@ -96,7 +98,7 @@ fn is_checksum(top: &Top<'_>, name: &Text, of: Pair<'_>) -> bool
 }
 
 /// Whether the block of this name is a control with the parameters of ingress or egress.
-fn is_pipeline(top: &Top<'_>, name: &Text, of: Pair<'_>) -> bool
+fn is_pipeline(top: &Top<'_>, name: &Text, of: MainKinds<'_>) -> bool
     ensures { result ≡ is_block (pipeline_block (seen_kind of.entry.headers) (seen_kind of.entry.metadata)) (block_of (top_names top.now) top.now name.now) }
 {
     match block_of(top.decls(), name.as_slice()) {
@@ -106,7 +108,7 @@ fn is_pipeline(top: &Top<'_>, name: &Text, of: Pair<'_>) -> bool
 }
 
 /// Whether the block of this name is a control of a packet that is written and of headers.
-fn is_deparser(top: &Top<'_>, name: &Text, of: Pair<'_>) -> bool
+fn is_deparser(top: &Top<'_>, name: &Text, of: MainKinds<'_>) -> bool
     ensures { result ≡ is_block (deparser_block (seen_kind of.entry.headers)) (block_of (top_names top.now) top.now name.now) }
 {
     let Some(Block::Control([packet, headers])) = block_of(top.decls(), name.as_slice()) else {
@@ -118,7 +120,7 @@ fn is_deparser(top: &Top<'_>, name: &Text, of: Pair<'_>) -> bool
 
 /// Whether these are the six blocks of `main`, in order.
 #[tactic(auto, using(crate::proofs::Blocks::too_few_blocks, crate::proofs::Blocks::too_many_blocks))]
-fn are_blocks(top: &Top<'_>, main: &[Text], of: Pair<'_>) -> bool
+fn are_blocks(top: &Top<'_>, main: &[Text], of: MainKinds<'_>) -> bool
     ensures { result ≡ are_blocks (top_names top.now) top.now (wanted_blocks (seen_kind of.entry.headers) (seen_kind of.entry.metadata)) main.now }
 {
     let [parser, verify, ingress, egress, compute, deparser] = main else {
@@ -142,12 +144,14 @@ fn first_block<'a>(top: &Top<'a>, main: &[Text]) -> Option<Block<'a>>
     }
 }
 
-/// The kinds of a program's headers and metadata: those of the second and the third parameter of its first block.
-fn pair_of<'a>(top: &Top<'a>, main: &[Text]) -> Pair<'a>
-    ensures { (s : Syntax16) → s.decls ≡ top.now → s.main ≡ main.now → (seen_kind result.headers ≡ headers_kind s) × (seen_kind result.metadata ≡ metadata_kind s) }
+/// The kinds of a program's headers and metadata: those of the second and the third parameter of its first block; unknown
+/// where it has none. In time linear in the declarations, but for the look-ups; it takes no memory.
+pub fn main_kinds<'a>(top: &Top<'a>, main: &[Text]) -> MainKinds<'a>
+    ensures headers { (s : Syntax16) → s.decls ≡ top.now → s.main ≡ main.now → seen_kind result.headers ≡ headers_kind s }
+    ensures metadata { (s : Syntax16) → s.decls ≡ top.now → s.main ≡ main.now → seen_kind result.metadata ≡ metadata_kind s }
 {
     let first = first_block(top, main);
-    Pair {
+    MainKinds {
         headers: block_kind(top, first, 1),
         metadata: block_kind(top, first, 2),
     }
@@ -159,7 +163,7 @@ fn pair_of<'a>(top: &Top<'a>, main: &[Text]) -> Pair<'a>
 pub fn is_main(alloc: Global, top: &Top<'_>, main: &[Text]) -> Result<bool, OutOfMemory>
     ensures { (s : Syntax16) → s.decls ≡ top.now → s.main ≡ main.now → IfOk result (λ holds. holds ≡ is_main s) }
 {
-    let of = pair_of(top, main);
+    let of = main_kinds(top, main);
     if !are_blocks(top, main, of) || !are_headers(top, of.headers) {
         return Ok(false);
     }

@@ -7,12 +7,12 @@ pub returns-then-not-are_blocks : goal.returns-then-not-are_blocks
 returns-then-not-are_blocks c s of_decls of_main =
     elim c.then-not-are_blocks.branch [
       | then-not-are_blocks-via-then-not-are_blocks w ↦
-          not_blocks s c.args.top.now c.args.main.now (seen_kind c.pair_of-of.result.headers) (seen_kind c.pair_of-of.result.metadata) of_decls of_main (c.pair_of-of.ensures s of_decls of_main) (w.if-not-are_blocks.ensures)
+          not_blocks s c.args.top.now c.args.main.now (seen_kind c.main_kinds-of.result.headers) (seen_kind c.main_kinds-of.result.metadata) of_decls of_main (c.main_kinds-of.ensures.headers s of_decls of_main, c.main_kinds-of.ensures.metadata s of_decls of_main) (w.if-not-are_blocks.ensures)
       | then-not-are_blocks-via-else-not-are_blocks+then-not-are_headers w ↦
-          not_headers s c.args.top.now c.args.main.now (seen_kind c.pair_of-of.result.headers) (seen_kind c.pair_of-of.result.metadata) of_decls of_main (c.pair_of-of.ensures s of_decls of_main) (w.if-not-are_headers.ensures)
+          not_headers s c.args.top.now c.args.main.now (seen_kind c.main_kinds-of.result.headers) (seen_kind c.main_kinds-of.result.metadata) of_decls of_main (c.main_kinds-of.ensures.headers s of_decls of_main, c.main_kinds-of.ensures.metadata s of_decls of_main) (w.if-not-are_headers.ensures)
     ]
 
 pub returns : goal.returns
 returns c s of_decls of_main =
-    main_by s c.is_metadata.result c.args.top.now c.args.main.now (seen_kind c.pair_of-of.result.headers) (seen_kind c.pair_of-of.result.metadata) of_decls of_main (c.pair_of-of.ensures s of_decls of_main)
+    main_by s c.is_metadata.result c.args.top.now c.args.main.now (seen_kind c.main_kinds-of.result.headers) (seen_kind c.main_kinds-of.result.metadata) of_decls of_main (c.main_kinds-of.ensures.headers s of_decls of_main, c.main_kinds-of.ensures.metadata s of_decls of_main)
     (c.if-not-are_blocks.ensures) (c.if-not-are_headers.ensures) c.is_metadata.ensures

@@ -1,0 +1,2 @@
+-- The definitions of the rules serve; these are what private functions name.
+pub mod internal
