@@ -1,5 +1,5 @@
 -- Labels, and the names of the actions that a table lists.
-use Rattle.std.proofs.Common.{◌≡◌, ℕ, ◌+◌, ◌<◌, Bool, true, false, not, ◌||◌, cond, Some, None, List, [], ◌∷◌, ◌++◌, length, map, filter_map, is_none, refl, sym, ap, ◌∙◌, ltb, arith}
+use Rattle.std.proofs.Common.{◌≡◌, ◌+◌, ◌<◌, Bool, true, false, not, ◌||◌, cond, Some, None, List, [], ◌∷◌, length, filter_map, is_none, refl, sym, ap, ◌∙◌, ltb, arith}
 use Rattle.std.specs.List.{list_any, position_or_len}
 use Rattle.std.specs.Str.{bytes_eq}
 use Rattle.std.proofs.lemmas.Bool.{lt-ltb, ltb-true, false≢true}
@@ -14,7 +14,7 @@ use Rattle.p416_rules.specs.Names.{Name}
 use Rattle.p416_rules.specs.Scopes.{Sort, Scope, sort_of}
 use Rattle.p416_rules.specs.Statements.{labels_of}
 use Rattle.p416_rules.specs.Declarations.{declared_name}
-use Rattle.p416_rules.specs.Tables.{is_same_action, is_outside_actions, is_outside_label, listed_by, is_not_among}
+use Rattle.p416_rules.specs.Tables.{is_same_action, is_outside_label, listed_by, is_not_among}
 use Rattle.p416_listed_check.specs.internal.Labels.{is_outside_names, case_count}
 
 -- a name has a number where it is among the names

@@ -1,5 +1,5 @@
 -- Two actions of one control-plane name are mixed up where the first with the name of some action is another.
-use Rattle.std.proofs.Common.{◌≡◌, ◌⊎◌, inl, inr, ℕ, zero, suc, Bool, true, false, not, ◌||◌, ◌&&◌, cond, Option, Some, None, List, [], ◌∷◌, map, slice_get, refl, sym, ap, ◌∙◌, subst}
+use Rattle.std.proofs.Common.{◌≡◌, ◌⊎◌, inl, inr, ℕ, Bool, true, false, not, ◌||◌, ◌&&◌, cond, Option, Some, None, List, [], ◌∷◌, map, slice_get, refl, sym, ap, ◌∙◌}
 use Rattle.std.specs.Prelude.{option_and_then}
 use Rattle.std.specs.Option.{option_map_or}
 use Rattle.std.specs.List.{list_any}
@@ -13,7 +13,7 @@ use Rattle.p416_rules.specs.Names.{Name}
 use Rattle.p416_rules.specs.Scopes.{Scope}
 use Rattle.p416_rules.specs.Tables.{is_same_action, action_plane, is_mixed_up, mixes_up}
 use Rattle.p416_names.proofs.Found.{first_named, first_step}
-use Rattle.p416_listed_check.specs.internal.Mixed.{is_other, is_other_at, is_other_where, is_mixed}
+use Rattle.p416_listed_check.specs.internal.Mixed.{is_other, is_other_where, is_mixed}
 
 -- actions that are the same are equal
 
