@@ -1,5 +1,5 @@
 -- The syntax of a program of the form is one that a text can have.
-use Rattle.std.proofs.Common.{◌≡◌, ℕ, ◌^◌, Bool, true, List, [], ◌∷◌, ◌++◌, refl, map, drop}
+use Rattle.std.proofs.Common.{◌≡◌, ◌^◌, Bool, true, List, [], ◌∷◌, ◌++◌, refl, map, drop}
 use Rattle.std.specs.Prelude.{◌&&◌, nat_lt}
 use Rattle.std.specs.List.{list_all, flat_map}
 use Rattle.std.proofs.lemmas.Bool.{and_parts, and_from}
