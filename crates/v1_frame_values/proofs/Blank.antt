@@ -11,7 +11,7 @@ use Rattle.v1_sem.specs.Passes.{blank_frame}
 use Rattle.v1_sem.specs.Numbered.{new_numbered, nobody, frame_in}
 use Rattle.v1_frames.specs.Layouts.{Layout}
 use Rattle.v1_frames.specs.Cells.{Cells, is_live, slot_value, header_valid, stack_place, new_cells}
-use Rattle.v1_frame_values.specs.Seats.{Form, form_of, Start, moved, behind}
+use Rattle.v1_frame_values.specs.Seats.{form_of, Start, moved, behind}
 use Rattle.v1_frame_values.specs.Values.{field_values, header_value, element_values, member_values, value_from}
 use Rattle.v1_frame_values.specs.Programs.{layout16, frame_kinds, first_start, values_from, of_values, numbered16}
 use Rattle.v1_frame_values.proofs.Reading.{by_truth}

@@ -1,18 +1,17 @@
 -- What each write to a packed frame changes of what is read, and that this is the value that is written.
-use Rattle.std.proofs.Common.{◌≡◌, ◌≢◌, ◌⊎◌, inl, inr, ℕ, zero, suc, ◌+◌, ◌-◌, ◌<◌, ◌≤◌, Bool, true, false, cond, Option, Some, None, List, [], ◌∷◌, ◌++◌, length, map, take, drop, replicate, get_or, set, refl, sym, ap, ◌∙◌, subst, arith, length-append, length-take-le}
+use Rattle.std.proofs.Common.{◌≡◌, ◌⊎◌, inl, inr, ℕ, zero, suc, ◌+◌, ◌-◌, ◌<◌, ◌≤◌, Bool, true, false, cond, Option, Some, None, List, [], ◌∷◌, ◌++◌, length, map, take, drop, replicate, get_or, set, refl, sym, ap, ◌∙◌, subst, arith, length-append, length-take-le}
 use Rattle.std.proofs.lemmas.List.{get_or_append_left, get_or-append_right, get_or-take, get_or-drop, get_or-replicate, get_or-set_same, get_or-set_other, length-replicate}
-use Rattle.p416_rules.specs.Scopes.{Layout as TypeLayout, FieldKind, fields_in}
+use Rattle.p416_rules.specs.Scopes.{FieldKind}
 use Rattle.p416_rules.specs.Totals.{bits_in}
-use Rattle.v1_sem.specs.Values.{Field, Header, cleared_field, cleared}
+use Rattle.v1_sem.specs.Values.{Field, cleared_field, cleared}
 use Rattle.v1_sem.specs.Numbers.{is_same_truth}
 use Rattle.v1_sem.specs.Numbered.{made_valid}
 use Rattle.v1_frames.specs.declared.layout.HeaderSlots.{HeaderSlots}
 use Rattle.v1_frames.specs.Layouts.{no_slots}
-use Rattle.v1_frames.specs.Cells.{Cells, owner_valid, is_live, slot_value, with_slot, header_valid, cleared_numbers, with_validity, stack_place, with_stack_place}
-use Rattle.v1_frames.proofs.Frames.{set_got, set_others}
+use Rattle.v1_frames.specs.Cells.{Cells, owner_valid, slot_value, header_valid, cleared_numbers, with_validity}
 use Rattle.v1_frame_values.specs.Seats.{Start, moved}
 use Rattle.v1_frame_values.specs.Values.{field_values, header_value}
-use Rattle.v1_frame_values.specs.Laid.{IsSlot, AreFields, IsHeader, OwnersAgree}
+use Rattle.v1_frame_values.specs.Laid.{AreFields, IsHeader, OwnersAgree}
 use Rattle.v1_frame_values.proofs.Reading.{by_truth}
 use Rattle.v1_frame_values.proofs.Same.{fields_same}
 use Rattle.v1_frame_values.proofs.Writing.{split_first}
@@ -52,21 +51,26 @@ validity_others c fields b on j agree laid many apart =
     ∙ ap (λ (live : Bool). cond live (get_or c.numbers j 0) 0) (by owner refl) where
       owner : Option ℕ
       owner = get_or c.layout.owners j None
+
       slots : HeaderSlots
       slots = get_or c.layout.headers b.header no_slots
+
       numbers : get_or (cond (is_same_truth (header_valid c b.header) on) c.numbers (cleared_numbers slots c.numbers)) j 0 ≡ get_or c.numbers j 0
       numbers =
           rw laid.slots (by_truth (λ (same : Bool). get_or (cond same c.numbers (cleared_numbers (record { from = b.slot; to = b.slot + fields }) c.numbers)) j 0 ≡ get_or c.numbers j 0) refl
           (outside b.slot (b.slot + fields) c.numbers j (omega arith) (omega (arith, laid.room)) apart) (is_same_truth (header_valid c b.header) on))
+
       far : b.slot ≤ j → j < b.slot + fields → (j < b.slot) ⊎ (b.slot + fields ≤ j) → ⊥
       far low high (inl lt) = omega arith
       far low high (inr le) = omega arith
+
       clash : owner ≡ Some b.header → ⊥
       clash own =
           let within : (slots.from ≤ j) × (j < slots.to) = agree j b.header own in
           let low : b.slot ≤ j = subst (λ (s : HeaderSlots). s.from ≤ j) laid.slots within.0 in
           let high : j < b.slot + fields = subst (λ (s : HeaderSlots). j < s.to) laid.slots within.1 in
           far low high apart
+
       by : (o : Option ℕ) → owner ≡ o → owner_valid (set c.valids b.header on) o ≡ owner_valid c.valids o
       by None e = refl
       by (Some header) e = get_or-set_other c.valids b.header header on false (λ same. clash (subst (λ (h : ℕ). owner ≡ Some h) same e))
@@ -113,11 +117,15 @@ validity_value c fields b on laid many marked =
     (is_same_truth (header_valid c b.header) on) refl where
       d : Cells
       d = with_validity c b.header on
+
       slots : HeaderSlots
       slots = get_or c.layout.headers b.header no_slots
+
       valid : header_valid d b.header ≡ on
       valid = get_or-set_same c.valids b.header on false (omega (arith, laid.within))
+
       own : (x : Cells) (i : ℕ) → get_or x.layout.owners i None ≡ Some b.header → slot_value x i ≡ cond (header_valid x b.header) (get_or x.numbers i 0) 0
       own x i e = ap (λ (o : Option ℕ). cond (owner_valid x.valids o) (get_or x.numbers i 0) 0) e
+
       reads : (i : ℕ) → b.slot ≤ i → i < b.slot + length fields → slot_value d i ≡ cond on (get_or d.numbers i 0) 0
       reads i le lt = own d i (field_owner c b.header (length fields) b i laid.each le lt) ∙ ap (λ (v : Bool). cond v (get_or d.numbers i 0) 0) valid

@@ -1,5 +1,5 @@
 -- The packed frame of a program and its values by number: each call does to the one what it does to the other.
-use Rattle.std.proofs.Common.{◌≡◌, inl, inr, ℕ, zero, suc, ◌+◌, ◌<◌, ◌≤◌, Bool, true, false, cond, Option, Some, None, List, [], ◌∷◌, length, drop, get_or, set, refl, sym, ap, ◌∙◌, subst, arith, IfSome}
+use Rattle.std.proofs.Common.{◌≡◌, inl, inr, ℕ, zero, suc, ◌+◌, ◌<◌, ◌≤◌, Bool, true, false, cond, Option, Some, None, List, [], ◌∷◌, length, get_or, set, refl, sym, ap, ◌∙◌, subst, arith, IfSome}
 use Rattle.std.proofs.lemmas.List.{get_or-set_same, get_or-set_other}
 use Rattle.fabric.specs.declared.items.Event.{Event}
 use Rattle.fabric.specs.declared.items.RequestKind.{RequestKind}
@@ -17,9 +17,9 @@ use Rattle.v1_sem.specs.Numbered.{owner_value, with_owner_value, part_value, wit
 use Rattle.v1_frames.specs.Layouts.{Layout, no_parts}
 use Rattle.v1_frames.specs.Cells.{Cells, owner_valid, is_live, slot_value, with_slot, header_valid, with_validity, stack_place, with_stack_place, request_of, with_request, without_requests, with_event, without_events}
 use Rattle.v1_frames.proofs.Frames.{set_got, set_others}
-use Rattle.v1_frame_values.specs.Seats.{Content, Form, slot_form, header_form, stack_form, form_of, Start, moved, behind, Seat, seat, behind_seat, seat_behind, seat_at}
-use Rattle.v1_frame_values.specs.Values.{content_value, header_value, element_values, value_from, seat_value}
-use Rattle.v1_frame_values.specs.Laid.{IsSlot, IsHeader, IsLaid, IsSeatLaid, OwnersAgree}
+use Rattle.v1_frame_values.specs.Seats.{Content, slot_form, header_form, stack_form, form_of, Start, behind, Seat, seat, behind_seat, seat_behind, seat_at}
+use Rattle.v1_frame_values.specs.Values.{content_value, header_value, element_values, seat_value}
+use Rattle.v1_frame_values.specs.Laid.{IsHeader, IsSeatLaid, OwnersAgree}
 use Rattle.v1_frame_values.specs.Programs.{layout16, frame_kinds, first_start, seat_in, behind_kinds, AreLaid, owner_number, owner_seat, part_seat, values_from, of_values, numbered16}
 use Rattle.v1_frame_values.specs.Frames.{IsFrameOf}
 use Rattle.v1_frame_values.proofs.Same.{Same, elements_same}
@@ -71,6 +71,7 @@ pub part_put : (syntax : Syntax16) (c d : Cells) (p : FramePart) (v : Value) (t 
 part_put syntax c d p v t layout same found = by (owner_seat syntax p.owner) refl found where
   types : List TypeLayout
   types = layouts_of syntax.decls
+
   by : (x : Option Seat) → owner_seat syntax p.owner ≡ x → seat_behind (λ s. seat_at (layouts_of syntax.decls) p.path s) x ≡ Some t → PutsPart syntax c d p v t
   by None e at = absurd (cc at)
   by (Some o) e at =
@@ -108,14 +109,19 @@ slot_put syntax c p v depth of b owner n is found fits = puts.put (λ values. re
     (λ on. fits ∙ ap (λ (m : ℕ). content_value of m) (sym (set_got c b.slot n within ∙ ap (λ (live : Bool). cond live n 0) (live on)))) where
       t : Seat
       t = record { depth = depth; form = slot_form of; start = b; owner = owner }
+
       puts : PutsPart syntax c (with_slot c b.slot n) p v t
       puts = part_put syntax c (with_slot c b.slot n) p v t is.layout refl found
+
       within : b.slot < length c.numbers
       within = omega (arith, puts.laid.within, is.whole.numbers)
+
       live : owner_valid c.valids owner ≡ true → is_live c b.slot ≡ true
       live on = ap (λ (o : Option ℕ). owner_valid c.valids o) puts.laid.owned ∙ on
+
       clash : (i : ℕ) → i ≡ b.slot → i < b.slot → ⊥
       clash i e lt = omega arith
+
       past : (i : ℕ) → i ≡ b.slot → b.slot + 1 ≤ i → ⊥
       past i e le = omega arith
 
@@ -138,18 +144,25 @@ validity_put syntax c p depth type b owner on is found =
     (λ live. ap (λ (h : Header). a_header h) (validity_value c fields b on laid is.whole.numbers is.whole.valids)) where
       fields : List FieldKind
       fields = fields_in (layouts_of syntax.decls) type
+
       t : Seat
       t = record { depth = depth; form = header_form type; start = b; owner = owner }
+
       v : Value
       v = a_header (made_valid on (header_value fields c b))
+
       puts : PutsPart syntax c (with_validity c b.header on) p v t
       puts = part_put syntax c (with_validity c b.header on) p v t is.layout refl found
+
       laid : IsHeader c.layout (length fields) b
       laid = puts.laid
+
       agree : OwnersAgree c.layout
       agree = subst OwnersAgree (sym is.layout) (program_laid syntax).0.agree
+
       clash : (i : ℕ) → i ≡ b.header → i < b.header → ⊥
       clash i e lt = omega arith
+
       past : (i : ℕ) → i ≡ b.header → b.header + 1 ≤ i → ⊥
       past i e le = omega arith
 
@@ -178,16 +191,22 @@ place_put syntax c p depth type size b owner place is found =
     }))) where
       fields : List FieldKind
       fields = fields_in (layouts_of syntax.decls) type
+
       d : Cells
       d = with_stack_place c b.stack place
+
       t : Seat
       t = record { depth = depth; form = stack_form type size; start = b; owner = owner }
+
       puts : PutsPart syntax c d p (a_stack place (element_values fields c size b)) t
       puts = part_put syntax c d p (a_stack place (element_values fields c size b)) t is.layout refl found
+
       clash : (i : ℕ) → i ≡ b.stack → i < b.stack → ⊥
       clash i e lt = omega arith
+
       past : (i : ℕ) → i ≡ b.stack → b.stack + 1 ≤ i → ⊥
       past i e le = omega arith
+
       none : (i : ℕ) → b.stack ≤ i → i < b.stack + 0 → ⊥
       none i le lt = omega arith
 

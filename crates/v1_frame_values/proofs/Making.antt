@@ -8,8 +8,7 @@ use Rattle.v1_frames.specs.declared.layout.HeaderSlots.{HeaderSlots}
 use Rattle.v1_frames.specs.Layouts.{Layout, no_slots, no_parts, with_lone_slot, slots_of_header, with_header_part, with_stack_part}
 use Rattle.v1_frame_values.specs.Seats.{Form, slot_form, header_form, stack_form, struct_form, no_form, form_of, Start, moved, behind_members, behind}
 use Rattle.v1_frame_values.specs.Laid.{IsSlot, AreFields, IsHeader, AreElements, AreMembers, IsLaid, OwnersAgree}
-use Rattle.v1_frame_values.specs.Programs.{slot_width, field_width, with_elements, with_members, with_value, with_values, first_start, behind_kinds, AreLaid}
-use Rattle.v1_frame_values.proofs.Writing.{split_first}
+use Rattle.v1_frame_values.specs.Programs.{slot_width, field_width, with_elements, with_members, with_value, with_values, behind_kinds, AreLaid}
 
 -- where the next value begins
 abbrev pub end_of : Layout → Start
@@ -215,18 +214,22 @@ header_grows l widths made = record {
     each = fields_there m (length l.headers) (length widths) (end_of l) (λ i le lt. record {
       within = omega (arith, length-append l.widths widths);
       owned = get_or-append_right l.owners owners (length l.widths) i None made.even le
-      ∙ get_or-replicate (length widths) (i - length l.widths) (Some (length l.headers)) None (omega arith);
+          ∙ get_or-replicate (length widths) (i - length l.widths) (Some (length l.headers)) None (omega arith);
     });
   };
 } where
   m : Layout
   m = with_header_part l widths
+
   owners : List (Option ℕ)
   owners = replicate (length widths) (Some (length l.headers))
+
   many : length owners ≡ length widths
   many = length-replicate (length widths) (Some (length l.headers))
+
   seam : get_or (l.headers ++ slots_of_header l widths ∷ []) (length l.headers) no_slots ≡ slots_of_header l widths
   seam = get_or-append_seam l.headers (slots_of_header l widths) [] no_slots
+
   by : (slot header : ℕ) → get_or (l.owners ++ owners) slot None ≡ Some header → (slot < length l.owners) ⊎ (length l.owners ≤ slot) → Agrees m slot header
   by slot header own (inl lt) = agrees_still l m slot header made (extends_header l widths) lt own
   by slot header own (inr le) =
@@ -302,8 +305,8 @@ value_grows types n (stack_form type size) l made =
       made = record { even = g.made.even; agree = g.made.agree };
       extends = extends_both l m o g.extends x;
       ends = same_start (end_of o) (moved (end_of l) (size * length fields) size 1)
-      (ap (λ (s : Start). s.slot) g.ends) (ap (λ (s : Start). s.header) g.ends)
-      (omega (arith, length-append m.sizes (size ∷ []), ap (λ (s : Start). s.stack) g.ends));
+          (ap (λ (s : Start). s.slot) g.ends) (ap (λ (s : Start). s.header) g.ends)
+          (omega (arith, length-append m.sizes (size ∷ []), ap (λ (s : Start). s.stack) g.ends));
       laid = (omega (arith, length-append m.sizes (size ∷ []), ap (λ (s : Start). s.stack) g.ends), elements_stay m o (length fields) size (end_of l) g.made.even x g.laid);
     }
 value_grows types zero (struct_form type) l made = record { made = made; extends = extends_itself l; ends = refl; laid = tt }

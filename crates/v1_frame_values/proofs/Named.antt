@@ -1,11 +1,11 @@
 -- A frame by name and its values by number are read and written alike.
-use Rattle.std.proofs.Common.{◌≡◌, ◌≢◌, ℕ, zero, suc, ◌<◌, Bool, true, false, cond, Option, Some, None, List, [], ◌∷◌, length, get_or, set, refl, sym, ap, ◌∙◌, subst, IfSome}
+use Rattle.std.proofs.Common.{◌≡◌, ◌≢◌, ℕ, ◌<◌, Bool, cond, Option, Some, None, List, [], ◌∷◌, length, get_or, set, refl, sym, ap, ◌∙◌, subst, IfSome}
 use Rattle.std.proofs.lemmas.List.{get_or-set_same, get_or-set_other}
 use Rattle.std.specs.Str.{bytes_eq}
 use Rattle.p416_rules.specs.Names.{Name}
 use Rattle.v1_sem.specs.Values.{Value, a_member, no_value, Step, to_member, to_element, part_of, part_at, member_in, with_member, with_part, with_part_at, Slice}
-use Rattle.v1_sem.specs.Frames.{Frame, Owner, of_headers, of_metadata, of_standard, of_variables, of_inner, of_nothing, Reference, place_value, around_slice, write}
-use Rattle.v1_sem.specs.Slots.{PartOwner, the_headers, the_metadata, the_standard, the_variable, FramePart, part_with}
+use Rattle.v1_sem.specs.Frames.{Owner, of_headers, of_metadata, of_standard, of_variables, of_inner, of_nothing, place_value, around_slice, write}
+use Rattle.v1_sem.specs.Slots.{FramePart}
 use Rattle.v1_sem.specs.Numbered.{Numbered, part_value, with_part_value, Variable, InScope, named_values, frame_in, number_of, part_behind, variable_part, part_meant}
 use Rattle.v1_frame_values.specs.Scopes.{AreAway, AreApart, AreOthers, IsScope}
 use Rattle.v1_frame_values.proofs.Reading.{by_truth}
@@ -61,14 +61,14 @@ named_put count values (v ∷ vs) others text apart away =
       within = apart.0;
       others_away = away.0;
       put = λ x lt. rw e (ap (λ (y : Value). a_member v.called y (named_values values vs)) (sym (get_or-set_same values v.number x no_value lt))
-      ∙ ap (λ (y : Value). a_member v.called (get_or (set values v.number x) v.number no_value) y) (sym (away_same values vs v.number x apart.1)));
+          ∙ ap (λ (y : Value). a_member v.called (get_or (set values v.number x) v.number no_value) y) (sym (away_same values vs v.number x apart.1)));
     })
     (λ e. some_more (λ k. IsNamed count values vs others text k × (k ≢ v.number)) (IsNamed count values (v ∷ vs) others text) (number_of vs text)
     (λ k is h. record {
       within = h.0.within;
       others_away = h.0.others_away;
       put = λ x lt. rw e (ap (λ (y : Value). a_member v.called y (with_member (named_values values vs) text x)) (sym (get_or-set_other values k v.number x no_value (λ same. h.1 (sym same))))
-      ∙ ap (λ (y : Value). a_member v.called (get_or (set values k x) v.number no_value) y) (h.0.put x lt));
+          ∙ ap (λ (y : Value). a_member v.called (get_or (set values k x) v.number no_value) y) (h.0.put x lt));
     })
     (both (IsNamed count values vs others text) (λ k. k ≢ v.number) (number_of vs text) (named_put count values vs others text apart.2 away.1) (found_away v.number vs text apart.1)))
     (bytes_eq v.called text) refl

@@ -1,12 +1,12 @@
 -- The parts of a value that is laid are laid.
-use Rattle.std.proofs.Common.{◌≡◌, ℕ, zero, suc, Bool, cond, Option, Some, None, List, [], ◌∷◌, length, IfSome}
+use Rattle.std.proofs.Common.{ℕ, zero, suc, Bool, cond, Option, Some, None, List, [], ◌∷◌, length, IfSome}
 use Rattle.std.specs.Str.{bytes_eq}
 use Rattle.p416_rules.specs.Names.{Name}
 use Rattle.p416_rules.specs.Scopes.{Layout as TypeLayout, FieldKind, fields_in}
 use Rattle.p416_rules.specs.Totals.{bits_in}
 use Rattle.v1_sem.specs.Values.{Step, to_member, to_element}
 use Rattle.v1_frames.specs.Layouts.{Layout}
-use Rattle.v1_frame_values.specs.Seats.{Content, some_bits, Form, slot_form, header_form, stack_form, struct_form, no_form, form_of, Start, moved, behind, Seat, seat, member_seat, field_form, field_seat, element_seat, seat_behind, seat_at}
+use Rattle.v1_frame_values.specs.Seats.{Content, some_bits, Form, slot_form, header_form, stack_form, struct_form, no_form, form_of, Start, moved, behind, seat, member_seat, field_form, field_seat, element_seat, seat_behind, seat_at}
 use Rattle.v1_frame_values.specs.Laid.{IsSlot, AreFields, IsHeader, AreElements, AreMembers, IsLaid, IsLaidAt, IsSeatLaid}
 use Rattle.v1_frame_values.proofs.Reading.{by_truth}
 

@@ -1,10 +1,10 @@
 -- What stands at a part is that part of the whole.
-use Rattle.std.proofs.Common.{◌≡◌, ℕ, zero, suc, Bool, true, false, cond, Option, Some, None, List, [], ◌∷◌, length, get_or, refl, sym, ap, ◌∙◌, subst, IfSome}
+use Rattle.std.proofs.Common.{◌≡◌, ℕ, zero, suc, Bool, true, false, cond, Option, Some, None, List, [], ◌∷◌, length, get_or, refl, sym, subst, IfSome}
 use Rattle.std.specs.Str.{bytes_eq}
 use Rattle.p416_rules.specs.Names.{Name}
 use Rattle.p416_rules.specs.Scopes.{Layout as TypeLayout, FieldKind, fields_in}
 use Rattle.p416_rules.specs.Totals.{bits_in}
-use Rattle.v1_sem.specs.Values.{Field, Header, Value, a_number, a_header, no_header, Step, to_member, to_element, part_of, part_at, member_in, field_in, field_value}
+use Rattle.v1_sem.specs.Values.{Field, Value, a_number, a_header, no_header, Step, to_member, to_element, part_of, part_at, member_in, field_in, field_value}
 use Rattle.v1_frames.specs.Cells.{Cells, owner_valid, slot_value, header_valid}
 use Rattle.v1_frame_values.specs.Seats.{Content, some_bits, Form, slot_form, header_form, stack_form, struct_form, no_form, form_of, Start, moved, behind, Seat, seat, member_seat, field_form, field_seat, element_seat, seat_behind, seat_at}
 use Rattle.v1_frame_values.specs.Values.{content_value, field_values, header_value, element_values, member_values, value_from, seat_value}

@@ -6,7 +6,7 @@ use Rattle.v1_sem.specs.Values.{Field, Header, Value, a_header, a_stack, a_membe
 use Rattle.v1_frames.specs.Cells.{Cells, slot_value, header_valid, stack_place}
 use Rattle.v1_frame_values.specs.Seats.{Form, slot_form, header_form, stack_form, struct_form, no_form, form_of, Start, moved, behind_members, behind}
 use Rattle.v1_frame_values.specs.Values.{content_value, field_values, header_value, element_values, member_values, value_from}
-use Rattle.v1_frame_values.proofs.Starts.{Before, at_once, before_both, members_before, ends_behind}
+use Rattle.v1_frame_values.proofs.Starts.{Before, at_once, members_before, ends_behind}
 
 -- what is read from one place up to another is the same
 pub record Same (c d : Cells) (b e : Start) : Type 0 where

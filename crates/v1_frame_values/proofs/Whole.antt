@@ -1,9 +1,8 @@
 -- What a write does to all values of a program's frame.
-use Rattle.std.proofs.Common.{◌≡◌, ℕ, zero, suc, ◌+◌, ◌<◌, ◌≤◌, Bool, true, false, Option, Some, None, List, [], ◌∷◌, length, get_or, set, refl, sym, ap, ◌∙◌, subst, arith, IfSome}
+use Rattle.std.proofs.Common.{◌≡◌, ℕ, zero, suc, true, Option, Some, List, [], ◌∷◌, length, get_or, set, refl, sym, ap, ◌∙◌, subst, IfSome}
 use Rattle.p416_rules.specs.Kinds.{Kind}
 use Rattle.p416_rules.specs.Scopes.{Layout as TypeLayout}
 use Rattle.v1_sem.specs.Values.{Value, no_value, Step, part_at, with_part_at, fitted}
-use Rattle.v1_frames.specs.Layouts.{Layout}
 use Rattle.v1_frames.specs.Cells.{Cells, owner_valid}
 use Rattle.v1_frame_values.specs.Seats.{Form, form_of, Start, behind, Seat, seat, behind_seat, seat_at}
 use Rattle.v1_frame_values.specs.Values.{value_from, seat_value}
@@ -12,7 +11,7 @@ use Rattle.v1_frame_values.specs.Programs.{seat_in, behind_kinds, values_from, A
 use Rattle.v1_frame_values.proofs.Starts.{Before, at_once, before_both, ends_behind, Within, within_more}
 use Rattle.v1_frame_values.proofs.Same.{Same, narrow, value_same}
 use Rattle.v1_frame_values.proofs.Reading.{seat_read}
-use Rattle.v1_frame_values.proofs.Writing.{some_weaker, Puts, replaced, write_replaces, seat_write}
+use Rattle.v1_frame_values.proofs.Writing.{Puts, replaced, write_replaces, seat_write}
 
 -- one value
 

@@ -4,13 +4,13 @@ use Rattle.std.specs.Str.{bytes_eq}
 use Rattle.p416_rules.specs.Names.{Name}
 use Rattle.p416_rules.specs.Scopes.{Layout as TypeLayout, FieldKind, fields_in}
 use Rattle.p416_rules.specs.Totals.{bits_in}
-use Rattle.v1_sem.specs.Values.{Field, Header, Value, a_number, a_header, a_stack, a_member, no_header, number_in, header_in, Step, to_member, to_element, part_of, part_at, member_in, with_field, with_header_field, with_member, with_part, with_part_at, fitted}
+use Rattle.v1_sem.specs.Values.{Field, Header, Value, a_header, a_stack, a_member, no_header, number_in, header_in, Step, to_member, to_element, part_of, part_at, member_in, with_field, with_header_field, with_member, with_part, with_part_at, fitted}
 use Rattle.v1_frames.specs.Layouts.{Layout}
 use Rattle.v1_frames.specs.Cells.{Cells, owner_valid, slot_value, header_valid, stack_place}
-use Rattle.v1_frame_values.specs.Seats.{Content, some_bits, Form, slot_form, header_form, stack_form, struct_form, no_form, form_of, Start, moved, behind_members, behind, Seat, seat, behind_seat, member_seat, field_form, field_seat, element_seat, seat_behind, seat_at}
-use Rattle.v1_frame_values.specs.Values.{content_value, field_values, header_value, element_values, member_values, value_from, seat_value}
-use Rattle.v1_frame_values.specs.Laid.{IsSlot, AreFields, IsHeader, AreElements, AreMembers, IsLaid}
-use Rattle.v1_frame_values.proofs.Starts.{Before, at_once, before_both, members_before, ends_behind, Within, within_more}
+use Rattle.v1_frame_values.specs.Seats.{Form, slot_form, header_form, stack_form, struct_form, no_form, form_of, Start, moved, behind_members, behind, Seat, seat, behind_seat, member_seat, field_form, field_seat, element_seat, seat_behind, seat_at}
+use Rattle.v1_frame_values.specs.Values.{field_values, header_value, element_values, member_values, value_from, seat_value}
+use Rattle.v1_frame_values.specs.Laid.{AreFields, IsHeader, AreElements, AreMembers, IsLaid}
+use Rattle.v1_frame_values.proofs.Starts.{Before, at_once, members_before, ends_behind, Within, within_more}
 use Rattle.v1_frame_values.proofs.Same.{Same, narrow, fields_same, header_same, elements_same, members_same, value_same}
 use Rattle.v1_frame_values.proofs.Reading.{by_truth, member_part}
 
@@ -77,7 +77,7 @@ field_put types c d n header (f ∷ fields) b word =
       behind_is = h.behind_is;
       number_is = h.number_is;
       put = λ l m. rw e (ap (λ (m : ℕ). record { called = f.called; width = width; number = m } ∷ with_field (field_values fields c next) word (slot_value d t.start.slot)) (l b.slot (omega arith) (omega (arith, h.begins)))
-      ∙ ap (λ (r : List Field). first d ∷ r) (h.put (λ i le lt. l i (omega arith) lt) (λ i lt le. m i lt (omega arith))));
+          ∙ ap (λ (r : List Field). first d ∷ r) (h.put (λ i le lt. l i (omega arith) lt) (λ i lt le. m i lt (omega arith))));
     }) (field_put types c d n header fields next word))
     (bytes_eq f.called word) refl
 
@@ -97,6 +97,7 @@ off_fields c header (f ∷ fields) b laid off i le lt =
     by (split_first b.slot i le) (λ l. off_fields c header fields (moved b 1 0 0) laid.1 off i l (omega arith)) where
       here : slot_value c b.slot ≡ 0
       here = subst (λ (o : Option ℕ). cond (owner_valid c.valids o) (get_or c.numbers b.slot 0) 0 ≡ 0) (sym laid.0.owned) (rw off refl)
+
       by : (b.slot ≡ i) ⊎ (b.slot + 1 ≤ i) → (b.slot + 1 ≤ i → slot_value c i ≡ 0) → slot_value c i ≡ 0
       by (inl e) rest = subst (λ (j : ℕ). slot_value c j ≡ 0) e here
       by (inr l) rest = rest l
@@ -144,9 +145,12 @@ element_put types c d path n type fields x each (suc size) b zero laid =
     some_weaker (Puts types c d x b next (replaced path x old) (a_header (header_value fields d b)))
     (λ t. Within types b end t × (Same c d b t.start → Same c d (behind_seat types t) end → (owner_valid c.valids t.owner ≡ true → x ≡ seat_value types d t) → header_in (replaced path x old) ∷ element_values fields c size next ≡ header_value fields d b ∷ element_values fields d size next))
     (seat_at types path (seat n (header_form type) b))
-    (λ t h. (within_more types b b next end t (at_once b) less h.within, λ l m live.
-    ap (λ (v : Value). header_in v ∷ element_values fields c size next) (h.put l (narrow c d (behind_seat types t) (behind_seat types t) next end (at_once (behind_seat types t)) less m) live)
-    ∙ ap (λ (r : List Header). header_value fields d b ∷ r) (elements_same fields c d size next (narrow c d (behind_seat types t) next inner end h.within.ends last m))))
+    (λ t h. (
+      within_more types b b next end t (at_once b) less h.within,
+      λ l m live.
+          ap (λ (v : Value). header_in v ∷ element_values fields c size next) (h.put l (narrow c d (behind_seat types t) (behind_seat types t) next end (at_once (behind_seat types t)) less m) live)
+          ∙ ap (λ (r : List Header). header_value fields d b ∷ r) (elements_same fields c d size next (narrow c d (behind_seat types t) next inner end h.within.ends last m)),
+    ))
     (each b laid.0)
 element_put types c d path n type fields x each (suc size) b (suc i) laid =
     let count = length fields in
@@ -161,10 +165,13 @@ element_put types c d path n type fields x each (suc size) b (suc i) laid =
     (λ t. Within types next inner t × (Same c d next t.start → Same c d (behind_seat types t) inner → (owner_valid c.valids t.owner ≡ true → x ≡ seat_value types d t) → set (element_values fields c size next) i (header_in other) ≡ element_values fields d size next))
     (λ t. Within types b end t × (Same c d b t.start → Same c d (behind_seat types t) end → (owner_valid c.valids t.owner ≡ true → x ≡ seat_value types d t) → header_value fields c b ∷ set (element_values fields c size next) i (header_in other) ≡ header_value fields d b ∷ element_values fields d size next))
     (seat_behind (λ t. seat_at types path t) (element_seat n type (length fields) size next i))
-    (λ t h. (within_more types b next inner end t behind last h.0, λ l m live.
-    ap (λ (y : Header). y ∷ set (element_values fields c size next) i (header_in other)) (header_same fields c d b (narrow c d b b next t.start (at_once b) h.0.begins l))
-    ∙ ap (λ (r : List Header). header_value fields d b ∷ r)
-    (h.1 (narrow c d b next t.start t.start behind (at_once t.start) l) (narrow c d (behind_seat types t) (behind_seat types t) inner end (at_once (behind_seat types t)) last m) live)))
+    (λ t h. (
+      within_more types b next inner end t behind last h.0,
+      λ l m live.
+          ap (λ (y : Header). y ∷ set (element_values fields c size next) i (header_in other)) (header_same fields c d b (narrow c d b b next t.start (at_once b) h.0.begins l))
+          ∙ ap (λ (r : List Header). header_value fields d b ∷ r)
+          (h.1 (narrow c d b next t.start t.start behind (at_once t.start) l) (narrow c d (behind_seat types t) (behind_seat types t) inner end (at_once (behind_seat types t)) last m) live),
+    ))
     (element_put types c d path n type fields x each size next i laid.1)
 
 -- members
@@ -190,14 +197,14 @@ member_write types c d path n x each (f ∷ fields) b word laid =
     (λ t h. record {
       within = within_more types b b next end t (at_once b) rest h.within;
       put = λ l m live. ap (λ (v : Value). a_member f.called v others) (h.put l (narrow c d (behind_seat types t) (behind_seat types t) next end (at_once (behind_seat types t)) rest m) live)
-      ∙ ap (λ (v : Value). a_member f.called (value_from types d n k b) v)
-      (members_same c d vc vd grow grows (λ k s y. value_same types c d n k s y) fields next (narrow c d (behind_seat types t) next end end h.within.ends (at_once end) m));
+          ∙ ap (λ (v : Value). a_member f.called (value_from types d n k b) v)
+          (members_same c d vc vd grow grows (λ k s y. value_same types c d n k s y) fields next (narrow c d (behind_seat types t) next end end h.within.ends (at_once end) m));
     }) (each k b laid.0))
     (some_weaker (Puts types c d x next end (with_member others word (replaced path x (member_in others word))) (member_values vd grow fields next)) (Puts types c d x b end (a_member f.called first (with_member others word (replaced path x (member_in others word)))) whole) (seat_behind (λ t. seat_at types path t) (member_seat grow n fields next word))
     (λ t h. record {
       within = within_more types b next end end t (grows k b) (at_once end) h.within;
       put = λ l m live. ap (λ (v : Value). a_member f.called v (with_member others word (replaced path x (member_in others word)))) (value_same types c d n k b (narrow c d b b next t.start (at_once b) h.within.begins l))
-      ∙ ap (λ (v : Value). a_member f.called (value_from types d n k b) v) (h.put (narrow c d b next t.start t.start (grows k b) (at_once t.start) l) m live);
+          ∙ ap (λ (v : Value). a_member f.called (value_from types d n k b) v) (h.put (narrow c d b next t.start t.start (grows k b) (at_once t.start) l) m live);
     }) (member_write types c d path n x each fields next word laid.1))
     (bytes_eq f.called word)
 
@@ -247,8 +254,8 @@ seat_write types c d (to_element i ∷ path) n (stack_form type size) b x layout
     (λ t h. record {
       within = within_more types b b inner end t (at_once b) less h.0;
       put = λ l m live. ap (λ (p : ℕ). a_stack p new) (m.stacks b.stack (omega (arith, h.0.ends.stack)) (omega arith))
-      ∙ ap (λ (r : List Header). a_stack (stack_place d b.stack) r)
-      (h.1 l (narrow c d (behind_seat types t) (behind_seat types t) inner end (at_once (behind_seat types t)) less m) live);
+          ∙ ap (λ (r : List Header). a_stack (stack_place d b.stack) r)
+          (h.1 l (narrow c d (behind_seat types t) (behind_seat types t) inner end (at_once (behind_seat types t)) less m) live);
     })
     (element_put types c d path n type fields x (λ a h. seat_write types c d path n (header_form type) a x layout h) size b i laid.1)
 seat_write types c d (to_member word ∷ path) zero (struct_form type) b x layout laid = tt

@@ -69,51 +69,67 @@ fn forget(frame: &mut Frame<'_>)
     frame.clear_events();
 }
 
-#[test]
-fn fields_are_there_where_their_header_is(rt: HostRuntime) -> Result<(), Fail> {
-    let layout = layout(rt.alloc())?;
-    let mut frame = Frame::of_layout(rt.alloc(), &layout)?;
+/// Whether fields are there exactly where their header is.
+fn fields_follow_their_header(frame: &mut Frame<'_>) -> bool
+    requires { frame.old.layout ≡ small }
+    ensures { frame.new.layout ≡ frame.old.layout }
+{
     // A field of an invalid header isn't written.
-    put(&mut frame, 1, 5);
-    assert_eq!(rt; frame.get(1), 0);
+    put(frame, 1, 5);
+    let unwritten = frame.get(1) == 0;
     // A field is written by itself.
-    mark(&mut frame, 0, true);
-    put(&mut frame, 1, 5);
-    put(&mut frame, 5, 1);
-    assert!(rt; frame.valid(0) && !frame.valid(1) && !frame.valid(2));
-    assert!(rt; frame.get(0) == 0 && frame.get(1) == 5 && frame.get(2) == 0);
+    mark(frame, 0, true);
+    put(frame, 1, 5);
+    put(frame, 5, 1);
+    let valid = frame.valid(0) && !frame.valid(1) && !frame.valid(2);
+    let alone = frame.get(0) == 0 && frame.get(1) == 5 && frame.get(2) == 0;
     // The slot next to those of a header isn't one of its fields.
-    mark(&mut frame, 2, true);
-    put(&mut frame, 4, 0xff);
-    mark(&mut frame, 2, false);
-    assert!(rt; frame.get(4) == 0 && frame.get(5) == 1);
+    mark(frame, 2, true);
+    put(frame, 4, 0xff);
+    mark(frame, 2, false);
+    let beside = frame.get(4) == 0 && frame.get(5) == 1;
     // A header that is made valid again keeps its fields, and one that was invalid in between doesn't.
-    mark(&mut frame, 0, true);
-    assert_eq!(rt; frame.get(1), 5);
-    mark(&mut frame, 0, false);
-    mark(&mut frame, 0, true);
-    assert_eq!(rt; frame.get(1), 0);
-    Ok(())
+    mark(frame, 0, true);
+    let kept = frame.get(1) == 5;
+    mark(frame, 0, false);
+    mark(frame, 0, true);
+    unwritten && valid && alone && beside && kept && frame.get(1) == 0
+}
+
+/// Whether a frame has header 0 with this in slot 2, this place of its stack, and this request to resubmit.
+fn has(frame: &Frame<'_>, number: u128, at: u32, request: Option<(u32, u8)>) -> bool
+    requires { frame.now.layout ≡ small }
+{
+    frame.valid(0) == (number != 0)
+        && frame.get(2) == number
+        && frame.place(0) == at
+        && frame.request(RequestKind::Resubmit) == request
+        && frame.request(RequestKind::Recirculate).is_none()
+        && frame.events().is_empty() == request.is_none()
+}
+
+/// Whether a copy keeps what stood there.
+fn copy_stays(alloc: Global, frame: &mut Frame<'_>) -> Result<bool, OutOfMemory>
+    requires { frame.old.layout ≡ small }
+    ensures { frame.new.layout ≡ frame.old.layout }
+{
+    mark(frame, 0, true);
+    put(frame, 2, 0xffff);
+    place(frame, 0, 2)?;
+    ask(frame, RequestKind::Resubmit, 2)?;
+    let kept = frame.copy(alloc)?;
+    mark(frame, 0, false);
+    place(frame, 0, 1)?;
+    forget(frame);
+    Ok(has(&kept, 0xffff, 2, Some((7, 2))) && has(frame, 0, 1, None))
 }
 
 #[test]
-fn a_copy_keeps_what_was(rt: HostRuntime) -> Result<(), Fail> {
+fn frames_keep_what_is_put(rt: HostRuntime) -> Result<(), Fail> {
     let layout = layout(rt.alloc())?;
     let mut frame = Frame::of_layout(rt.alloc(), &layout)?;
-    mark(&mut frame, 0, true);
-    put(&mut frame, 2, 0xffff);
-    place(&mut frame, 0, 2)?;
-    ask(&mut frame, RequestKind::Resubmit, 2)?;
-    let kept = frame.copy(rt.alloc())?;
-    mark(&mut frame, 0, false);
-    place(&mut frame, 0, 1)?;
-    forget(&mut frame);
-    assert!(rt; kept.valid(0) && !frame.valid(0));
-    assert!(rt; kept.get(2) == 0xffff && frame.get(2) == 0);
-    assert!(rt; kept.place(0) == 2 && frame.place(0) == 1 && kept.size(0) == 2);
-    assert!(rt; kept.request(RequestKind::Resubmit) == Some((7, 2)));
-    assert!(rt; kept.request(RequestKind::Recirculate).is_none());
-    assert!(rt; frame.request(RequestKind::Resubmit).is_none());
-    assert!(rt; kept.events().len() == 1 && frame.events().is_empty());
+    let fields = fields_follow_their_header(&mut frame);
+    let copies = copy_stays(rt.alloc(), &mut frame)?;
+    assert!(rt; fields && copies);
     Ok(())
 }
