@@ -41,10 +41,12 @@ control V(inout hs hdr, inout ms meta) {
     }
 }
 control I(inout hs hdr, inout ms meta, inout standard_metadata_t sm) {
-    @name(\"out3\") action a() {
+    @name(\"out3\")
+    action a() {
         sm.egress_spec = 9w3;
     }
-    @name(\"t\") table t {
+    @name(\"t\")
+    table t {
         actions = {
             a;
         }

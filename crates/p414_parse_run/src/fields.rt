@@ -9,9 +9,9 @@ ghost use Rattle.p414_ready_parser.specs.Running.{current_number, ready_number};
 ghost use Rattle.p414_parse_run.specs.Fits.{FitsValue, bits_at};
 
 use p4x_bits::{OutOfMemory, read_octet_field};
-use p414_ready_parser::{ReadyValue, low};
+use p414_ready_parser::ReadyValue;
 use p414_sem::Standard;
-use p414_slots::FieldSlot;
+use p414_slots::{FieldSlot, low};
 use p414_state::State14;
 
 /// Whether so many bits are left.

@@ -5,7 +5,8 @@ ghost use Rattle.p414_ready_parser.specs.Running.{ready_key, row_for, takes};
 ghost use Rattle.p414_parse_run.specs.Fits.{FitsPart};
 
 use crate::fields::number;
-use p414_ready_parser::{CaseRow, CaseTest, Next, SelectPart, low};
+use p414_ready_parser::{CaseRow, CaseTest, Next, SelectPart};
+use p414_slots::low;
 use p414_state::State14;
 
 /// So many bits of a number behind those so far.

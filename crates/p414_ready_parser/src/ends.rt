@@ -1,5 +1,5 @@
 // How parser states end.
-ghost use Rattle.std.specs.Prelude.{◌≡◌, ◌+◌, map, option_copied, sum, IfOk};
+ghost use Rattle.std.specs.Prelude.{◌≡◌, map, option_copied, sum, IfOk};
 ghost use Rattle.p414_ready_parser.specs.Rows.{end_row, key_bits, select_part, select_rows};
 
 use crate::cases::rows_of;
@@ -8,17 +8,8 @@ use crate::rows::{Next, ReadyEnd, SelectPart};
 use crate::values::select_part;
 use p4x_bits::{OutOfMemory, Rows};
 use p414_ast::{Case, Inst, PValue, Return};
+use p414_slots::add_bits;
 use std::alloc::Global;
-
-/// A sum as a number of 32 bits.
-fn added(total: u32, width: u8) -> Result<u32, OutOfMemory>
-    ensures { IfOk result (λ sum. sum ≡ total + width) }
-{
-    match total.checked_add(u32::from(width)) {
-        Some(sum) => Ok(sum),
-        None => Err(OutOfMemory),
-    }
-}
 
 /// The bits that these values have together.
 fn key_bits(parts: &[SelectPart]) -> Result<u32, OutOfMemory>
@@ -26,7 +17,7 @@ fn key_bits(parts: &[SelectPart]) -> Result<u32, OutOfMemory>
 {
     let mut total = 0;
     for part in parts {
-        total = added(total, part.width)?;
+        total = add_bits(total, u128::from(part.width))?;
     }
     Ok(total)
 }

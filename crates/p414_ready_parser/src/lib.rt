@@ -11,7 +11,6 @@ mod rows;
 mod statements;
 mod values;
 
-pub use numbers::low;
 pub use parser::{ReadyParser, ready_parser};
 pub use rows::{
     CaseRow, CaseTest, InitialRow, Next, ReadyEnd, ReadyState, ReadyStatement, ReadyValue,

@@ -1,9 +1,10 @@
 // Numbers as fields keep them.
-ghost use Rattle.std.specs.Prelude.{◌≡◌, ◌-◌, ◌%◌, ◌^◌, ◌≤◌, nat_lt, pos, neg_ℤ, IfOk};
+ghost use Rattle.std.specs.Prelude.{◌≡◌, ◌-◌, ◌%◌, ◌^◌, ◌<◌, ◌≤◌, nat_lt, pos, neg_ℤ, IfOk, OnErr};
 ghost use Rattle.p414_sem.specs.Wholes.{whole, wrapped};
 
 use p4x_bits::OutOfMemory;
 use p414_ast::{Number, Sign};
+use p414_slots::low;
 
 /// The greatest number of so many bits.
 fn greatest(width: u8) -> u128
@@ -14,18 +15,6 @@ fn greatest(width: u8) -> u128
         (1u128 << width) - 1
     } else {
         u128::MAX
-    }
-}
-
-/// A number modulo 2 ^ width. It takes no memory.
-pub fn low(width: u8, value: u128) -> u128
-    requires { width ≤ 128 }
-    ensures { result ≡ value % 2 ^ width }
-{
-    if width < 128 {
-        value % (1u128 << width)
-    } else {
-        value
     }
 }
 
@@ -55,9 +44,10 @@ fn low_whole(width: u8, number: Number) -> u128
 }
 
 /// A written number, with its sign, modulo 2 ^ width. A width over 128, which no program has that breaks no rule, counts as
-/// want of memory.
+/// want of memory, and that is the one error.
 pub fn wrapped(width: u8, number: Number) -> Result<u128, OutOfMemory>
-    ensures { IfOk result (λ value. value ≡ wrapped width (whole number)) }
+    ensures ok { IfOk result (λ value. value ≡ wrapped width (whole number)) }
+    ensures err { OnErr result (128 < width) }
 {
     if width > 128 {
         return Err(OutOfMemory);

@@ -154,9 +154,9 @@ fn rows_of(
 }
 
 /// The parser of the program of these names, ready to run (P4_14 1.0.5, "Parser Specification"): run on a state whose
-/// headers are all invalid, its rows end as parsing of the program does and leave the same state. Each extraction takes
-/// time in the fields of its header; the one error is want of memory, which numbers count as that are too large to keep,
-/// such as no program has that breaks no rule.
+/// headers are all invalid, its rows end as parsing of the program does and leave the same state. In time O(n log n) in the
+/// program; the one error is want of memory, which numbers count as that are too large to keep, such as no program has that
+/// breaks no rule.
 #[tactic(auto, using(crate::proofs::Parsing::rows_mean))]
 pub fn ready_parser(alloc: Global, names: &Names14<'_>) -> Result<ReadyParser, OutOfMemory>
     ensures is { IfOk result (λ parser. parser ≡ ready_rows names.now) }

@@ -1,16 +1,14 @@
 // The statements of parser states.
-ghost use Rattle.std.specs.Prelude.{◌≡◌, ◌+◌, None, map, option_copied, sum, IfOk};
+ghost use Rattle.std.specs.Prelude.{◌≡◌, None, option_copied, IfOk};
 ghost use Rattle.p414_rules.specs.Uses.{last_behind, last_of};
 ghost use Rattle.p414_ast.specs.declared.parsers.PStmt.TheVariants as pstmt;
-ghost use Rattle.p414_rules.specs.Fields.{field_bits};
-ghost use Rattle.p414_sem.specs.Packing.{widths_of};
 ghost use Rattle.p414_ready_parser.specs.Rows.{fixed_element, statement_row, statement_rows};
 
 use crate::rows::ReadyStatement;
 use crate::values::value_row;
 use p4x_bits::{OutOfMemory, Rows};
-use p414_ast::{Field, FieldWidth, Index, Inst, PStmt, PValue, Ref};
-use p414_slots::{Slots, element_number, narrow_number};
+use p414_ast::{Index, Inst, PStmt, PValue, Ref};
+use p414_slots::{Slots, element_number};
 use std::alloc::Global;
 
 /// The element that an index names; none of `next`.
@@ -25,53 +23,11 @@ fn fixed_element(index: Option<Index>) -> Result<Option<u32>, OutOfMemory>
     }
 }
 
-/// A sum as a number of 32 bits.
-fn added(total: u32, bits: u128) -> Result<u32, OutOfMemory>
-    ensures { IfOk result (λ sum. sum ≡ total + bits) }
-{
-    let bits = narrow_number(bits)?;
-    match total.checked_add(bits) {
-        Some(sum) => Ok(sum),
-        None => Err(OutOfMemory),
-    }
-}
-
-/// The bits of a field; `*` counts as 0.
-fn field_bits(field: &Field) -> u128
-    ensures { result ≡ field_bits field.now }
-{
-    match field.width {
-        FieldWidth::Bits(width) => width.value,
-        FieldWidth::Rest => 0,
-    }
-}
-
-/// How many bits these fields have together.
-fn sum_of(fields: &[Field]) -> Result<u32, OutOfMemory>
-    ensures { IfOk result (λ bits. bits ≡ sum (map field_bits fields.now)) }
-{
-    let mut total = 0;
-    for field in fields {
-        total = added(total, field_bits(field))?;
-    }
-    Ok(total)
-}
-
-/// How many bits the fields of an instance have together.
-fn bits_of(slots: &Slots<'_, '_>, instance: &Inst) -> Result<u32, OutOfMemory>
-    ensures { IfOk result (λ bits. bits ≡ sum (widths_of slots.now instance.now.name)) }
-{
-    match slots.names().instance_type(instance.name.as_slice()) {
-        Some(header_type) => sum_of(header_type.fields()),
-        None => Ok(0),
-    }
-}
-
 /// An extraction.
 fn extract_row(slots: &Slots<'_, '_>, instance: &Inst) -> Result<ReadyStatement, OutOfMemory>
     ensures { IfOk result (λ row. row ≡ statement_row slots.now None (pstmt.Extract instance.now)) }
 {
-    let bits = bits_of(slots, instance)?;
+    let bits = slots.bits_of_fields(instance.name.as_slice());
     let element = fixed_element(instance.index)?;
     let instance = slots.instance(instance.name.as_slice())?;
     Ok(ReadyStatement::Extract {

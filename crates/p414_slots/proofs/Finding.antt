@@ -1,7 +1,8 @@
 -- What is found by number is what the names mean.
-use Rattle.std.proofs.Common.{◌≡◌, ℕ, Bool, true, false, cond, List, [], map, slice_get, Option, Some, None, option_map, option_and_then, refl, ap, ◌∙◌}
+use Rattle.std.proofs.Common.{◌≡◌, ℕ, Bool, true, false, cond, List, [], map, slice_get, Option, Some, None, option_map, option_and_then, refl, sym, ap, ◌∙◌}
+use Rattle.std.specs.Prelude.{sum, unwrap_or}
 use Rattle.std.specs.Option.{option_map_or}
-use Rattle.std.proofs.lemmas.Option.{slice_get-map}
+use Rattle.std.proofs.lemmas.Option.{slice_get-map, unwrap_or-slice_get}
 use Rattle.p414_ast.specs.declared.parts.Ref.{Ref}
 use Rattle.p414_ast.specs.declared.syntax.Decl.{Decl}
 use Rattle.p414_ast.specs.declared.syntax.Sort.TheVariants as sort
@@ -11,10 +12,11 @@ use Rattle.p414_rules.specs.Expansion.{type_fields}
 use Rattle.p414_rules.specs.Fields.{types, type_of, instance_type}
 use Rattle.p414_rules.specs.Primitives.{is_standard}
 use Rattle.p414_sem.specs.declared.standard.Standard.{Standard}
+use Rattle.p414_sem.specs.Packing.{type_widths, widths_of}
 use Rattle.p414_sem.specs.Slots.{Slot, standard, declared_slot, field_number, slot_of, standard_field}
 use Rattle.p414_slots.specs.declared.slot.FieldSlot.{FieldSlot}
 use Rattle.p414_slots.specs.Shown.{kept_slot}
-use Rattle.p414_slots.specs.internal.Found.{AreFound, fields_at, number_among, number_in, slot_by, slot_found, type_named}
+use Rattle.p414_slots.specs.internal.Found.{AreFound, bits_by, bits_together, fields_at, type_number, number_among, number_in, slot_by, slot_found, type_named}
 
 at_number : (ds : List Decl) (o : Option ℕ) → option_and_then (slice_get (map type_fields (types ds))) o ≡ option_map type_fields (option_and_then (slice_get (types ds)) o)
 at_number ds None = refl
@@ -39,11 +41,39 @@ field_is ds fields instance field e =
     ∙ number_by (instance_type ds instance) field
 
 -- what is found by the fields of all types
-pub field_found : (ds view : List Decl) (fields items : List (List Name)) (of_instances : List Name) (instance field : Name) (n : ℕ) → ds ≡ view → AreFound ds items of_instances → fields ≡ items → n ≡ number_in ds fields instance field → n ≡ field_number view instance field
-field_found ds view fields items of_instances instance field n same found is told =
+pub field_found : (ds view : List Decl) (fields items : List (List Name)) (bits : List ℕ) (of_instances : List Name) (instance field : Name) (n : ℕ) → ds ≡ view → AreFound ds items bits of_instances → fields ≡ items → n ≡ number_in ds fields instance field → n ≡ field_number view instance field
+field_found ds view fields items bits of_instances instance field n same found is told =
     told
     ∙ (ap (λ l. number_in ds l instance field) is
     ∙ (field_is ds items instance field found.fields ∙ ap (λ (d : List Decl). field_number d instance field) same))
+
+-- the bits of the fields of an instance
+
+bits_there : (types : List HeaderTypeTree) (o : Option ℕ) → bits_by (map bits_together types) o ≡ sum (option_map_or type_widths (option_and_then (slice_get types) o) [])
+bits_there types None = refl
+bits_there types (Some n) =
+    sym (unwrap_or-slice_get (map bits_together types) n 0)
+    ∙ ap (λ (o : Option ℕ). unwrap_or o 0) (slice_get-map bits_together types n)
+    ∙ of_type (slice_get types n) where
+      of_type : (o : Option HeaderTypeTree) → unwrap_or (option_map bits_together o) 0 ≡ sum (option_map_or type_widths o [])
+      of_type None = refl
+      of_type (Some t) = refl
+
+bits_named : (ds : List Decl) (o : Option Name) → option_and_then (slice_get (types ds)) (option_and_then (number_of sort.HeaderType ds) o) ≡ option_and_then (type_of ds) o
+bits_named ds None = refl
+bits_named ds (Some name) = refl
+
+bits_is : (ds : List Decl) (instance : Name) → bits_by (map bits_together (types ds)) (type_number ds instance) ≡ sum (widths_of ds instance)
+bits_is ds instance =
+    bits_there (types ds) (type_number ds instance)
+    ∙ ap (λ (o : Option HeaderTypeTree). sum (option_map_or type_widths o [])) (bits_named ds (type_named ds instance))
+
+pub bits_found : (ds view : List Decl) (items : List (List Name)) (read bits : List ℕ) (of_instances : List Name) (instance : Name) (n : ℕ) → ds ≡ view → AreFound ds items bits of_instances → read ≡ bits → n ≡ bits_by read (type_number ds instance) → n ≡ sum (widths_of view instance)
+bits_found ds view items read bits of_instances instance n same found is told =
+    told
+    ∙ ap (λ (l : List ℕ). bits_by l (type_number ds instance)) (is ∙ found.bits_are)
+    ∙ bits_is ds instance
+    ∙ ap (λ (d : List Decl). sum (widths_of d instance)) same
 
 -- standard metadata
 

@@ -1,14 +1,16 @@
 // The fields of header types by number.
-ghost use Rattle.std.specs.Prelude.{◌≡◌, ◌++◌, map, option_copied, option_to_list, IfOk, OnOk};
+ghost use Rattle.std.specs.Prelude.{◌≡◌, ◌++◌, map, option_copied, option_to_list, sum, IfOk, OnOk};
 ghost use Rattle.p414_ast.specs.References.{referred};
 ghost use Rattle.p414_ast.specs.declared.syntax.Sort.TheVariants as sort;
 ghost use Rattle.p414_rules.specs.Expansion.{type_fields};
-ghost use Rattle.p414_rules.specs.Fields.{header_type_in, type_name_in, types};
+ghost use Rattle.p414_rules.specs.Fields.{field_bits, header_type_in, type_name_in, types};
 ghost use Rattle.p414_rules.specs.Names.{field_name, name_in, names_in};
+ghost use Rattle.p414_slots.specs.internal.Found.{bits_together};
 
+use crate::numbers::add_bits;
 use name_numbers::{Numbering, number_names};
 use p4x_bits::{OutOfMemory, Text};
-use p414_ast::{Decl, Field};
+use p414_ast::{Decl, Field, FieldWidth};
 use std::alloc::Global;
 
 /// The names of these fields.
@@ -52,6 +54,50 @@ pub fn fields_of_types(alloc: Global, decls: &[Decl]) -> Result<Vec<Numbering<'_
     let mut found = Vec::new(alloc);
     for decl in decls {
         add_type(alloc, &mut found, decl)?;
+    }
+    Ok(found)
+}
+
+/// The bits of a field; `*` counts as 0.
+fn field_bits(field: &Field) -> u128
+    ensures { result ≡ field_bits field.now }
+{
+    match field.width {
+        FieldWidth::Bits(width) => width.value,
+        FieldWidth::Rest => 0,
+    }
+}
+
+/// How many bits these fields have together.
+fn sum_of(fields: &[Field]) -> Result<u32, OutOfMemory>
+    ensures { IfOk result (λ bits. bits ≡ sum (map field_bits fields.now)) }
+{
+    let mut total = 0;
+    for field in fields {
+        total = add_bits(total, field_bits(field))?;
+    }
+    Ok(total)
+}
+
+/// Puts the bits of a declaration's fields last, if it is a header type.
+fn add_bits_of_type(found: &mut Vec<u32>, decl: &Decl) -> Result<(), OutOfMemory>
+    ensures { OnOk result (found.new.items ≡ found.old.items ++ map bits_together (option_to_list (header_type_in decl.now))) }
+{
+    if let Decl::HeaderType(header_type) = decl {
+        found.push(sum_of(header_type.fields())?)?;
+    }
+    Ok(())
+}
+
+/// The bits that the fields of each header type have together, in the order of the types. The one error is want of memory,
+/// which 2^32 bits and more count as.
+#[tactic(auto, using(crate::proofs::Loops::type_now))]
+pub fn bits_of_types(alloc: Global, decls: &[Decl]) -> Result<Vec<u32>, OutOfMemory>
+    ensures { IfOk result (λ found. found.items ≡ map bits_together (types decls.now)) }
+{
+    let mut found = Vec::new(alloc);
+    for decl in decls {
+        add_bits_of_type(&mut found, decl)?;
     }
     Ok(found)
 }

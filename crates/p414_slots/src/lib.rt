@@ -6,6 +6,6 @@ mod numbers;
 mod slot;
 mod slots;
 
-pub use numbers::{narrow_number, narrow_width};
+pub use numbers::{add_bits, low, narrow_number, narrow_width};
 pub use slot::FieldSlot;
 pub use slots::{Slots, element_number};

@@ -1,19 +1,20 @@
 // Instances and fields by number.
-ghost use Rattle.std.specs.Prelude.{◌≡◌, option_and_then, option_copied, IfOk};
+ghost use Rattle.std.specs.Prelude.{◌≡◌, ◌^◌, ◌≤◌, option_and_then, option_copied, sum, IfOk, OnErr};
 ghost use Rattle.p414_rules.specs.Names.{number_of};
 ghost use Rattle.p414_ast.specs.declared.syntax.Sort.TheVariants as sort;
 ghost use Rattle.p414_rules.specs.ParserGraph.{instance_number};
 ghost use Rattle.p414_sem.specs.Slots.{bits_of_ref, declared_slot, element_number, field_number, slot_of, standard_field};
+ghost use Rattle.p414_sem.specs.Packing.{widths_of};
 ghost use Rattle.p414_sem.specs.Parsing.{field_named};
 ghost use Rattle.p414_slots.specs.Shown.{kept_slot};
-ghost use Rattle.p414_slots.specs.internal.Found.{fields_at, number_among, number_in, slot_found, standard_named, type_named};
+ghost use Rattle.p414_slots.specs.internal.Found.{bits_by, fields_at, number_among, number_in, ref_to, slot_found, standard_named, type_named};
 
-use crate::fields::{fields_of_types, instance_names, type_name_in};
+use crate::fields::{bits_of_types, fields_of_types, instance_names, type_name_in};
 use crate::numbers::{narrow_number, narrow_width};
 use crate::slot::FieldSlot;
-use name_numbers::{Numbering, narrow, number_names};
+use name_numbers::{Numbering, number_names};
 use p4x_bits::{OutOfMemory, Text};
-use p414_ast::{Index, Ref, Sort};
+use p414_ast::{Index, Inst, Ref, Sort};
 use p414_names::{Names14, is_standard};
 use p414_sem::Standard;
 use std::alloc::Global;
@@ -34,6 +35,7 @@ const INSTANCE_TYPE: &[u8] = b"instance_type";
 pub struct Slots<'n, 'a> {
     names: &'n Names14<'a>,
     fields: Vec<Numbering<'a>>,
+    bits: Vec<u32>,
     instances: Numbering<'a>,
 }
 
@@ -50,7 +52,7 @@ impl<'n, 'a> Model for Slots<'n, 'a> {
 
     ghost view = { λ s. s.names.now };
 
-    ghost invariant = { λ s. AreFound s.names.now s.fields.items s.instances };
+    ghost invariant = { λ s. AreFound s.names.now s.fields.items s.bits.items s.instances };
 }
 
 /// The field of standard metadata with a name, if it isn't left out.
@@ -85,11 +87,12 @@ fn standard_named(instance: &[u8], field: &[u8]) -> Option<Standard>
 
 /// The number of a name among these, or how many there are.
 fn number_among(numbering: &Numbering<'_>, name: &[u8]) -> Result<u32, OutOfMemory>
-    ensures { IfOk result (λ number. number ≡ number_among numbering.now name.now) }
+    ensures ok { IfOk result (λ number. number ≡ number_among numbering.now name.now) }
+    ensures err { OnErr result (2 ^ 32 ≤ number_among numbering.now name.now) }
 {
     match numbering.find(name) {
         Some(number) => Ok(number),
-        None => narrow(numbering.len()),
+        None => narrow_number(numbering.len() as u128),
     }
 }
 
@@ -110,6 +113,19 @@ fn type_number(names: &Names14<'_>, instance: &[u8]) -> Option<usize>
     match type_named(names, instance) {
         Some(name) => names.number_of(Sort::HeaderType, name.as_slice()),
         None => None,
+    }
+}
+
+/// The bits of the type with this number; 0 where there is none.
+fn bits_by(bits: &[u32], number: Option<usize>) -> u32
+    ensures { result ≡ bits_by bits.now number }
+{
+    match number {
+        Some(number) => match bits.get(number) {
+            Some(found) => *found,
+            None => 0,
+        },
+        None => 0,
     }
 }
 
@@ -142,10 +158,11 @@ fn number_in(
     }
 }
 
-/// The element that an index names; 0 where it is `next` or `last`, or none stands. One that is too large, which no program
-/// has that breaks no rule, counts as want of memory.
+/// The element that an index names; 0 where it is `next` or `last`, or none stands. One of 2^32 or more, which no program
+/// has that breaks no rule, counts as want of memory, and that is the one error.
 pub fn element_number(index: Option<Index>) -> Result<u32, OutOfMemory>
-    ensures { IfOk result (λ element. element ≡ element_number index) }
+    ensures ok { IfOk result (λ element. element ≡ element_number index) }
+    ensures err { OnErr result (2 ^ 32 ≤ element_number index) }
 {
     match index {
         Some(Index::At(number)) => narrow_number(number.value),
@@ -157,15 +174,17 @@ pub fn element_number(index: Option<Index>) -> Result<u32, OutOfMemory>
 
 impl<'n, 'a> Slots<'n, 'a> {
     /// The instances and fields of the program of these names. In time O(n log n) in the program; the one error is want of
-    /// memory.
+    /// memory, which a header type of 2^32 bits and more counts as: no program has one that breaks no rule.
     pub fn of(alloc: Global, names: &'n Names14<'a>) -> Result<Self, OutOfMemory>
         ensures { IfOk result (λ slots. slots ≡ names.now) }
     {
         let fields = fields_of_types(alloc, names.decls())?;
+        let bits = bits_of_types(alloc, names.decls())?;
         let instances = instance_names(alloc, names.decls())?;
         Ok(Slots {
             names,
             fields,
+            bits,
             instances: number_names(alloc, instances)?,
         })
     }
@@ -179,7 +198,8 @@ impl<'n, 'a> Slots<'n, 'a> {
 
     /// The number of an instance, from 0 in the order of declaration; that behind the last of a name that none has.
     pub fn instance(&self, name: &[u8]) -> Result<u32, OutOfMemory>
-        ensures { IfOk result (λ number. number ≡ instance_number self.now name.now) }
+        ensures ok { IfOk result (λ number. number ≡ instance_number self.now name.now) }
+        ensures err { OnErr result (2 ^ 32 ≤ instance_number self.now name.now) }
     {
         number_among(&self.instances, name)
     }
@@ -193,40 +213,44 @@ impl<'n, 'a> Slots<'n, 'a> {
         Ok(number)
     }
 
-    /// A field of a declared instance.
-    fn declared(&self, named: &Ref) -> Result<FieldSlot, OutOfMemory>
-        ensures { IfOk result (λ slot. slot ≡ kept_slot (declared_slot self.now named.now)) }
+    /// The bits that the fields of an instance have together; 0 where no instance has the name.
+    pub fn bits_of_fields(&self, instance: &[u8]) -> u32
+        ensures { result ≡ sum (widths_of self.now instance.now) }
     {
-        let instance = self.instance(named.instance.name.as_slice())?;
-        let element = element_number(named.instance.index)?;
-        let field = self.field(named.instance.name.as_slice(), named.field.as_slice())?;
+        bits_by(&self.bits, type_number(self.names, instance))
+    }
+
+    /// A field of a declared instance.
+    fn declared(
+        &self,
+        instance: &[u8],
+        index: Option<Index>,
+        field: &[u8],
+    ) -> Result<FieldSlot, OutOfMemory>
+        ensures { IfOk result (λ slot. slot ≡ kept_slot (declared_slot self.now (ref_to instance.now index field.now))) }
+    {
+        let number = self.instance(instance)?;
+        let element = element_number(index)?;
+        let field = self.field(instance, field)?;
         Ok(FieldSlot::Declared {
-            instance,
+            instance: number,
             element,
             field,
         })
     }
 
-    /// A field of a declared instance by their names.
-    fn declared_field(&self, instance: &[u8], field: &[u8]) -> Result<FieldSlot, OutOfMemory>
-        ensures { IfOk result (λ slot. slot ≡ kept_slot (declared_slot self.now (field_named instance.now field.now))) }
+    /// A field by names: one of standard metadata, or one that is declared.
+    fn found(
+        &self,
+        instance: &[u8],
+        index: Option<Index>,
+        field: &[u8],
+    ) -> Result<FieldSlot, OutOfMemory>
+        ensures { IfOk result (λ slot. slot ≡ kept_slot (slot_found self.now (ref_to instance.now index field.now))) }
     {
-        let number = self.instance(instance)?;
-        let field = self.field(instance, field)?;
-        Ok(FieldSlot::Declared {
-            instance: number,
-            element: 0,
-            field,
-        })
-    }
-
-    /// The field that a reference names: one of standard metadata, or one that is declared.
-    fn found(&self, named: &Ref) -> Result<FieldSlot, OutOfMemory>
-        ensures { IfOk result (λ slot. slot ≡ kept_slot (slot_found self.now named.now)) }
-    {
-        match standard_named(named.instance.name.as_slice(), named.field.as_slice()) {
+        match standard_named(instance, field) {
             Some(which) => Ok(FieldSlot::Standard(which)),
-            None => self.declared(named),
+            None => self.declared(instance, index, field),
         }
     }
 
@@ -235,38 +259,38 @@ impl<'n, 'a> Slots<'n, 'a> {
     pub fn slot(&self, named: &Ref) -> Result<FieldSlot, OutOfMemory>
         ensures { IfOk result (λ slot. slot ≡ kept_slot (slot_of self.now named.now)) }
     {
-        let slot = self.found(named)?;
-        Ok(slot)
+        self.slot_in(&named.instance, named.field.as_slice())
     }
 
-    /// The field of an instance, by their names: one of standard metadata, or one that is declared.
-    fn found_field(&self, instance: &[u8], field: &[u8]) -> Result<FieldSlot, OutOfMemory>
-        ensures { IfOk result (λ slot. slot ≡ kept_slot (slot_found self.now (field_named instance.now field.now))) }
+    /// Where a field of an instance or of an element of a stack stands, by its name. One of an element that is too large,
+    /// which no program has that breaks no rule, counts as want of memory.
+    pub fn slot_in(&self, instance: &Inst, field: &[u8]) -> Result<FieldSlot, OutOfMemory>
+        ensures { IfOk result (λ slot. slot ≡ kept_slot (slot_of self.now (record { instance = instance.now; field = field.now }))) }
     {
-        match standard_named(instance, field) {
-            Some(which) => Ok(FieldSlot::Standard(which)),
-            None => self.declared_field(instance, field),
-        }
+        let slot = self.found(instance.name.as_slice(), instance.index, field)?;
+        Ok(slot)
     }
 
     /// Where a field of an instance stands, by their names; of a stack that of its first element.
     pub fn slot_of_field(&self, instance: &[u8], field: &[u8]) -> Result<FieldSlot, OutOfMemory>
         ensures { IfOk result (λ slot. slot ≡ kept_slot (slot_of self.now (field_named instance.now field.now))) }
     {
-        let slot = self.found_field(instance, field)?;
+        let slot = self.found(instance, None, field)?;
         Ok(slot)
     }
 
     /// The bits of the field of an instance with a name; 0 where there is none.
     pub fn bits_of_field(&self, instance: &[u8], field: &[u8]) -> Result<u8, OutOfMemory>
-        ensures { IfOk result (λ bits. bits ≡ bits_of_ref self.now (field_named instance.now field.now)) }
+        ensures ok { IfOk result (λ bits. bits ≡ bits_of_ref self.now (field_named instance.now field.now)) }
+        ensures err { OnErr result (256 ≤ bits_of_ref self.now (field_named instance.now field.now)) }
     {
         narrow_width(self.names.width_of(instance, field).unwrap_or(0))
     }
 
     /// The bits of the field that a reference names; 0 where there is none.
     pub fn bits(&self, named: &Ref) -> Result<u8, OutOfMemory>
-        ensures { IfOk result (λ bits. bits ≡ bits_of_ref self.now named.now) }
+        ensures ok { IfOk result (λ bits. bits ≡ bits_of_ref self.now named.now) }
+        ensures err { OnErr result (256 ≤ bits_of_ref self.now named.now) }
     {
         narrow_width(self.names.ref_width(named).unwrap_or(0))
     }

@@ -16,7 +16,8 @@ use Rattle.p414_sem.specs.Packing.{numbers_in}
 use Rattle.p414_layout.specs.declared.shape.Shape.{Shape}
 use Rattle.p414_layout.specs.Placed.{total, octets_for, bits_before}
 use Rattle.p414_layout.specs.Shapes.{element_count}
-use Rattle.p414_state.specs.internal.Cells.{Packed, header_in, Laid, laid, element_in, IsLive, IsDead, read_in, put_in, with_element, begun_of, emptied, IsPacked, AreCells}
+use Rattle.p414_state.specs.Headers.{Packed, header_in, IsPacked}
+use Rattle.p414_state.specs.internal.Cells.{Laid, laid, element_in, IsLive, IsDead, read_in, put_in, with_element, begun_of, emptied, first_emptied, AreCells}
 use Rattle.p414_state.proofs.Numbers.{length-numbers_in, number_at, number_fits, number_put, numbers_of_octets, numbers_of_zeros}
 
 -- the element with a number
@@ -142,36 +143,36 @@ new_is shape =
 
 -- all elements made invalid
 
-pub emptied_turn : (xs now : List Packed) (i : ℕ) (x y : Packed) → i < length xs → now ≡ map emptied (take i xs) ++ drop i xs → x ≡ get_or now i x → y ≡ record { valid = false; octets = replicate (length x.octets) 0 } → set now i y ≡ map emptied (take (i + 1) xs) ++ drop (i + 1) xs
-emptied_turn xs now i x y inside so_far x_is y_is = rw y_is (map_over_more emptied xs now i x inside so_far x_is)
+pub emptied_turn : (valid : Bool) (xs now : List Packed) (i : ℕ) (x y : Packed) → i < length xs → now ≡ first_emptied valid i xs → x ≡ get_or now i x → y ≡ record { valid = valid; octets = replicate (length x.octets) 0 } → set now i y ≡ first_emptied valid (i + 1) xs
+emptied_turn valid xs now i x y inside so_far x_is y_is = rw y_is (map_over_more (emptied valid) xs now i x inside so_far x_is)
 
-pub emptied_all : (xs now : List Packed) (n : ℕ) → length xs ≤ n → now ≡ map emptied (take n xs) ++ drop n xs → now ≡ map emptied xs
+pub emptied_all : (xs now : List Packed) (n : ℕ) → length xs ≤ n → now ≡ first_emptied false n xs → now ≡ map (emptied false) xs
 emptied_all xs now n enough done =
-    done ∙ ap₂ (λ (front back : List Packed). map emptied front ++ back) (take_all n xs enough) (drop_all n xs enough) ∙ append-nil (map emptied xs)
+    done ∙ ap₂ (λ (front back : List Packed). map (emptied false) front ++ back) (take_all n xs enough) (drop_all n xs enough) ∙ append-nil (map (emptied false) xs)
 
-emptied_header : (widths : List ℕ) (p : Packed) → header_in widths (emptied p) ≡ cleared false (header_in widths p)
+emptied_header : (widths : List ℕ) (p : Packed) → header_in widths (emptied false p) ≡ cleared false (header_in widths p)
 emptied_header widths p =
     ap (λ (l : List ℕ). record { valid = false; numbers = l })
     (numbers_of_zeros widths (length p.octets) ∙ ap (λ (n : ℕ). replicate n 0) (sym (length-numbers_in widths (octet_bits p.octets))))
 
-emptied_headers : (widths : List ℕ) (elements : List Packed) → map (header_in widths) (map emptied elements) ≡ map (cleared false) (map (header_in widths) elements)
+emptied_headers : (widths : List ℕ) (elements : List Packed) → map (header_in widths) (map (emptied false) elements) ≡ map (cleared false) (map (header_in widths) elements)
 emptied_headers widths [] = refl
 emptied_headers widths (p ∷ elements) = ap₂ (λ (h : Header) (l : List Header). h ∷ l) (emptied_header widths p) (emptied_headers widths elements)
 
-pub begun_is : (shape : Shape) (elements : List Packed) (place : ℕ) → shape.metadata ≡ false → laid shape (map emptied elements) 0 ≡ begun_of (laid shape elements place)
+pub begun_is : (shape : Shape) (elements : List Packed) (place : ℕ) → shape.metadata ≡ false → laid shape (map (emptied false) elements) 0 ≡ begun_of (laid shape elements place)
 begun_is shape elements place header =
     ap (λ (l : List Header). record { shape = shape; instance = record { elements = l; place = 0 } }) (emptied_headers shape.widths elements)
     ∙ ap (λ (b : Bool). record { shape = shape; instance = cond b (laid shape elements place).instance (record { elements = map (cleared false) (map (header_in shape.widths) elements); place = 0 }) }) (sym header)
 
-emptied_each : (shape : Shape) (elements : List Packed) → shape.metadata ≡ false → All (IsPacked shape) elements → All (IsPacked shape) (map emptied elements)
-emptied_each shape elements header each = λ k d lt.
-    let inside : k < length elements = rw (← length-map elements emptied) lt in
-    subst (IsPacked shape) (sym (get_or-map emptied elements k d d inside)) (packed_clear shape (get_or elements k d) false (each k d inside) header)
+pub emptied_each : (shape : Shape) (valid : Bool) (elements : List Packed) → shape.metadata ≡ false → All (IsPacked shape) elements → All (IsPacked shape) (map (emptied valid) elements)
+emptied_each shape valid elements header each = λ k d lt.
+    let inside : k < length elements = rw (← length-map elements (emptied valid)) lt in
+    subst (IsPacked shape) (sym (get_or-map (emptied valid) elements k d d inside)) (packed_clear shape (get_or elements k d) valid (each k d inside) header)
 
-pub begun_cells : (shape : Shape) (elements : List Packed) (place : ℕ) → shape.metadata ≡ false → AreCells shape elements place → AreCells shape (map emptied elements) 0
+pub begun_cells : (shape : Shape) (elements : List Packed) (place : ℕ) → shape.metadata ≡ false → AreCells shape elements place → AreCells shape (map (emptied false) elements) 0
 begun_cells shape elements place header cells = record {
-  count = length-map elements emptied ∙ cells.count;
-  each = emptied_each shape elements header cells.each;
+  count = length-map elements (emptied false) ∙ cells.count;
+  each = emptied_each shape false elements header cells.each;
   within = omega arith;
 }
 
@@ -316,6 +317,6 @@ module _ (shape : Shape) (elements : List Packed) (place : ℕ) where
       ap (λ (l : List Header). record { shape = shape; instance = record { elements = l; place = place } })
       (sym (set_past (map (header_in shape.widths) elements) e h (rw (length-map elements (header_in shape.widths), cells.count) le)))) past
 
-  pub begun_seen : (now : Laid) (all : List Packed) → laid shape elements place ≡ now → shape.metadata ≡ false → all ≡ map emptied elements → laid shape all 0 ≡ begun_of now
+  pub begun_seen : (now : Laid) (all : List Packed) → laid shape elements place ≡ now → shape.metadata ≡ false → all ≡ map (emptied false) elements → laid shape all 0 ≡ begun_of now
   begun_seen now all view header is =
       ap (λ (l : List Packed). laid shape l 0) is ∙ begun_is shape elements place header ∙ ap begun_of view

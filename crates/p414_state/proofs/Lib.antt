@@ -1,5 +1,9 @@
 pub mod Elements
+pub mod Held
 pub mod Instances
+pub mod Laws
 pub mod Numbers
 pub mod Parts
 pub mod Programs
+pub mod Puts
+pub mod Stacks

@@ -1,13 +1,15 @@
 // A header, a header stack or metadata.
-ghost use Rattle.std.specs.Prelude.{◌≡◌, ℕ, ◌*◌, ◌^◌, ◌<◌, ◌≤◌, true, false, not, length, replicate, slice_index, IfOk, MatchBool};
+ghost use Rattle.std.specs.Prelude.{◌≡◌, ℕ, ◌*◌, ◌%◌, ◌^◌, ◌<◌, ◌≤◌, true, false, not, [], length, map, replicate, slice_index, IfOk, MatchBool};
 ghost use Rattle.p4x_bits.specs.BitLists.{octet_bits};
 ghost use Rattle.p414_sem.specs.State.{with_field, cleared, is_same};
-ghost use Rattle.p414_sem.specs.Packing.{numbers_in};
+ghost use Rattle.p414_sem.specs.Packing.{numbers_in, bits_in};
 ghost use Rattle.p414_layout.specs.Placed.{total};
 ghost use Rattle.p414_layout.specs.Shapes.{element_count, last_place, blank_of};
-ghost use Rattle.p414_state.specs.internal.Cells.{Laid, IsLive, IsDead, element_in, read_in, put_in, put_valid_in, with_element, with_place_of, begun_of};
+ghost use Rattle.p414_state.specs.Headers.{header_in, IsPacked, ArePacked, HoldsHeader, HoldsStack, FitsShape};
+ghost use Rattle.p414_state.specs.internal.Cells.{Laid, IsLive, IsDead, element_in, read_in, put_in, put_valid_in, with_all, with_element, with_place_of, begun_of};
 
-use crate::element::{Element, empty_all};
+use crate::header::{PackedHeader, copy_all, empty_all};
+use crate::stack::PackedStack;
 use p4x_bits::OutOfMemory;
 use p414_layout::Shape;
 use std::alloc::Global;
@@ -18,11 +20,12 @@ use std::marker::Model;
 #[derive(Drop)]
 pub struct InstanceCells {
     shape: Shape,
-    elements: Vec<Element>,
+    elements: Vec<PackedHeader>,
     place: u32,
 }
 
 impl Model for InstanceCells {
+    ghost use Rattle.p414_state.specs.Headers.{header_in, IsPacked, ArePacked, HoldsHeader, HoldsStack, FitsShape};
     ghost use Rattle.p414_state.specs.internal.Cells.{Laid, laid, AreCells};
 
     ghost Value = { Laid };
@@ -38,12 +41,12 @@ fn elements_of(
     count: u32,
     valid: bool,
     octets: usize,
-) -> Result<Vec<Element>, OutOfMemory>
+) -> Result<Vec<PackedHeader>, OutOfMemory>
     ensures { IfOk result (λ elements. elements.items ≡ replicate count (record { valid = valid; octets = replicate octets 0 })) }
 {
     let mut elements = Vec::new(alloc);
     for made in 0..count {
-        elements.push(Element::new(alloc, valid, octets)?)?;
+        elements.push(PackedHeader::new(alloc, valid, octets)?)?;
     }
     Ok(elements)
 }
@@ -77,10 +80,7 @@ impl InstanceCells {
     pub fn copy(&self, alloc: Global) -> Result<InstanceCells, OutOfMemory>
         ensures { IfOk result (λ cells. cells ≡ self.now) }
     {
-        let mut elements = Vec::with_capacity(alloc, self.elements.len())?;
-        for element in &self.elements {
-            elements.push(element.copy(alloc)?)?;
-        }
+        let elements = copy_all(alloc, &self.elements)?;
         Ok(InstanceCells {
             shape: self.shape.copy(alloc)?,
             elements,
@@ -215,6 +215,16 @@ impl InstanceCells {
         self.elements[element as usize].clear(valid);
     }
 
+    /// Makes an element of a header valid or invalid, with all fields 0; nothing where there is no such element.
+    pub fn put_cleared(&mut self, element: u32, valid: bool)
+        requires { self.old.shape.metadata ≡ false }
+        ensures { self.new ≡ with_element self.old element (cleared valid (element_in self.old element)) }
+    {
+        if element < self.shape.elements() {
+            self.clear(element, valid);
+        }
+    }
+
     /// Makes an element of a header valid or invalid. Where that changes its validity, its fields become 0, and else
     /// nothing changes.
     pub fn put_valid(&mut self, element: u32, valid: bool)
@@ -236,6 +246,58 @@ impl InstanceCells {
             let room = self.shape.widths.octets();
             self.elements[element as usize].fill(&octets[..room]);
         }
+    }
+
+    /// A copy of an element. The one error is want of memory.
+    pub fn element(&self, alloc: Global, element: u32) -> Result<PackedHeader, OutOfMemory>
+        requires { element < element_count self.now.shape }
+        ensures { IfOk result (HoldsHeader self.now.shape (element_in self.now element)) }
+    {
+        self.elements[element as usize].copy(alloc)
+    }
+
+    /// Puts a header in the place of an element; nothing where there is no such element.
+    pub fn put_element(&mut self, element: u32, header: &PackedHeader)
+        requires { IsPacked self.old.shape header.now }
+        ensures { self.new ≡ with_element self.old element (header_in self.old.shape.widths header.now) }
+    {
+        if element < self.shape.elements() {
+            self.elements[element as usize].assign(header);
+        }
+    }
+
+    /// A copy of all elements. The one error is want of memory.
+    pub fn elements(&self, alloc: Global) -> Result<PackedStack, OutOfMemory>
+        ensures { IfOk result (HoldsStack self.now.shape self.now.instance.elements) }
+    {
+        Ok(PackedStack::of(copy_all(alloc, &self.elements)?))
+    }
+
+    /// Puts other elements in the place of all.
+    pub fn put_elements(&mut self, stack: PackedStack)
+        requires { ArePacked self.old.shape stack }
+        ensures { self.new ≡ with_all self.old (map (header_in self.old.shape.widths) stack) }
+    {
+        self.elements = stack.into_elements();
+    }
+
+    /// The octets of an element: the bits of its fields, first field first, where these are whole octets; none where there is
+    /// no such element.
+    pub fn octets(&self, element: u32) -> &[u8]
+        ensures none { element_count self.now.shape ≤ element → result.now ≡ [] }
+        ensures bits { element < element_count self.now.shape → total self.now.shape.widths % 8 ≡ 0 → octet_bits result.now ≡ bits_in self.now.shape.widths (element_in self.now element).numbers }
+    {
+        match self.elements.get(element as usize) {
+            Some(found) => found.octets(),
+            None => &[],
+        }
+    }
+
+    /// An instance is as its shape tells. It does nothing.
+    pub fn fits(&self)
+        ensures { FitsShape self.now.shape self.now.instance }
+    {
+        let _ = &self.elements;
     }
 
     /// Puts the place of the next element that is extracted.

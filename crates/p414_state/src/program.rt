@@ -27,7 +27,8 @@ pub fn layout14(alloc: Global, program: &Program14) -> Result<Layout, OutOfMemor
 impl State14 {
     /// The state of an item of a program: all octets are unparsed, all headers are invalid, all stacks are at place 0, the
     /// program's metadata is 0, and no request stands. The item came in on a port up to 510, and is of a kind as
-    /// `standard_metadata.instance_type` tells. The one error is want of memory.
+    /// `standard_metadata.instance_type` tells. The one error is want of memory. It makes the layout of the program anew: for
+    /// many items `layout14` makes it once, and `of_layout` the states.
     pub fn new(
         alloc: Global,
         program: &Program14,

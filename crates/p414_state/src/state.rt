@@ -3,15 +3,18 @@ ghost use Rattle.std.specs.Prelude.{◌≡◌, ℕ, ◌*◌, ◌%◌, ◌^◌, �
 ghost use Rattle.p4x_bits.specs.BitLists.{octet_bits};
 ghost use Rattle.state_store.specs.Ports.{IsPort};
 ghost use Rattle.p414_sem.specs.Slots.{declared};
-ghost use Rattle.p414_sem.specs.State.{is_valid, read, place_of, size_of, standard_number, request_of, with_header, with_place, with_standard, with_valid, with_request, with_event, without_events, skipped, written};
-ghost use Rattle.p414_sem.specs.Packing.{numbers_in};
+ghost use Rattle.p414_sem.specs.State.{is_valid, header_at, elements_at, cleared, with_elements, read, place_of, size_of, standard_number, request_of, with_header, with_place, with_standard, with_valid, with_request, with_event, without_events, skipped, written};
+ghost use Rattle.p414_sem.specs.Packing.{numbers_in, bits_in};
 ghost use Rattle.p414_layout.specs.Placed.{total};
 ghost use Rattle.p414_layout.specs.Shapes.{shape_at, element_count, last_place, layout_of};
 ghost use Rattle.p414_state.specs.Packets.{Packet, with_state, IsHeader, width_at, standard_bits, new_packet, with_headers_begun};
+ghost use Rattle.p414_state.specs.Headers.{header_in, IsPacked, ArePacked, HoldsHeader, HoldsStack, HasElement, IsWhole, FitsAt};
 ghost use Rattle.p414_state.specs.internal.Cells.{new_laid, begun_of};
 
+use crate::header::PackedHeader;
 use crate::instance::InstanceCells;
 use crate::requests::{Requests, get as request_of, with as with_request};
+use crate::stack::PackedStack;
 use crate::standard::{StandardFields, get as standard_of, with as with_standard};
 use fabric::{Event, RequestKind};
 use p4x_bits::OutOfMemory;
@@ -227,6 +230,79 @@ impl State14 {
             self.instances[instance as usize].put_valid(element, on);
         }
         Ok(())
+    }
+
+    /// Makes a header valid or invalid, with all fields 0; nothing where there is no such header. It takes no memory.
+    pub fn clear_header(&mut self, instance: u32, element: u32, valid: bool)
+        requires { IsHeader self.old.layout instance }
+        ensures { self.new ≡ with_state self.old (with_header self.old.state instance element (cleared valid (header_at self.old.state instance element))) }
+    {
+        if self.has(instance) {
+            self.instances[instance as usize].put_cleared(element, valid);
+        }
+    }
+
+    /// A copy of a header. The one error is want of memory.
+    pub fn header(
+        &self,
+        alloc: Global,
+        instance: u32,
+        element: u32,
+    ) -> Result<PackedHeader, OutOfMemory>
+        requires { HasElement self.now.layout instance element }
+        ensures { IfOk result (HoldsHeader (shape_at self.now.layout instance) (header_at self.now.state instance element)) }
+    {
+        self.instances[instance as usize].element(alloc, element)
+    }
+
+    /// Puts a header in the place of one; nothing where there is no such header. It takes no memory.
+    pub fn put_header(&mut self, instance: u32, element: u32, header: &PackedHeader)
+        requires { IsPacked (shape_at self.old.layout instance) header.now }
+        ensures { self.new ≡ with_state self.old (with_header self.old.state instance element (header_in (shape_at self.old.layout instance).widths header.now)) }
+    {
+        if self.has(instance) {
+            self.instances[instance as usize].put_element(element, header);
+        }
+    }
+
+    /// A copy of the elements of an instance; none where there is no such instance. The one error is want of memory.
+    pub fn stack(&self, alloc: Global, instance: u32) -> Result<PackedStack, OutOfMemory>
+        ensures { IfOk result (HoldsStack (shape_at self.now.layout instance) (elements_at self.now.state instance)) }
+    {
+        match self.instances.get(instance as usize) {
+            Some(cells) => cells.elements(alloc),
+            None => Ok(PackedStack::of(Vec::new(alloc))),
+        }
+    }
+
+    /// Puts other elements in the place of those of an instance. It takes no memory.
+    pub fn put_stack(&mut self, instance: u32, stack: PackedStack)
+        requires { ArePacked (shape_at self.old.layout instance) stack }
+        ensures { self.new ≡ with_state self.old (with_elements self.old.state instance (map (header_in (shape_at self.old.layout instance).widths) stack)) }
+    {
+        if self.has(instance) {
+            self.instances[instance as usize].put_elements(stack);
+        }
+    }
+
+    /// The octets of a header: the bits of its fields, first field first, where these are whole octets; none where there is
+    /// no such header. It takes no memory.
+    pub fn octets(&self, instance: u32, element: u32) -> &[u8]
+        ensures { IsWhole self.now.layout instance element → octet_bits result.now ≡ bits_in (shape_at self.now.layout instance).widths (header_at self.now.state instance element).numbers }
+    {
+        match self.instances.get(instance as usize) {
+            Some(cells) => cells.octets(element),
+            None => &[],
+        }
+    }
+
+    /// An instance is as its shape tells, whatever was done with the state. It does nothing.
+    pub fn fits(&self, instance: u32)
+        ensures { FitsAt self.now instance }
+    {
+        if let Some(cells) = self.instances.get(instance as usize) {
+            cells.fits();
+        }
     }
 
     /// Puts a field of `standard_metadata`. It takes no memory and can't fail.

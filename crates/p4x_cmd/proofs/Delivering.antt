@@ -11,7 +11,7 @@ use Rattle.run_stream.specs.Captured as captured
 use Rattle.run_stream.specs.Captured.{Reports, capture_limit, reports_over, run_reports, stopped}
 use Rattle.run_stream.specs.Runs.{Ran, run_of}
 use Rattle.run_stream.proofs.Pieces.{exact_part}
-use Rattle.p4x_cmd.specs.declared.one_table.OneTable16.{OneTable16}
+use Rattle.one_table_text.specs.declared.one_table.OneTable16.{OneTable16}
 use Rattle.p4x_cmd.specs.Carry.{capture_reports}
 use Rattle.p4x_cmd.specs.Forms16.{program16}
 use Rattle.p4x_cmd.specs.Reports.{lined}

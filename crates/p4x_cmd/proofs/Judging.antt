@@ -1,5 +1,5 @@
 -- Which status comes of the files that `carry` reads first.
-use Rattle.std.proofs.Common.{◌≡◌, ◌⊎◌, inl, inr, ℕ, List, Option, Some, None, Result, Err, refl, subst, arith}
+use Rattle.std.proofs.Common.{◌≡◌, ◌⊎◌, inl, inr, ℕ, List, Option, Result, Err, refl, subst, arith}
 use Rattle.p4x_io.specs.Desk.{SinkView}
 use Rattle.p4x_io.specs.Files.{Says}
 use Rattle.p4x_fault.specs.declared.Fault.{Fault as Refusal}

@@ -6,7 +6,7 @@ use Rattle.state_store.specs.Ports.{drop_port}
 use Rattle.p4x_bits.specs.BitLists.{octet_bits, IsOctets}
 use Rattle.p4x_cmd.proofs.HeaderLaws.{whole_again}
 use Rattle.fabric.specs.declared.packets.Arrival.{Arrival}
-use Rattle.p4x_cmd.specs.declared.one_table.OneTable16.{OneTable16}
+use Rattle.one_table_text.specs.declared.one_table.OneTable16.{OneTable16}
 use Rattle.p4x_cmd.specs.Headers.{numbers_in, bits_in, octets_in, zeros}
 use Rattle.p4x_cmd.specs.Entries.{fill_at, no_entries}
 use Rattle.match_core.specs.declared.entries.Entries.{Entries}

@@ -1,17 +1,15 @@
 -- What the file of a program comes to.
-use Rattle.std.proofs.Common.{◌≡◌, ◌⊎◌, inl, inr, ℕ, List, Option, Some, None, Result, Ok, Err, refl, sym, ◌∙◌, ap, subst, arith}
-use Rattle.p4x_fault.specs.declared.Fault.{Fault as Refusal}
+use Rattle.std.proofs.Common.{◌≡◌, ◌⊎◌, inl, inr, ℕ, List, Option, Some, None, Result, Ok, Err, refl, sym, ◌∙◌, ap}
 use Rattle.p414_ast.specs.declared.syntax.Syntax14.{Syntax14}
 use Rattle.p414_one_table.specs.declared.program.OneTable14.{OneTable14}
 use Rattle.p414_one_table.specs.Form.{one_table_of}
 use Rattle.file_work.specs.declared.stop.Limited.TheVariants.{Program as TheProgram, Ports, Capture}
 use Rattle.file_work.specs.declared.stop.Stop.{Stop}
 use Rattle.file_work.specs.declared.stop.Stop.TheVariants.{Fault, Usage, Program, Judged, Entries, Refused, Limit, Memory}
-use Rattle.file_work.specs.Phases.{Loosely}
 use Rattle.file_work.proofs.Order.{loosely_as}
 use Rattle.program_commands.specs.Answers as answered
 use Rattle.program_commands.specs.Programs as programs
-use Rattle.p4x_cmd.specs.Carry.{ProgramIs, ComesOnce, OfProgram, OfEntries, OfPorts}
+use Rattle.p4x_cmd.specs.Carry.{ProgramIs, ComesOnce, OfProgram}
 use Rattle.p4x_cmd.specs.internal.Phases.{IsAlone, AnswersFile}
 
 -- Where a stop comes from, in the order of the work: from the program, the entries or the ports alone, or from none of

@@ -7,7 +7,7 @@ use Rattle.std.proofs.Math.Seq.{drop-cons}
 use Rattle.p4x_bits.specs.BitLists.{IsOctets}
 use Rattle.fabric.specs.declared.packets.Arrival.{Arrival}
 use Rattle.p414_one_table.specs.declared.program.Field.{Field}
-use Rattle.p4x_cmd.specs.declared.one_table.OneTable16.{OneTable16}
+use Rattle.one_table_text.specs.declared.one_table.OneTable16.{OneTable16}
 use Rattle.p4x_cmd.specs.Forms16.{program16, bit_field}
 use Rattle.p4x_cmd.specs.Entries.{no_entries, fill_at}
 use Rattle.run_stream.specs.Runs.{Ran, followed}

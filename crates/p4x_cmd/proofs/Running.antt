@@ -4,7 +4,7 @@ use Rattle.std.specs.List.{sum_by}
 use Rattle.fabric.specs.Numbers.{IsArrival}
 use Rattle.fabric.specs.declared.packets.Arrival.{Arrival}
 use Rattle.fabric.specs.declared.packets.Out.{Out}
-use Rattle.p4x_cmd.specs.declared.one_table.OneTable16.{OneTable16}
+use Rattle.one_table_text.specs.declared.one_table.OneTable16.{OneTable16}
 use Rattle.p4x_cmd.specs.Passes.{Pass}
 use Rattle.p4x_cmd.specs.internal.Plain.{plain_pass, own_pass, outs_of, end_of, IsSized}
 use Rattle.p4x_cmd.proofs.RunLaws.{own_pass_is}

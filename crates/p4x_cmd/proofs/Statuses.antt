@@ -1,5 +1,5 @@
 -- Which cause each status has.
-use Rattle.std.proofs.Common.{◌≡◌, ◌⊎◌, inl, inr, ◌≤◌, ℕ, nat_lt, ◌==◌, MatchBool, Bool, true, false, if◌then◌else◌, List, [], ◌∷◌, length, Option, Some, None, Result, Ok, Err, refl, sym, ◌∙◌, ap, subst, arith}
+use Rattle.std.proofs.Common.{◌≡◌, ◌⊎◌, inl, inr, ℕ, nat_lt, ◌==◌, MatchBool, Bool, true, false, if◌then◌else◌, List, [], ◌∷◌, length, Option, Some, None, Result, Ok, Err, refl, sym, ◌∙◌, ap, subst, arith}
 use Rattle.p4x_fault.specs.declared.Fault.{Fault as Refusal}
 use Rattle.pcap_io.specs.Ports.{ports_of}
 use Rattle.p4x_io.specs.Desk.{DeskView}

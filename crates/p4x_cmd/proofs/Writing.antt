@@ -1,17 +1,17 @@
 -- What holds of the text of a program that was made from another one.
-use Rattle.std.proofs.Common.{◌≡◌, true, ℕ, List, Option, Some, None, Ok, refl, sym, ◌∙◌, ap, subst}
+use Rattle.std.proofs.Common.{◌≡◌, true, ℕ, List, Option, Ok, refl, sym, ◌∙◌, ap, subst}
 use Rattle.p414_one_table.specs.declared.program.OneTable14.{OneTable14}
-use Rattle.p4x_cmd.specs.declared.one_table.OneTable16.{OneTable16}
+use Rattle.one_table_text.specs.declared.one_table.OneTable16.{OneTable16}
 use Rattle.p4x_cmd.specs.Carries.{Carries}
 use Rattle.p4x_cmd.specs.Carry.{ProgramIs, Written}
 use Rattle.p4x_cmd.specs.FirstCut.{is_first_cut}
 use Rattle.p414_one_table.specs.Programs.{is_one_table}
 use Rattle.p414_one_table.proofs.Forms.{form_is}
-use Rattle.p4x_cmd.specs.Forms16.{Reads16, program16}
+use Rattle.p4x_cmd.specs.Forms16.{program16}
 use Rattle.p4x_cmd.specs.internal.Lowering.{lowered}
+use Rattle.p4x_cmd.specs.internal.Phases.{IsTextOf}
 use Rattle.p4x_cmd.specs.Typed16.{is_well_typed}
 use Rattle.p4x_cmd.proofs.Carrying.{carries_is}
-use Rattle.p4x_cmd.proofs.Reading16.{reads16_once}
 use Rattle.p4x_cmd.proofs.Typing16.{well_typed_is}
 
 -- a program of the one-table form is one on which the meaning is whole
@@ -22,12 +22,12 @@ first_cut_is q = refl
 taken_form : (program : Option (List ℕ)) (p : OneTable14) → ProgramIs program (Ok p) → is_one_table p ≡ true
 taken_form program p is = form_is is.0 p is.2
 
-pub written_is : (program : Option (List ℕ)) (p : OneTable14) (q : OneTable16) (text : List ℕ) → ProgramIs program (Ok p) → q ≡ lowered p → Reads16 text (program16 q) → Written p text (program16 q)
-written_is program p q text is same reads =
+pub written_is : (program : Option (List ℕ)) (p : OneTable14) (q : OneTable16) (text : List ℕ) → ProgramIs program (Ok p) → q ≡ lowered p → IsTextOf text (program16 q) → Written p text (program16 q)
+written_is program p q text is same is_text =
     let form = taken_form program p is in
     record {
-      reads = reads;
-      only = λ other r. reads16_once text other (program16 q) r reads;
+      reads = is_text.reads;
+      only = is_text.only;
       typed = ap (λ (x : OneTable16). is_well_typed (program16 x)) same ∙ well_typed_is p form;
       whole = first_cut_is q;
       carries = subst (λ (x : OneTable16). Carries p (program16 x)) (sym same) (carries_is p form);

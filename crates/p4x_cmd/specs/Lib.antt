@@ -15,8 +15,8 @@
 --   FirstCut   the programs on which that is the whole meaning
 --   Entries    what stands in the tables
 --   Headers    the bits of a header's fields
---   Forms16    which text reads as which P4_16 program
---   Division   the division of a text into tokens
+--   Forms16    the syntax of the programs that are written
+--   Extended16 the same in the syntax of the whole language (`Reads16` of `p416_reader` says which text reads as it)
 --   Typed16    which P4_16 programs are well-typed
 --   Kinds16    what names and expressions are, as far as Typed16 asks
 --
@@ -24,8 +24,8 @@
 pub mod Calls
 pub mod Carries
 pub mod Carry
-pub mod Division
 pub mod Entries
+pub mod Extended16
 pub mod FirstCut
 pub mod Forms16
 pub mod Headers

@@ -2,4 +2,3 @@
 pub mod Lowering
 pub mod Phases
 pub mod Plain
-pub mod Written

@@ -12,10 +12,10 @@ ghost use Rattle.p4x_cmd.specs.Reports.{carried_line_of};
 ghost use Rattle.p4x_cmd.specs.internal.Phases.{Delivers};
 ghost use Rattle.p4x_cmd.specs.internal.Plain.{IsSized};
 
-use crate::one_table::OneTable16;
 use crate::plain::Plain;
 use command_words::CarryNames;
 use file_work::Stop;
+use one_table_text::OneTable16;
 use p4x_bits::OutOfMemory;
 use p4x_io::Desk;
 use run_stream::{Counts, RunNames};

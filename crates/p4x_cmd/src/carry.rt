@@ -7,9 +7,9 @@ ghost use Rattle.p4x_cmd.specs.Calls.{PacketsFit};
 ghost use Rattle.p4x_cmd.specs.Carry.{ProgramIs, entries_stop, ports_in, ports_end, StopsBefore, Begins, CarryDue, InOrder, KeepsInOrder};
 ghost use Rattle.p414_one_table.specs.Programs.{is_one_table};
 ghost use Rattle.program_commands.specs.Programs.{ReadsOnce};
-ghost use Rattle.p4x_cmd.specs.Forms16.{program16, Reads16};
+ghost use Rattle.p4x_cmd.specs.Forms16.{program16};
 ghost use Rattle.p4x_cmd.specs.internal.Lowering.{lowered};
-ghost use Rattle.p4x_cmd.specs.internal.Phases.{AnswersFile, IsPortsStop};
+ghost use Rattle.p4x_cmd.specs.internal.Phases.{AnswersFile, IsPortsStop, IsTextOf};
 ghost use Rattle.file_work.specs.Works.{Blames, DeskRose, ReadsRose, Tells, Works, IsPart};
 ghost use Rattle.file_work.specs.Phases.{GrownByFront, Loosely, line_view};
 ghost use Rattle.p4x_cmd.specs.internal.Plain.{IsSized};
@@ -18,10 +18,9 @@ ghost use Rattle.command_words.specs.Views.{files_of};
 
 use crate::capture::run_capture;
 use crate::lowering::lower;
-use crate::one_table::OneTable16;
-use crate::writer::write16;
 use command_words::CarryNames;
 use file_work::{Limited, Stop};
+use one_table_text::{OneTable16, text_of};
 use p4x_bits::{Numbers, Octets, OutOfMemory};
 use p4x_io::{Desk, Failed, ReadFault, append_all, has_octet, read_file};
 use p414_one_table::{OneTable14, one_table_of};
@@ -82,11 +81,11 @@ fn check_entries<D: Desk>(desk: &mut D, name: &str) -> Result<(), Stop>
 fn translate(alloc: Global, program: &OneTable14) -> Result<Translation, OutOfMemory>
     requires { is_one_table program.now ≡ true }
     ensures program { IfOk result (λ w. w.program ≡ lowered program.now) }
-    ensures text { IfOk result (λ w. Reads16 w.text (program16 w.program)) }
+    ensures text { IfOk result (λ w. IsTextOf w.text (program16 w.program)) }
     ensures sized { IfOk result (λ w. IsSized w.program) }
 {
     let lowered = lower(alloc, program)?;
-    let text = write16(alloc, &lowered)?;
+    let text = text_of(alloc, &lowered)?;
     Ok(Translation {
         program: lowered,
         text,
@@ -102,7 +101,7 @@ fn prepare<D: Desk>(alloc: Global, desk: &mut D, names: &CarryNames<'_>) -> Resu
         → IfOk result (λ w. (p : OneTable14) × Begins (files_of names.now) files p w.ports × (w.program ≡ lowered p)) }
     ensures order { InOrder (files_of names.now) (D.view desk.old) result }
     ensures once { OnOk result ((text : List ℕ) → (D.view desk.old).told names.now.program.now ≡ Some (Some text) → ReadsOnce text) }
-    ensures text { IfOk result (λ w. Reads16 w.text (program16 w.program)) }
+    ensures text { IfOk result (λ w. IsTextOf w.text (program16 w.program)) }
     ensures sized { IfOk result (λ w. IsSized w.program) }
     ensures fits { IfOk result (λ w. All IsPort w.ports) }
     ensures cause { Blames result (ReadsRose (carry_inputs (files_of names.now)) (D.view desk.old) (D.view desk.new)) }

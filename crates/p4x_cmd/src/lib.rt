@@ -4,9 +4,7 @@
 mod capture;
 mod carry;
 mod lowering;
-mod one_table;
 mod plain;
 mod top;
-mod writer;
 
 pub use top::p4x;

@@ -2,7 +2,7 @@
 ghost use Rattle.std.specs.Prelude.{◌≡◌, IfOk};
 ghost use Rattle.p4x_cmd.specs.internal.Lowering.{lowered, lowered_field};
 
-use crate::one_table::OneTable16;
+use one_table_text::OneTable16;
 use p4x_bits::{OutOfMemory, Rows, Text};
 use p414_one_table::{Field, OneTable14};
 use std::alloc::Global;

@@ -2,11 +2,11 @@
 ghost use Rattle.std.specs.Prelude.{◌≡◌, ◌≤◌, ◌+◌, ◌%◌, ◌^◌, sum_by, IfOk, OnOk};
 ghost use Rattle.state_store.specs.Ports.{drop_port};
 ghost use Rattle.fabric.specs.Numbers.{IsArrival};
-ghost use Rattle.p4x_cmd.specs.declared.one_table.OneTable16.{OneTable16 as Program};
+ghost use Rattle.one_table_text.specs.declared.one_table.OneTable16.{OneTable16 as Program};
 ghost use Rattle.p4x_cmd.specs.internal.Plain.{plain_pass, own_outcome, no_store, outs_of, end_of, are_few, IsSized};
 
-use crate::one_table::OneTable16;
 use fabric::{Arrival, Fate, Out};
+use one_table_text::OneTable16;
 use p4x_bits::{Octets, OutOfMemory, Rows};
 use p414_one_table::Field;
 use run_stream::Runner;

@@ -120,6 +120,12 @@ number_read widths octets p i at width number view lt begins wide is =
     is ∙ rw (begins, wide) (sym (number_at widths (octet_bits octets) i l)) in
     (same, rw same (number_fits widths (octet_bits octets) i l))) lt
 
+-- each is below 2 ^ width
+pub all_fit : (widths octets : List ℕ) (p : Packed) → packed widths octets ≡ p → (i : ℕ) → i < length p.widths → get_or p.numbers i 0 < 2 ^ get_or p.widths i 0
+all_fit widths octets p view =
+    subst (λ (q : Packed). (i : ℕ) → i < length q.widths → get_or q.numbers i 0 < 2 ^ get_or q.widths i 0) view
+    (λ i lt. number_fits widths (octet_bits octets) i lt)
+
 -- and as it is put
 pub number_written : (widths octets new : List ℕ) (p : Packed) (i at width number : ℕ) → packed widths octets ≡ p → HasRoom widths octets → i < length p.widths → number < 2 ^ get_or p.widths i 0 → at ≡ bits_before widths i → width ≡ get_or widths i 0 → at + width ≤ total widths → octet_bits new ≡ written at width number (octet_bits octets) → packed widths new ≡ with_number p i number
 number_written widths octets new p i at width number view room lt fits begins wide within is =

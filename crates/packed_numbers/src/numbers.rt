@@ -1,5 +1,5 @@
 // The run of octets.
-ghost use Rattle.std.specs.Prelude.{◌≡◌, ◌^◌, ◌<◌, ◌≤◌, length, replicate, slice_index, IfOk};
+ghost use Rattle.std.specs.Prelude.{◌≡◌, ℕ, ◌^◌, ◌<◌, ◌≤◌, length, replicate, slice_index, IfOk};
 ghost use Rattle.packed_numbers.specs.Packing.{zeros, with_number, with_zeros};
 
 use crate::widths::Widths;
@@ -7,48 +7,48 @@ use p4x_bits::{OutOfMemory, read_octet_field, write_octet_field};
 use std::alloc::Global;
 use std::marker::Model;
 
-/// Numbers of so many bits each, side by side in one run of octets. Contracts see the widths and the numbers. Nothing but
-/// `zeros` and `copy` takes memory.
+/// Numbers of so many bits each, side by side in one run of octets. Contracts see the widths and the numbers. The widths are
+/// lent, so that many runs have them in common. Nothing but `zeros` and `copy` takes memory.
 #[derive(Drop)]
-pub struct PackedNumbers {
-    widths: Widths,
+pub struct PackedNumbers<'w> {
+    widths: &'w Widths,
     octets: Vec<u8>,
 }
 
-impl Model for PackedNumbers {
+impl<'w> Model for PackedNumbers<'w> {
     ghost use Rattle.packed_numbers.specs.Packing.{Packed};
     ghost use Rattle.packed_numbers.specs.internal.Placed.{packed, HasRoom};
 
     ghost Value = { Packed };
 
-    ghost view = { λ n. packed n.widths n.octets.items };
+    ghost view = { λ n. packed n.widths.now n.octets.items };
 
-    ghost invariant = { λ n. HasRoom n.widths n.octets.items };
+    ghost invariant = { λ n. HasRoom n.widths.now n.octets.items };
 }
 
 /// So many octets that are 0.
-fn zero_octets(alloc: Global, count: usize) -> Result<Vec<u8>, OutOfMemory>
+pub(crate) fn zero_octets(alloc: Global, count: usize) -> Result<Vec<u8>, OutOfMemory>
     ensures { IfOk result (λ octets. octets.items ≡ replicate count 0) }
 {
     Ok(vec![in alloc; 0u8; count]?)
 }
 
-impl PackedNumbers {
+impl<'w> PackedNumbers<'w> {
     /// Numbers of these widths, all 0. The one error is want of memory.
     #[tactic(auto, using(crate::proofs::Runs::made_zeros, crate::proofs::Runs::zeros_have_room))]
-    pub fn zeros(alloc: Global, widths: Widths) -> Result<PackedNumbers, OutOfMemory>
-        ensures { IfOk result (λ numbers. numbers ≡ zeros widths) }
+    pub fn zeros(alloc: Global, widths: &'w Widths) -> Result<Self, OutOfMemory>
+        ensures { IfOk result (λ numbers. numbers ≡ zeros widths.now) }
     {
         let octets = zero_octets(alloc, widths.octets())?;
         Ok(PackedNumbers { widths, octets })
     }
 
     /// The same again. The one error is want of memory.
-    pub fn copy(&self, alloc: Global) -> Result<PackedNumbers, OutOfMemory>
+    pub fn copy(&self, alloc: Global) -> Result<Self, OutOfMemory>
         ensures { IfOk result (λ numbers. numbers ≡ self.now) }
     {
         Ok(PackedNumbers {
-            widths: self.widths.copy(alloc)?,
+            widths: self.widths,
             octets: Vec::from_slice(alloc, &self.octets)?,
         })
     }
@@ -60,6 +60,14 @@ impl PackedNumbers {
         ensures numbers { result ≡ length self.now.numbers }
     {
         self.widths.len()
+    }
+
+    /// What holds of all numbers: there is one for each width, and it is below 2 ^ width. It does nothing.
+    pub fn are_whole(&self)
+        ensures many { length self.now.numbers ≡ length self.now.widths }
+        ensures fit { (i : ℕ) → i < length self.now.widths → slice_index self.now.numbers i < 2 ^ slice_index self.now.widths i }
+    {
+        let _count = self.widths.len();
     }
 
     /// The bits of a number.

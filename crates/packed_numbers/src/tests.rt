@@ -31,7 +31,7 @@ fn numbers_stand_side_by_side(rt: HostRuntime) -> Result<(), Fail> {
 #[test]
 fn a_number_is_put_by_itself(rt: HostRuntime) -> Result<(), Fail> {
     let widths = four(rt.alloc())?;
-    let mut numbers = PackedNumbers::zeros(rt.alloc(), widths)?;
+    let mut numbers = PackedNumbers::zeros(rt.alloc(), &widths)?;
     assert_eq!(rt; numbers.get(2), 0);
     numbers.put(0, 1);
     numbers.put(2, 0x8000_0000_0000_0000_0000_0000_0000_0001);
@@ -47,7 +47,7 @@ fn a_number_is_put_by_itself(rt: HostRuntime) -> Result<(), Fail> {
 #[test]
 fn a_range_is_cleared(rt: HostRuntime) -> Result<(), Fail> {
     let widths = four(rt.alloc())?;
-    let mut numbers = PackedNumbers::zeros(rt.alloc(), widths)?;
+    let mut numbers = PackedNumbers::zeros(rt.alloc(), &widths)?;
     numbers.put(0, 1);
     numbers.put(1, 255);
     numbers.put(2, 7);

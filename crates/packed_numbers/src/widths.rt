@@ -71,16 +71,6 @@ impl Widths {
         Ok(())
     }
 
-    /// The same again. The one error is want of memory.
-    pub fn copy(&self, alloc: Global) -> Result<Widths, OutOfMemory>
-        ensures { IfOk result (λ widths. widths ≡ self.now) }
-    {
-        Ok(Widths {
-            places: Vec::from_slice(alloc, &self.places)?,
-            bits: self.bits,
-        })
-    }
-
     /// How many numbers there are.
     pub fn len(&self) -> usize
         ensures { result ≡ length self.now }

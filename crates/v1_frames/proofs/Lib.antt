@@ -1,1 +1,1 @@
-mod Frames
+pub mod Frames

@@ -1,13 +1,13 @@
--- What stands in the parts of a frame, by their numbers (P4_16 1.2, "Operations on headers", "Operations on header stacks";
--- the numbers, requests and events are this project's own).
-use Rattle.std.specs.Prelude.{ℕ, ◌-◌, Bool, true, false, if◌then◌else◌, List, [], ◌∷◌, ◌++◌, length, take, drop, replicate, slice_index, slice_index_or, slice_set, Option, Some, None}
+-- What stands in the parts of a packed frame, by their numbers (P4_16 1.2, "Operations on headers", "Operations on header
+-- stacks"; the numbers, requests and events are this project's own). The words are those of `Numbered` of v1_sem.
+use Rattle.std.specs.Prelude.{◌≡◌, ℕ, ◌-◌, ◌^◌, ◌<◌, ◌≤◌, Bool, true, false, if◌then◌else◌, List, [], ◌∷◌, ◌++◌, length, take, drop, replicate, slice_index, slice_index_or, slice_set, Option, Some, None}
 use Rattle.fabric.specs.declared.items.Event.{Event}
 use Rattle.fabric.specs.declared.items.RequestKind.{RequestKind}
 use Rattle.fabric.specs.declared.items.RequestKind.TheVariants.{CloneI2E, CloneE2E, Resubmit, Recirculate}
 use Rattle.v1_sem.specs.Numbers.{is_same_truth}
 use Rattle.v1_sem.specs.Frames.{Request}
 use Rattle.v1_frames.specs.declared.layout.HeaderSlots.{HeaderSlots}
-use Rattle.v1_frames.specs.Layouts.{Layout}
+use Rattle.v1_frames.specs.Layouts.{Layout, no_slots}
 
 -- the parts, which never change, and what stands in them
 pub record Cells : Type 0 where
@@ -35,18 +35,18 @@ abbrev pub is_live : Cells → ℕ → Bool
 is_live c slot = owner_valid c.valids (slice_index_or c.layout.owners slot None)
 
 -- the number in a slot; a field of an invalid header reads 0
-abbrev pub slot_number : Cells → ℕ → ℕ
-slot_number c slot = if is_live c slot then slice_index c.numbers slot else 0
+abbrev pub slot_value : Cells → ℕ → ℕ
+slot_value c slot = if is_live c slot then slice_index c.numbers slot else 0
 
 -- with another number in a slot; a write to a field of an invalid header does nothing
-abbrev pub with_slot_number : Cells → ℕ → ℕ → Cells
-with_slot_number c slot n =
+abbrev pub with_slot : Cells → ℕ → ℕ → Cells
+with_slot c slot n =
     record c { numbers = if is_live c slot then slice_set c.numbers slot n else c.numbers }
 
 -- headers
 
-abbrev pub no_slots : HeaderSlots
-no_slots = record { from = 0; to = 0 }
+abbrev pub header_valid : Cells → ℕ → Bool
+header_valid c header = slice_index_or c.valids header false
 
 abbrev pub header_slots : Cells → ℕ → HeaderSlots
 header_slots c header = slice_index_or c.layout.headers header no_slots
@@ -55,10 +55,10 @@ abbrev pub cleared_numbers : HeaderSlots → List ℕ → List ℕ
 cleared_numbers s numbers = take s.from numbers ++ replicate (s.to - s.from) 0 ++ drop s.to numbers
 
 -- a header that becomes valid or invalid has fields that are 0; one that is so already stays as it is
-abbrev pub with_header_valid : Cells → ℕ → Bool → Cells
-with_header_valid c header on = record c {
+abbrev pub with_validity : Cells → ℕ → Bool → Cells
+with_validity c header on = record c {
   numbers =
-      if is_same_truth (slice_index_or c.valids header false) on then c.numbers
+      if is_same_truth (header_valid c header) on then c.numbers
       else cleared_numbers (header_slots c header) c.numbers;
   valids = slice_set c.valids header on;
 }
@@ -82,19 +82,22 @@ request_of c CloneE2E = c.clone_e2e
 request_of c Resubmit = c.resubmit
 request_of c Recirculate = c.recirculate
 
-abbrev pub with_request : Cells → RequestKind → Option Request → Cells
-with_request c CloneI2E r = record c { clone_i2e = r }
-with_request c CloneE2E r = record c { clone_e2e = r }
-with_request c Resubmit r = record c { resubmit = r }
-with_request c Recirculate r = record c { recirculate = r }
+abbrev pub with_request : RequestKind → Option Request → Cells → Cells
+with_request CloneI2E r c = record c { clone_i2e = r }
+with_request CloneE2E r c = record c { clone_e2e = r }
+with_request Resubmit r c = record c { resubmit = r }
+with_request Recirculate r c = record c { recirculate = r }
 
-abbrev pub with_event : Cells → Event → Cells
-with_event c e = record c { events = c.events ++ e ∷ [] }
+abbrev pub without_requests : Cells → Cells
+without_requests c = record c { clone_i2e = None; clone_e2e = None; resubmit = None; recirculate = None }
+
+abbrev pub with_event : Event → Cells → Cells
+with_event e c = record c { events = c.events ++ e ∷ [] }
 
 abbrev pub without_events : Cells → Cells
 without_events c = record c { events = [] }
 
--- all numbers are 0, all headers invalid, all stacks at place 0, nothing is requested, and no table was applied
+-- at first: all numbers are 0, all headers invalid, all stacks at place 0, nothing is requested and no table was applied
 abbrev pub new_cells : Layout → Cells
 new_cells l = record {
   layout = l;
@@ -107,3 +110,11 @@ new_cells l = record {
   recirculate = None;
   events = [];
 }
+
+-- each slot has a number that fits it, each header a mark, and each stack a place that is at most its size
+pub record AreWhole (c : Cells) : Type 0 where
+  pub numbers : length c.numbers ≡ length c.layout.widths
+  pub valids : length c.valids ≡ length c.layout.headers
+  pub places : length c.places ≡ length c.layout.sizes
+  pub fits : (slot : ℕ) → slot < length c.layout.widths → slice_index c.numbers slot < 2 ^ slice_index c.layout.widths slot
+  pub within : (stack : ℕ) → stack_place c stack ≤ stack_size c stack

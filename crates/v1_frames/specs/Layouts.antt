@@ -11,12 +11,16 @@ pub record Layout : Type 0 where
   -- how many elements each stack has
   pub sizes : List ℕ
 
+-- what stands for the slots of a header that isn't there
+abbrev pub no_slots : HeaderSlots
+no_slots = record { from = 0; to = 0 }
+
 abbrev pub no_parts : Layout
 no_parts = record { widths = []; owners = []; headers = []; sizes = [] }
 
 -- one slot more, which is no field of a header
-abbrev pub with_number_part : Layout → ℕ → Layout
-with_number_part l width = record l { widths = l.widths ++ width ∷ []; owners = l.owners ++ None ∷ [] }
+abbrev pub with_lone_slot : Layout → ℕ → Layout
+with_lone_slot l width = record l { widths = l.widths ++ width ∷ []; owners = l.owners ++ None ∷ [] }
 
 -- one header more, with fields of these widths
 abbrev pub slots_of_header : Layout → List ℕ → HeaderSlots

@@ -1,9 +1,9 @@
 // Frames.
-ghost use Rattle.std.specs.Prelude.{◌≡◌, ◌<◌, ◌≤◌, ◌^◌, not, false, length, replicate, slice_index, slice_index_or, IfOk, IsOk, OnOk, OnErr};
+ghost use Rattle.std.specs.Prelude.{◌≡◌, ℕ, ◌<◌, ◌≤◌, ◌^◌, if◌then◌else◌, not, false, length, replicate, slice_index, slice_index_or, IfOk, IsOk, OnOk, OnErr};
 ghost use Rattle.v1_sem.specs.Numbers.{is_same_truth};
-ghost use Rattle.v1_frames.specs.Cells.{owner_valid, slot_number, with_slot_number, with_header_valid, stack_place, stack_size, with_stack_place, request_of, with_request, with_event, without_events, new_cells};
+ghost use Rattle.v1_frames.specs.Cells.{Cells, owner_valid, is_live, slot_value, with_slot, header_valid, with_validity, stack_place, stack_size, with_stack_place, request_of, with_request, without_requests, with_event, without_events, new_cells, AreWhole};
 
-use crate::layout::{FrameLayout, HeaderSlots};
+use crate::layout::FrameLayout;
 use crate::requests::{Requests, get as request_of, with as with_request};
 use fabric::{Event, RequestKind};
 use p4x_bits::OutOfMemory;
@@ -16,29 +16,27 @@ use std::marker::Model;
 /// the applications of tables (P4_16 1.2, "Operations on headers", "Operations on header stacks"; numbers, requests and
 /// applications are this project's own).
 ///
-/// A field of an invalid header reads 0, and a write to it does nothing. Only `of_layout`, `push_event` and `copy` take
-/// memory.
+/// A field of an invalid header reads 0, and a write to it does nothing. The layout is lent: many frames have one. Only
+/// `of_layout`, `push_event` and `copy` take memory.
 #[derive(Drop)]
-pub struct Frame {
-    numbers: PackedNumbers,
-    owners: Vec<Option<u32>>,
-    headers: Vec<HeaderSlots>,
-    sizes: Vec<u32>,
+pub struct Frame<'l> {
+    layout: &'l FrameLayout,
+    numbers: PackedNumbers<'l>,
     valids: Marks,
     places: Vec<u32>,
     requests: Requests,
     events: Vec<Event>,
 }
 
-impl Model for Frame {
+impl<'l> Model for Frame<'l> {
     ghost use Rattle.v1_frames.specs.Cells.{Cells};
-    ghost use Rattle.v1_frames.specs.internal.Parts.{layout_with, cells_with, AreCells};
+    ghost use Rattle.v1_frames.specs.internal.Parts.{cells_with, AreCells};
 
     ghost Value = { Cells };
 
-    ghost view = { λ f. cells_with (layout_with f.numbers.widths f.owners.items f.headers.items f.sizes.items) f.numbers.numbers f.valids f.places.items f.requests f.events.items };
+    ghost view = { λ f. cells_with f.layout.now f.numbers.numbers f.valids f.places.items f.requests f.events.items };
 
-    ghost invariant = { λ f. AreCells f.numbers f.owners.items f.headers.items f.sizes.items f.valids f.places.items };
+    ghost invariant = { λ f. AreCells f.layout.now f.numbers f.valids f.places.items };
 }
 
 /// No request of any kind.
@@ -74,23 +72,27 @@ fn no_places(alloc: Global, count: usize) -> Result<Vec<u32>, OutOfMemory>
     Ok(vec![in alloc; 0u32; count]?)
 }
 
-impl Frame {
+/// What is set is what is got, and every other slot stays; a field of an invalid header reads 0, and a write to it changes
+/// nothing at all. It does nothing.
+pub fn what_is_set_is_got()
+    ensures got { (c : Cells) (slot n : ℕ) → slot < length c.numbers →
+        slot_value (with_slot c slot n) slot ≡ if is_live c slot then n else 0 }
+    ensures others { (c : Cells) (slot n i : ℕ) → (i ≡ slot → ⊥) → slot_value (with_slot c slot n) i ≡ slot_value c i }
+    ensures nothing { (c : Cells) (slot n : ℕ) → is_live c slot ≡ false → with_slot c slot n ≡ c }
+{}
+
+impl<'l> Frame<'l> {
     /// A frame with these parts in which all slots are 0, all headers are invalid, all stacks are at place 0, nothing is
     /// requested and no table was applied. The one error is want of memory.
-    pub fn of_layout(alloc: Global, layout: &FrameLayout) -> Result<Frame, OutOfMemory>
+    pub fn of_layout(alloc: Global, layout: &'l FrameLayout) -> Result<Self, OutOfMemory>
         ensures { IfOk result (λ frame. frame ≡ new_cells layout.now) }
     {
-        let numbers = PackedNumbers::zeros(alloc, layout.widths.copy(alloc)?)?;
-        let owners = Vec::from_slice(alloc, &layout.owners)?;
-        let headers = Vec::from_slice(alloc, &layout.headers)?;
-        let sizes = Vec::from_slice(alloc, &layout.sizes)?;
-        let valids = Marks::none(alloc, headers.len())?;
-        let places = no_places(alloc, sizes.len())?;
+        let numbers = PackedNumbers::zeros(alloc, layout.widths())?;
+        let valids = Marks::none(alloc, layout.headers())?;
+        let places = no_places(alloc, layout.stacks())?;
         Ok(Frame {
+            layout,
             numbers,
-            owners,
-            headers,
-            sizes,
             valids,
             places,
             requests: NO_REQUESTS,
@@ -98,22 +100,17 @@ impl Frame {
         })
     }
 
-    /// The same again. The one error is want of memory.
-    pub fn copy(&self, alloc: Global) -> Result<Frame, OutOfMemory>
+    /// The same again, with the same layout. The one error is want of memory.
+    pub fn copy(&self, alloc: Global) -> Result<Self, OutOfMemory>
         ensures { IfOk result (λ frame. frame ≡ self.now) }
     {
         let numbers = self.numbers.copy(alloc)?;
-        let owners = Vec::from_slice(alloc, &self.owners)?;
-        let headers = Vec::from_slice(alloc, &self.headers)?;
-        let sizes = Vec::from_slice(alloc, &self.sizes)?;
         let valids = self.valids.copy(alloc)?;
         let places = Vec::from_slice(alloc, &self.places)?;
         let events = Vec::from_slice(alloc, &self.events)?;
         Ok(Frame {
+            layout: self.layout,
             numbers,
-            owners,
-            headers,
-            sizes,
             valids,
             places,
             requests: self.requests,
@@ -121,13 +118,22 @@ impl Frame {
         })
     }
 
+    /// What holds of every frame: each slot has a number that fits it, each header a mark, and each stack a place that is at
+    /// most its size. It does nothing.
+    #[tactic(auto, using(crate::proofs::Frames::are_whole))]
+    pub fn is_whole(&self)
+        ensures { AreWhole self.now }
+    {
+        self.numbers.are_whole();
+    }
+
     /// The number in a slot; 0 in that of a field of an invalid header.
     pub fn get(&self, slot: u32) -> u128
         requires { slot < length self.now.layout.widths }
-        ensures is { result ≡ slot_number self.now slot }
+        ensures is { result ≡ slot_value self.now slot }
         ensures fits { result < 2 ^ slice_index self.now.layout.widths slot }
     {
-        if is_live(&self.valids, self.owners[slot as usize]) {
+        if is_live(&self.valids, self.layout.owner(slot)) {
             self.numbers.get(slot as usize)
         } else {
             0
@@ -138,9 +144,9 @@ impl Frame {
     pub fn set(&mut self, slot: u32, value: u128)
         requires slot { slot < length self.old.layout.widths }
         requires value { value < 2 ^ slice_index self.old.layout.widths slot }
-        ensures { self.new ≡ with_slot_number self.old slot value }
+        ensures { self.new ≡ with_slot self.old slot value }
     {
-        if is_live(&self.valids, self.owners[slot as usize]) {
+        if is_live(&self.valids, self.layout.owner(slot)) {
             self.numbers.put(slot as usize, value);
         }
     }
@@ -151,13 +157,13 @@ impl Frame {
         ensures is { result ≡ slice_index self.now.layout.widths slot }
         ensures fits { result ≤ 128 }
     {
-        self.numbers.width(slot as usize)
+        self.layout.width(slot)
     }
 
     /// Whether a header is valid.
     pub fn valid(&self, header: u32) -> bool
         requires { header < length self.now.layout.headers }
-        ensures { result ≡ slice_index_or self.now.valids header false }
+        ensures { result ≡ header_valid self.now header }
     {
         self.valids.get(header as usize)
     }
@@ -166,10 +172,10 @@ impl Frame {
     #[tactic(auto, using(crate::proofs::Frames::same_mark))]
     pub fn set_valid(&mut self, header: u32, on: bool)
         requires { header < length self.old.layout.headers }
-        ensures { self.new ≡ with_header_valid self.old header on }
+        ensures { self.new ≡ with_validity self.old header on }
     {
         if differ(self.valids.get(header as usize), on) {
-            let slots = self.headers[header as usize];
+            let slots = self.layout.header(header);
             self.numbers.clear(slots.from, slots.to);
             self.valids.put(header as usize, on);
         }
@@ -189,7 +195,7 @@ impl Frame {
         requires { stack < length self.now.layout.sizes }
         ensures { result ≡ stack_size self.now stack }
     {
-        self.sizes[stack as usize]
+        self.layout.size(stack)
     }
 
     /// Puts the place of a stack, at most its size. It takes no memory and can't fail.
@@ -217,10 +223,17 @@ impl Frame {
         request: Option<(u32, u8)>,
     ) -> Result<(), OutOfMemory>
         ensures done { IsOk result }
-        ensures put { self.new ≡ with_request self.old kind request }
+        ensures put { self.new ≡ with_request kind request self.old }
     {
         self.requests = with_request(self.requests, kind, request);
         Ok(())
+    }
+
+    /// Takes all requests back.
+    pub fn clear_requests(&mut self)
+        ensures { self.new ≡ without_requests self.old }
+    {
+        self.requests = NO_REQUESTS;
     }
 
     /// The applications of tables since `clear_events`, in order.
@@ -232,7 +245,7 @@ impl Frame {
 
     /// Notes an application of a table. The one error is want of memory, and the frame is then as it was.
     pub fn push_event(&mut self, event: Event) -> Result<(), OutOfMemory>
-        ensures ok { OnOk result (self.new ≡ with_event self.old event) }
+        ensures ok { OnOk result (self.new ≡ with_event event self.old) }
         ensures err { OnErr result (self.new ≡ self.old) }
     {
         self.events.push(event)?;

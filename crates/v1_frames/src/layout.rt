@@ -1,6 +1,6 @@
 // The parts of a frame.
-ghost use Rattle.std.specs.Prelude.{◌≡◌, ◌<◌, ◌≤◌, ◌^◌, length, All, OnOk, IfOk};
-ghost use Rattle.v1_frames.specs.Layouts.{no_parts, with_number_part, with_header_part, with_stack_part};
+ghost use Rattle.std.specs.Prelude.{◌≡◌, ◌<◌, ◌≤◌, length, slice_index, slice_index_or, All, OnOk, None};
+ghost use Rattle.v1_frames.specs.Layouts.{no_slots, no_parts, with_lone_slot, with_header_part, with_stack_part};
 
 use name_numbers::narrow;
 use p4x_bits::OutOfMemory;
@@ -22,10 +22,10 @@ pub struct HeaderSlots {
 /// layout isn't used again.
 #[derive(Drop)]
 pub struct FrameLayout {
-    pub(crate) widths: Widths,
-    pub(crate) owners: Vec<Option<u32>>,
-    pub(crate) headers: Vec<HeaderSlots>,
-    pub(crate) sizes: Vec<u32>,
+    widths: Widths,
+    owners: Vec<Option<u32>>,
+    headers: Vec<HeaderSlots>,
+    sizes: Vec<u32>,
 }
 
 impl Model for FrameLayout {
@@ -59,6 +59,48 @@ impl FrameLayout {
         self.widths.len()
     }
 
+    /// The bits of each slot, and where it lies among the octets of a frame.
+    pub(crate) fn widths(&self) -> &Widths
+        ensures { result.now ≡ self.now.widths }
+    {
+        &self.widths
+    }
+
+    /// The bits of a slot.
+    pub fn width(&self, slot: u32) -> u8
+        requires { slot < length self.now.widths }
+        ensures is { result ≡ slice_index self.now.widths slot }
+        ensures fits { result ≤ 128 }
+    {
+        self.widths.get(slot as usize).width
+    }
+
+    /// The header of which a slot is a field, where it is one.
+    pub(crate) fn owner(&self, slot: u32) -> Option<u32>
+        requires { slot < length self.now.widths }
+        ensures { result ≡ slice_index_or self.now.owners slot None }
+    {
+        self.owners[slot as usize]
+    }
+
+    /// The slots of a header.
+    pub(crate) fn header(&self, header: u32) -> HeaderSlots
+        requires { header < length self.now.headers }
+        ensures is { result ≡ slice_index_or self.now.headers header no_slots }
+        ensures order { result.from ≤ result.to }
+        ensures within { result.to ≤ length self.now.widths }
+    {
+        self.headers[header as usize]
+    }
+
+    /// How many elements a stack has.
+    pub(crate) fn size(&self, stack: u32) -> u32
+        requires { stack < length self.now.sizes }
+        ensures { result ≡ slice_index self.now.sizes stack }
+    {
+        self.sizes[stack as usize]
+    }
+
     /// How many headers there are.
     pub fn headers(&self) -> usize
         ensures { result ≡ length self.now.headers }
@@ -76,7 +118,7 @@ impl FrameLayout {
     /// One slot more, of so many bits, which is no field of a header. The one error is want of memory.
     pub fn add_number(&mut self, width: u8) -> Result<(), OutOfMemory>
         requires { width ≤ 128 }
-        ensures { OnOk result (self.new ≡ with_number_part self.old width) }
+        ensures { OnOk result (self.new ≡ with_lone_slot self.old width) }
     {
         self.owners.push(None)?;
         self.widths.push(width)?;

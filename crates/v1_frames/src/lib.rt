@@ -1,5 +1,5 @@
 //! The frame of a packet under a P4_16 program, packed: numbers, truth values and errors lie side by side in one run of
-//! octets, each header has one bit for its validity, and parts are named by their numbers. All memory is taken by
+//! octets, each header has one bit for its validity, and parts are named by their numbers. The layout is lent. All memory is taken by
 //! `Frame::of_layout`, but for copies and events, so that reading and writing take none.
 #![tactic(auto)]
 
@@ -7,5 +7,5 @@ mod frame;
 mod layout;
 mod requests;
 
-pub use frame::Frame;
+pub use frame::{Frame, what_is_set_is_got};
 pub use layout::{FrameLayout, HeaderSlots};

@@ -1,7 +1,6 @@
 // Values worked by hand. The slots are 0 to 2 of the header, 3 and 4 of the stack's elements, 5 of the truth value, 6 of the
 // error.
-ghost use Rattle.std.specs.Prelude.{◌≡◌, IfOk};
-ghost use Rattle.v1_frames.specs.Cells.{new_cells};
+ghost use Rattle.std.specs.Prelude.{◌≡◌, ◌<◌, ◌≤◌, ◌^◌, length, slice_index, IfOk};
 ghost use Rattle.v1_frames_examples.specs.Layouts.{small};
 
 use fabric::{Event, RequestKind};
@@ -24,89 +23,97 @@ fn layout(alloc: Global) -> Result<FrameLayout, OutOfMemory>
     Ok(layout)
 }
 
-/// A frame with these parts.
-fn frame(alloc: Global) -> Result<Frame, OutOfMemory>
-    ensures { IfOk result (λ frame. frame ≡ new_cells small) }
+/// Puts a number into a slot. Of the frame it tells the layout alone, so that a test may be long.
+fn put(frame: &mut Frame<'_>, slot: u32, value: u128)
+    requires slot { slot < length frame.old.layout.widths }
+    requires value { value < 2 ^ slice_index frame.old.layout.widths slot }
+    ensures { frame.new.layout ≡ frame.old.layout }
 {
-    let layout = layout(alloc)?;
-    Frame::of_layout(alloc, &layout)
+    frame.set(slot, value);
 }
 
-#[test]
-fn parts_are_counted(rt: HostRuntime) -> Result<(), Fail> {
-    let layout = layout(rt.alloc())?;
-    assert_eq!(rt; layout.slots(), 7);
-    assert_eq!(rt; layout.headers(), 3);
-    assert_eq!(rt; layout.stacks(), 1);
-    Ok(())
+/// Makes a header valid or invalid.
+fn mark(frame: &mut Frame<'_>, header: u32, on: bool)
+    requires { header < length frame.old.layout.headers }
+    ensures { frame.new.layout ≡ frame.old.layout }
+{
+    frame.set_valid(header, on);
 }
 
-#[test]
-fn an_invalid_header_is_not_written(rt: HostRuntime) -> Result<(), Fail> {
-    let mut frame = frame(rt.alloc())?;
-    frame.set(1, 5);
-    assert_eq!(rt; frame.get(1), 0);
-    frame.set_valid(0, true);
-    assert!(rt; frame.valid(0) && !frame.valid(1) && !frame.valid(2));
-    frame.set(1, 5);
-    assert_eq!(rt; frame.get(0), 0);
-    assert_eq!(rt; frame.get(1), 5);
-    assert_eq!(rt; frame.get(2), 0);
-    Ok(())
+/// Puts the place of a stack.
+fn place(frame: &mut Frame<'_>, stack: u32, at: u32) -> Result<(), OutOfMemory>
+    requires stack { stack < length frame.old.layout.sizes }
+    requires at { at ≤ slice_index frame.old.layout.sizes stack }
+    ensures { frame.new.layout ≡ frame.old.layout }
+{
+    frame.set_place(stack, at)
 }
 
-#[test]
-fn a_header_loses_its_fields(rt: HostRuntime) -> Result<(), Fail> {
-    let mut frame = frame(rt.alloc())?;
-    frame.set_valid(0, true);
-    frame.set(2, 0xffff);
-    frame.set_valid(0, true);
-    assert_eq!(rt; frame.get(2), 0xffff);
-    frame.set_valid(0, false);
-    assert_eq!(rt; frame.get(2), 0);
-    frame.set_valid(0, true);
-    assert_eq!(rt; frame.get(2), 0);
-    Ok(())
-}
-
-#[test]
-fn numbers_of_no_header_are_written(rt: HostRuntime) -> Result<(), Fail> {
-    let mut frame = frame(rt.alloc())?;
-    frame.set(5, 1);
-    frame.set(6, 3);
-    assert_eq!(rt; frame.get(5), 1);
-    assert_eq!(rt; frame.get(6), 3);
-    assert_eq!(rt; frame.width(6), 2);
-    Ok(())
-}
-
-#[test]
-fn a_stack_has_its_place(rt: HostRuntime) -> Result<(), Fail> {
-    let mut frame = frame(rt.alloc())?;
-    assert_eq!(rt; frame.place(0), 0);
-    assert_eq!(rt; frame.size(0), 2);
-    frame.set_place(0, 2)?;
-    assert_eq!(rt; frame.place(0), 2);
-    Ok(())
-}
-
-#[test]
-fn requests_and_applications_are_kept(rt: HostRuntime) -> Result<(), Fail> {
-    let mut frame = frame(rt.alloc())?;
-    frame.set_request(RequestKind::CloneI2E, Some((7, 1)))?;
-    frame.set_request(RequestKind::Resubmit, Some((0, 2)))?;
+/// Puts the request of a kind, and notes an application of a table.
+fn ask(frame: &mut Frame<'_>, kind: RequestKind, list: u8) -> Result<(), OutOfMemory>
+    ensures { frame.new.layout ≡ frame.old.layout }
+{
+    frame.set_request(kind, Some((7, list)))?;
     frame.push_event(Event {
         table: 1,
         entry: None,
         action: Some(0),
-    })?;
-    let kept = frame.copy(rt.alloc())?;
-    frame.set_request(RequestKind::Resubmit, None)?;
+    })
+}
+
+/// Takes all requests and notes back.
+fn forget(frame: &mut Frame<'_>)
+    ensures { frame.new.layout ≡ frame.old.layout }
+{
+    frame.clear_requests();
     frame.clear_events();
-    assert!(rt; frame.request(RequestKind::CloneI2E) == Some((7, 1)));
+}
+
+#[test]
+fn fields_are_there_where_their_header_is(rt: HostRuntime) -> Result<(), Fail> {
+    let layout = layout(rt.alloc())?;
+    let mut frame = Frame::of_layout(rt.alloc(), &layout)?;
+    // A field of an invalid header isn't written.
+    put(&mut frame, 1, 5);
+    assert_eq!(rt; frame.get(1), 0);
+    // A field is written by itself.
+    mark(&mut frame, 0, true);
+    put(&mut frame, 1, 5);
+    put(&mut frame, 5, 1);
+    assert!(rt; frame.valid(0) && !frame.valid(1) && !frame.valid(2));
+    assert!(rt; frame.get(0) == 0 && frame.get(1) == 5 && frame.get(2) == 0);
+    // The slot next to those of a header isn't one of its fields.
+    mark(&mut frame, 2, true);
+    put(&mut frame, 4, 0xff);
+    mark(&mut frame, 2, false);
+    assert!(rt; frame.get(4) == 0 && frame.get(5) == 1);
+    // A header that is made valid again keeps its fields, and one that was invalid in between doesn't.
+    mark(&mut frame, 0, true);
+    assert_eq!(rt; frame.get(1), 5);
+    mark(&mut frame, 0, false);
+    mark(&mut frame, 0, true);
+    assert_eq!(rt; frame.get(1), 0);
+    Ok(())
+}
+
+#[test]
+fn a_copy_keeps_what_was(rt: HostRuntime) -> Result<(), Fail> {
+    let layout = layout(rt.alloc())?;
+    let mut frame = Frame::of_layout(rt.alloc(), &layout)?;
+    mark(&mut frame, 0, true);
+    put(&mut frame, 2, 0xffff);
+    place(&mut frame, 0, 2)?;
+    ask(&mut frame, RequestKind::Resubmit, 2)?;
+    let kept = frame.copy(rt.alloc())?;
+    mark(&mut frame, 0, false);
+    place(&mut frame, 0, 1)?;
+    forget(&mut frame);
+    assert!(rt; kept.valid(0) && !frame.valid(0));
+    assert!(rt; kept.get(2) == 0xffff && frame.get(2) == 0);
+    assert!(rt; kept.place(0) == 2 && frame.place(0) == 1 && kept.size(0) == 2);
+    assert!(rt; kept.request(RequestKind::Resubmit) == Some((7, 2)));
+    assert!(rt; kept.request(RequestKind::Recirculate).is_none());
     assert!(rt; frame.request(RequestKind::Resubmit).is_none());
-    assert!(rt; kept.request(RequestKind::Resubmit) == Some((0, 2)));
-    assert_eq!(rt; frame.events().len(), 0);
-    assert_eq!(rt; kept.events().len(), 1);
+    assert!(rt; kept.events().len() == 1 && frame.events().is_empty());
     Ok(())
 }

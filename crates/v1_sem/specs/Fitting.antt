@@ -22,7 +22,7 @@ use Rattle.v1_sem.specs.Signatures.{signature16}
 use Rattle.v1_sem.specs.Surroundings.{Setting}
 use Rattle.v1_sem.specs.Passes.{Between, Held}
 use Rattle.v1_sem.specs.Slots.{variable_kinds}
-use Rattle.v1_sem.specs.Numbered.{Numbered}
+use Rattle.v1_sem.specs.Numbered.{Numbered, frame_in, nobody}
 
 -- a field of a header type
 pub record FitsField (f : FieldKind) (of : Field) : Type 0 where
@@ -84,9 +84,9 @@ pub record IsFrame (syntax : Syntax16) (f : Frame) : Type 0 where
   pub recirculate : IfSome f.recirculate FitsRequest
   pub events : All FitsEvent f.events
 
--- the values of the program whose parts have numbers
+-- the values of the program whose parts have numbers: between two blocks they are a frame
 pub record IsNumbered (syntax : Syntax16) (x : Numbered) : Type 0 where
-  pub frame : IsFrame syntax x.frame
+  pub frame : IsFrame syntax (frame_in nobody x)
   pub variables : AllZip (FitsKind (layouts_of syntax.decls)) (variable_kinds syntax) x.variables
 
 -- a preserved value of the program

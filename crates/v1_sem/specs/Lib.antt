@@ -15,9 +15,9 @@
 --     Parsing       how a packet is parsed, and which error ends that
 --     Passes        ingress, a second parsing, egress, and what is preserved
 --     Runs          a list of packets
---     Fitting       which frames are those of a program
 --     Slots         the parts of a frame by number
---     Numbered      what stands at a number: read and written
+--     Numbered      what stands at a number, read and written, and who is in scope
+--     Fitting       which frames are those of a program
 --     Reentry       whether a program asks for further passes
 --     Meanings      the meanings of a program by their names
 pub mod Values
@@ -35,8 +35,8 @@ pub mod Blocks
 pub mod Parsing
 pub mod Passes
 pub mod Runs
-pub mod Fitting
 pub mod Slots
 pub mod Numbered
+pub mod Fitting
 pub mod Reentry
 pub mod Meanings

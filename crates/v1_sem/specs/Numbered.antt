@@ -1,33 +1,46 @@
 -- What stands at the numbers of a frame's parts: the number in a slot, whether a header is valid, the place of a stack, each
--- as it is read and written (P4_16 1.2, "Operations on headers", "Operations on header stacks"; the numbers are this
--- project's own).
-use Rattle.std.specs.Prelude.{ℕ, ◌^◌, Bool, not, ◌==◌, if◌then◌else◌, List, [], length, map, slice_index_or, slice_set}
+-- as it is read and written; and the frame of those variables that are in scope (P4_16 1.2, "Name resolution", "Operations on
+-- headers", "Operations on header stacks"; the numbers are this project's own).
+use Rattle.std.specs.Prelude.{ℕ, ◌^◌, Bool, not, ◌==◌, if◌then◌else◌, List, [], ◌∷◌, length, map, slice_index_or, slice_set, Option, Some, None}
+use Rattle.std.specs.Str.{bytes_eq}
+use Rattle.fabric.specs.declared.items.Event.{Event}
 use Rattle.p416_ast.specs.declared.grammar.program.Syntax16.{Syntax16}
+use Rattle.p416_rules.specs.Names.{Name}
+use Rattle.p416_rules.specs.BuiltIn.{standard}
 use Rattle.p416_rules.specs.Declarations.{layouts_of}
-use Rattle.v1_sem.specs.Values.{Value, a_number, a_truth, an_error, a_header, a_stack, no_value, Header, as_number, header_in, place_in, elements_in, part_at, with_part_at, zero_value, cleared}
+use Rattle.p416_rules.specs.Main.{headers_kind, metadata_kind}
+use Rattle.v1_sem.specs.Values.{Value, a_number, a_truth, an_error, a_header, a_stack, no_members, a_member, no_value, Step, to_member, Header, as_number, header_in, place_in, elements_in, part_at, with_part_at, zero_value, cleared}
 use Rattle.v1_sem.specs.Numbers.{is_same_truth}
-use Rattle.v1_sem.specs.Frames.{Frame}
-use Rattle.v1_sem.specs.Slots.{PartOwner, the_headers, the_metadata, the_standard, the_variable, FramePart, slots_of, headers_of, stacks_of, variable_kinds}
-use Rattle.v1_sem.specs.Passes.{blank_frame}
+use Rattle.v1_sem.specs.Frames.{Request, Frame, Owner, of_headers, of_metadata, of_standard, of_variables, of_inner, of_nothing, Reference}
+use Rattle.v1_sem.specs.Slots.{PartOwner, the_headers, the_metadata, the_standard, the_variable, FramePart, part_with, slots_of, headers_of, stacks_of, variable_kinds}
 
--- The values whose parts have numbers: those of a frame, and one for each variable of a block or a statement and each
--- parameter of an action, by its number. A frame has of these variables the ones in scope, by name. A variable gets its
--- value where it is declared and a parameter where its action is called. So what stands at their numbers before, and between
--- two blocks, no program can tell, and no meaning says it.
+-- The values whose parts have numbers: the packet's headers, its metadata and its standard metadata, and one for each variable
+-- of a block or a statement and each parameter of an action, by its number; and the requests and events of a frame. No action
+-- runs within itself, so that one place for each parameter and each variable is enough. Before a variable is declared, and
+-- between two blocks, the value at its number is left open: no program reads it.
 pub record Numbered : Type 0 where
-  pub frame : Frame
+  pub headers : Value
+  pub metadata : Value
+  pub standard_metadata : Value
   pub variables : List Value
+  -- the last request of each kind
+  pub clone_i2e : Option Request
+  pub clone_e2e : Option Request
+  pub resubmit : Option Request
+  pub recirculate : Option Request
+  -- the applications of tables, in order
+  pub events : List Event
 
 abbrev pub owner_value : Numbered → PartOwner → Value
-owner_value x the_headers = x.frame.headers
-owner_value x the_metadata = x.frame.metadata
-owner_value x the_standard = x.frame.standard
+owner_value x the_headers = x.headers
+owner_value x the_metadata = x.metadata
+owner_value x the_standard = x.standard_metadata
 owner_value x (the_variable number) = slice_index_or x.variables number no_value
 
 abbrev pub with_owner_value : Numbered → PartOwner → Value → Numbered
-with_owner_value x the_headers v = record x { frame = record x.frame { headers = v } }
-with_owner_value x the_metadata v = record x { frame = record x.frame { metadata = v } }
-with_owner_value x the_standard v = record x { frame = record x.frame { standard = v } }
+with_owner_value x the_headers v = record x { headers = v }
+with_owner_value x the_metadata v = record x { metadata = v }
+with_owner_value x the_standard v = record x { standard_metadata = v }
 with_owner_value x (the_variable number) v = record x { variables = slice_set x.variables number v }
 
 -- the value of a part, and the values with another one there
@@ -36,6 +49,74 @@ part_value x p = part_at p.path (owner_value x p.owner)
 
 abbrev pub with_part_value : Numbered → FramePart → Value → Numbered
 with_part_value x p v = with_owner_value x p.owner (with_part_at p.path v (owner_value x p.owner))
+
+-- who is in scope
+
+-- a variable or a parameter by its name, and its number among all of the program
+pub record Variable : Type 0 where
+  pub called : Name
+  pub number : ℕ
+
+-- the variables of the block, and those of the statements that run with the parameters of the action that runs, the innermost
+-- first
+pub record InScope : Type 0 where
+  pub variables : List Variable
+  pub inner : List Variable
+
+-- between two blocks
+abbrev pub nobody : InScope
+nobody = record { variables = []; inner = [] }
+
+-- with one more, the innermost
+abbrev pub declared_at : Name → ℕ → InScope → InScope
+declared_at called number s = record s { inner = record { called = called; number = number } ∷ s.inner }
+
+-- their values, by name
+abbrev pub named_values : List Value → List Variable → Value
+named_values values [] = no_members
+named_values values (v ∷ variables) =
+    a_member v.called (slice_index_or values v.number no_value) (named_values values variables)
+
+-- the frame with these variables
+abbrev pub frame_in : InScope → Numbered → Frame
+frame_in s x = record {
+  headers = x.headers;
+  metadata = x.metadata;
+  standard = x.standard_metadata;
+  variables = named_values x.variables s.variables;
+  inner = named_values x.variables s.inner;
+  clone_i2e = x.clone_i2e;
+  clone_e2e = x.clone_e2e;
+  resubmit = x.resubmit;
+  recirculate = x.recirculate;
+  events = x.events;
+}
+
+-- the number that a name has among these: that of the innermost one
+abbrev pub number_of : List Variable → Name → Option ℕ
+number_of [] text = None
+number_of (v ∷ variables) text = if bytes_eq v.called text then Some v.number else number_of variables text
+
+abbrev pub part_behind : List Step → Option ℕ → Option FramePart
+part_behind path None = None
+part_behind path (Some number) = Some (part_with (the_variable number) path)
+
+-- the part of one of these variables to which steps lead
+abbrev pub variable_part : List Variable → List Step → Option FramePart
+variable_part variables (to_member text ∷ path) = part_behind path (number_of variables text)
+variable_part variables _ = None
+
+-- the part that an l-value means, whatever slice of it; none where it means nothing, or all variables
+abbrev pub part_meant : InScope → Reference → Option FramePart
+part_meant s r = of r.owner
+  where
+    of : Owner → Option FramePart
+    of of_headers = Some (part_with the_headers r.steps)
+    of of_metadata = Some (part_with the_metadata r.steps)
+    of of_standard = Some (part_with the_standard r.steps)
+    of of_variables = variable_part s.variables r.steps
+    of of_inner = variable_part s.inner r.steps
+    of of_nothing = None
 
 -- the part with a number
 
@@ -50,6 +131,22 @@ header_part syntax header = slice_index_or (headers_of syntax) header no_part
 
 abbrev pub stack_part : Syntax16 → ℕ → FramePart
 stack_part syntax stack = slice_index_or (stacks_of syntax) stack no_part
+
+-- at first: all numbers are 0, all headers invalid, all stacks at place 0, nothing is requested and no table was applied
+abbrev pub new_numbered : Syntax16 → Numbered
+new_numbered syntax =
+    let zeros = zero_value (layouts_of syntax.decls) in
+    record {
+      headers = zeros (headers_kind syntax);
+      metadata = zeros (metadata_kind syntax);
+      standard_metadata = zeros standard;
+      variables = map zeros (variable_kinds syntax);
+      clone_i2e = None;
+      clone_e2e = None;
+      resubmit = None;
+      recirculate = None;
+      events = [];
+    }
 
 -- slots
 
@@ -77,8 +174,8 @@ with_slot syntax x slot n =
     let p = slot_part syntax slot in with_part_value x p (renumbered (part_value x p) n)
 
 -- the numbers below this one fit a slot
-abbrev pub slot_limit : Syntax16 → Numbered → ℕ → ℕ
-slot_limit syntax x slot = numbers_below (part_value x (slot_part syntax slot))
+abbrev pub slot_limit : Syntax16 → ℕ → ℕ
+slot_limit syntax slot = numbers_below (part_value (new_numbered syntax) (slot_part syntax slot))
 
 -- headers
 
@@ -104,12 +201,5 @@ with_stack_place syntax x stack place =
     let p = stack_part syntax stack in with_part_value x p (a_stack place (elements_in (part_value x p)))
 
 -- how many elements the stack has; its place is at most that
-abbrev pub stack_size : Syntax16 → Numbered → ℕ → ℕ
-stack_size syntax x stack = length (elements_in (part_value x (stack_part syntax stack)))
-
--- a new frame: all numbers are 0, all headers invalid, all stacks at place 0, nothing is requested and no table was applied
-abbrev pub new_numbered : Syntax16 → Numbered
-new_numbered syntax = record {
-  frame = blank_frame syntax;
-  variables = map (zero_value (layouts_of syntax.decls)) (variable_kinds syntax);
-}
+abbrev pub stack_size : Syntax16 → ℕ → ℕ
+stack_size syntax stack = length (elements_in (part_value (new_numbered syntax) (stack_part syntax stack)))

@@ -98,13 +98,13 @@ writes_truth = refl
 writes_parameter : map (slot_value syntax (with_slot syntax new 17 300)) (17 ∷ 18 ∷ []) ≡ 300 ∷ 0 ∷ []
 writes_parameter = refl
 
-tells_limits : map (slot_limit syntax new) (1 ∷ 10 ∷ 15 ∷ 17 ∷ 22 ∷ []) ≡ 256 ∷ 512 ∷ 4 ∷ 65536 ∷ 2 ∷ []
+tells_limits : map (slot_limit syntax) (1 ∷ 10 ∷ 15 ∷ 17 ∷ 22 ∷ []) ≡ 256 ∷ 512 ∷ 4 ∷ 65536 ∷ 2 ∷ []
 tells_limits = refl
 
 puts_place : stack_place syntax (with_stack_place syntax new 0 2) 0 ≡ 2
 puts_place = refl
 
-has_size : stack_size syntax new 0 ≡ 2
+has_size : stack_size syntax 0 ≡ 2
 has_size = refl
 
 -- further passes

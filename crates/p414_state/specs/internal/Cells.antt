@@ -1,22 +1,10 @@
--- How the elements of an instance are packed: the fields of each lie side by side in octets of its own, as they do on the
--- wire.
-use Rattle.std.specs.Prelude.{◌≡◌, ℕ, ◌<◌, ◌≤◌, Bool, true, false, if◌then◌else◌, List, length, map, replicate, slice_index, slice_index_or, slice_set, All}
-use Rattle.p4x_bits.specs.BitLists.{octet_bits}
+-- An instance by its elements, which are packed.
+use Rattle.std.specs.Prelude.{◌≡◌, ℕ, ◌-◌, ◌<◌, ◌≤◌, Bool, true, false, if◌then◌else◌, List, ◌++◌, length, map, take, drop, replicate, slice_index, slice_index_or, slice_set, All}
 use Rattle.p414_sem.specs.State.{Header, Instance, no_header, with_field, cleared, is_same}
-use Rattle.p414_sem.specs.Packing.{numbers_in}
 use Rattle.p414_layout.specs.declared.shape.Shape.{Shape}
-use Rattle.p414_layout.specs.Placed.{total, octets_for}
 use Rattle.p414_layout.specs.Shapes.{element_count, last_place, blank_of}
 use Rattle.p414_state.specs.Packets.{begun_one}
-
--- an element: whether it is valid, and its octets
-pub record Packed : Type 0 where
-  pub valid : Bool
-  pub octets : List ℕ
-
--- what it means, where its fields have these widths
-abbrev pub header_in : List ℕ → Packed → Header
-header_in widths p = record { valid = p.valid; numbers = numbers_in widths (octet_bits p.octets) }
+use Rattle.p414_state.specs.Headers.{Packed, header_in, IsPacked}
 
 -- an instance with what it is made of
 pub record Laid : Type 0 where
@@ -26,12 +14,6 @@ pub record Laid : Type 0 where
 abbrev pub laid : Shape → List Packed → ℕ → Laid
 laid shape elements place =
     record { shape = shape; instance = record { elements = map (header_in shape.widths) elements; place = place } }
-
--- an element has the octets that its fields take, all 0 where it is invalid; metadata is valid
-pub record IsPacked (shape : Shape) (p : Packed) : Type 0 where
-  pub room : length p.octets ≡ octets_for (total shape.widths)
-  pub zeros : p.valid ≡ false → p.octets ≡ replicate (octets_for (total shape.widths)) 0
-  pub metadata : shape.metadata ≡ true → p.valid ≡ true
 
 pub record AreCells (shape : Shape) (elements : List Packed) (place : ℕ) : Type 0 where
   pub count : length elements ≡ element_count shape
@@ -85,6 +67,25 @@ begun_of l = record { shape = l.shape; instance = begun_one l.shape l.instance }
 abbrev pub new_laid : Shape → Laid
 new_laid shape = record { shape = shape; instance = blank_of shape }
 
--- an element that is invalid, with all bits 0
-abbrev pub emptied : Packed → Packed
-emptied p = record { valid = false; octets = replicate (length p.octets) 0 }
+-- other elements in the place of all
+abbrev pub with_all : Laid → List Header → Laid
+with_all l headers =
+    record { shape = l.shape; instance = record { elements = headers; place = l.instance.place } }
+
+-- an element that is valid or not, with all bits 0
+abbrev pub emptied : Bool → Packed → Packed
+emptied valid p = record { valid = valid; octets = replicate (length p.octets) 0 }
+
+-- elements of which so many from the first on are made so
+abbrev pub first_emptied : Bool → ℕ → List Packed → List Packed
+first_emptied valid count elements = map (emptied valid) (take count elements) ++ drop count elements
+
+-- elements moved up by so many, of which the first ones become valid with all bits 0; and moved down, of which the last ones
+-- become invalid
+abbrev pub raised : ℕ → List Packed → List Packed
+raised count elements =
+    first_emptied true count (drop (length elements - count) elements ++ take (length elements - count) elements)
+
+abbrev pub lowered : ℕ → List Packed → List Packed
+lowered count elements =
+    let cleared = first_emptied false count elements in drop count cleared ++ take count cleared

@@ -3,7 +3,7 @@
 use Rattle.std.specs.Prelude.{◌++◌, map, codes}
 use Rattle.p414_one_table.specs.declared.program.Field.{Field}
 use Rattle.p414_one_table.specs.declared.program.OneTable14.{OneTable14}
-use Rattle.p4x_cmd.specs.declared.one_table.OneTable16.{OneTable16}
+use Rattle.one_table_text.specs.declared.one_table.OneTable16.{OneTable16}
 
 -- `f_` in front keeps every field's name from being a reserved word of P4_16
 abbrev pub lowered_field : Field → Field

@@ -1,5 +1,8 @@
 -- What the phases of `carry` answer.
 use Rattle.std.specs.Prelude.{◌≡◌, ◌⊎◌, ℕ, List, Option, Result, Ok, Err}
+use Rattle.p416_ast.specs.declared.syntax.Syntax16.{Syntax16}
+use Rattle.p416_ast.specs.declared.grammar.program.Syntax16.{Syntax16 as Grammar16}
+use Rattle.p416_reader.specs.Reading.{Reads16}
 use Rattle.p4x_io.specs.Desk.{grown}
 use Rattle.p4x_fault.specs.declared.Fault.{Fault as Refusal}
 use Rattle.file_work.specs.declared.stop.Limited.TheVariants as limited
@@ -10,6 +13,7 @@ use Rattle.file_work.specs.Works.{IsLoose}
 use Rattle.run_stream.specs.Captured.{Reports}
 use Rattle.p414_one_table.specs.declared.program.OneTable14.{OneTable14}
 use Rattle.p4x_cmd.specs.Carry.{ProgramIs}
+use Rattle.p4x_cmd.specs.Extended16.{extended}
 use Rattle.p4x_cmd.specs.Reports.{lined}
 
 -- this is what the program's file comes to, and nothing else is
@@ -32,3 +36,8 @@ abbrev pub Delivers : Reports → Result (List ℕ) Stop → Told → Told → T
 Delivers r end sent sent' report report' =
     ((end ≡ lined r.end) × (sent' ≡ grown sent r.sent) × (report' ≡ grown report r.report))
     ⊎ (IsLoose end × GrownByFront sent r.sent sent' × GrownByFront report r.report report')
+
+-- the text is that of this program of P4_16, and of no other
+pub record IsTextOf (text : List ℕ) (s : Syntax16) : Type 0 where
+  pub reads : Reads16 text (extended s)
+  pub only : (other : Grammar16) → Reads16 text other → other ≡ extended s

@@ -6,7 +6,7 @@ use Rattle.state_store.specs.State.{Contents}
 use Rattle.fabric.specs.declared.packets.Arrival.{Arrival}
 use Rattle.fabric.specs.declared.packets.Out.{Out}
 use Rattle.run_stream.specs.Runs.{Outcome, AreFew}
-use Rattle.p4x_cmd.specs.declared.one_table.OneTable16.{OneTable16}
+use Rattle.one_table_text.specs.declared.one_table.OneTable16.{OneTable16}
 use Rattle.p4x_cmd.specs.Entries.{no_entries}
 use Rattle.p4x_cmd.specs.Forms16.{program16}
 use Rattle.p4x_cmd.specs.Meaning16.{pass16, signature16}

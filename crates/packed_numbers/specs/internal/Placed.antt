@@ -1,5 +1,5 @@
 -- Where each number lies, and the numbers that a run of octets keeps.
-use Rattle.std.specs.Prelude.{◌≡◌, ℕ, ◌+◌, ◌≤◌, Bool, ◌==◌, List, [], ◌∷◌, length, take, drop, replicate}
+use Rattle.std.specs.Prelude.{◌≡◌, ℕ, ◌+◌, ◌≤◌, Bool, ◌==◌, List, [], ◌∷◌, length, take, drop, replicate, map}
 use Rattle.p4x_bits.specs.BitLists.{num, octet_bits}
 use Rattle.packed_numbers.specs.declared.widths.Place.{Place}
 use Rattle.packed_numbers.specs.Packing.{total, octets_for, Packed}
@@ -29,6 +29,10 @@ pub record HasRoom (widths octets : List ℕ) : Type 0 where
 abbrev pub is_one : ℕ → Bool
 is_one n = n == 1
 
-pub record AreBits (p : Packed) : Type 0 where
-  pub widths : p.widths ≡ replicate (length p.widths) 1
-  pub many : length p.numbers ≡ length p.widths
+-- the widths of so many
+abbrev pub ones : ℕ → List ℕ
+ones count = replicate count 1
+
+-- so many truth values that bits are, one after another
+abbrev pub marks_in : ℕ → List ℕ → List Bool
+marks_in count octets = map is_one (numbers_in (ones count) (octet_bits octets))

@@ -49,9 +49,9 @@ pub record AreParts (widths : List ℕ) (owners : List (Option ℕ)) (headers : 
   pub owned : length widths ≤ length owners
   pub slots : All (AreWithin (length widths)) headers
 
--- each header has a mark, and each stack a place, at most its size
-pub record AreCells (numbers : Packed) (owners : List (Option ℕ)) (headers : List HeaderSlots) (sizes : List ℕ) (valids : List Bool) (places : List ℕ) : Type 0 where
-  pub parts : AreParts numbers.widths owners headers
-  pub marked : length valids ≡ length headers
-  pub placed : length places ≡ length sizes
-  pub within : (i : ℕ) → slice_index places i ≤ slice_index sizes i
+-- the numbers have the widths of the slots, each header has a mark, and each stack a place, at most its size
+pub record AreCells (layout : Layout) (numbers : Packed) (valids : List Bool) (places : List ℕ) : Type 0 where
+  pub widths : numbers.widths ≡ layout.widths
+  pub marked : length valids ≡ length layout.headers
+  pub placed : length places ≡ length layout.sizes
+  pub within : (i : ℕ) → slice_index places i ≤ slice_index layout.sizes i

@@ -12,7 +12,7 @@ returns c =
     let at = c.get-place.result.at in
     let width = c.get-place.result.width in
     let same : length now ≡ vec_len c.self.inside.octets = omega arith in
-    ap (λ (l : List ℕ). packed c.self.inside.widths l) (with_items_is c.self.inside.octets now same)
-    ∙ number_written c.self.inside.widths c.self.inside.octets.items now c.args.self.now c.args.index at width c.args.number
+    ap (λ (l : List ℕ). packed c.self.inside.widths.now l) (with_items_is c.self.inside.octets now same)
+    ∙ number_written c.self.inside.widths.now c.self.inside.octets.items now c.args.self.now c.args.index at width c.args.number
     c.self.view_is c.self.invariant c.requires.index c.requires.number c.get-place.ensures.at c.get-place.ensures.width c.get-place.ensures.within
     (c.write_octet_field.ensures.bits ∙ ap (λ (l : List ℕ). written at width c.args.number (octet_bits l)) c.deref_mut.ensures.value)

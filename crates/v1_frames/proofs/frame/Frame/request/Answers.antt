@@ -1,11 +1,10 @@
 use Rattle.std.proofs.Common.{ap, ◌∙◌}
 use Rattle.v1_frames.specs.Cells.{Cells, request_of}
-use Rattle.v1_frames.specs.internal.Parts.{layout_with}
 use Rattle.v1_frames.proofs.Frames.{request_is}
 use Rattle.v1_frames.proofs.frame.Frame.request.Goals as goal
 
 pub returns : goal.returns
 returns c =
     c.get.ensures
-    ∙ request_is (layout_with c.self.inside.numbers.widths c.self.inside.owners.items c.self.inside.headers.items c.self.inside.sizes.items) c.self.inside.numbers.numbers c.self.inside.valids c.self.inside.places.items c.self.inside.requests c.self.inside.events.items c.args.kind
+    ∙ request_is c.self.inside.layout.now c.self.inside.numbers.numbers c.self.inside.valids c.self.inside.places.items c.self.inside.requests c.self.inside.events.items c.args.kind
     ∙ ap (λ (x : Cells). request_of x c.args.kind) c.self.view_is

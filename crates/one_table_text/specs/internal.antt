@@ -1,0 +1,2 @@
+-- What only private functions and proofs name: nothing here needs to be believed.
+pub mod Making

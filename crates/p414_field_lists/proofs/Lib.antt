@@ -1,0 +1,4 @@
+mod Accepted
+mod Expanding
+mod Meaning
+mod Numbers

@@ -1,0 +1,8 @@
+use Rattle.std.proofs.Common.{◌≡◌, ◌++◌, map, drop}
+use Rattle.p414_field_lists.specs.internal.Expanding.{named_row}
+use Rattle.p414_field_lists.proofs.items.add_named.Given as goal
+
+abbrev pub invariant-loop-field : goal.invariant-loop-field
+invariant-loop-field l =
+    l.rows ++ map (named_row l.slots l.instance) (map (λ field. field.now) (drop l.field-index l.fields))
+    ≡ l.fn.rows ++ map (named_row l.slots l.instance) (map (λ field. field.now) l.fields)

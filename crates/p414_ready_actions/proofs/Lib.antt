@@ -1,0 +1,5 @@
+mod Acting
+mod Emptying
+mod Loops
+mod Places
+mod Stepping
