@@ -20,7 +20,7 @@ abbrev with_fields : List BitField → Grammar16 → Grammar16
 with_fields fields s =
     record s { decls = Header (record { name = codes "h_t"; fields = fields }) ∷ drop 1 s.decls }
 
-extended_is : (q : OneTable16) → extended (program16 q) ≡ written16 q
+pub extended_is : (q : OneTable16) → extended (program16 q) ≡ written16 q
 unfolding program16 written16
 extended_is q = ap (λ (fields : List BitField). with_fields fields (written16 q)) (fields_are q.fields)
 

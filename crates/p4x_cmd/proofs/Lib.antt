@@ -7,6 +7,7 @@ pub mod Extending
 pub mod Filling
 pub mod HeaderLaws
 pub mod Judging
+pub mod Lawful
 pub mod Left
 pub mod Lowered
 pub mod Named
@@ -16,11 +17,9 @@ pub mod Pass16
 pub mod Phases
 pub mod ProgramCauses
 pub mod Programs
-pub mod Refused16
 pub mod RunLaws
 pub mod Running
 pub mod Sizes
 pub mod Statuses
 pub mod Taking
-pub mod Typing16
 pub mod Writing

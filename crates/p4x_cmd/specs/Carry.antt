@@ -3,6 +3,7 @@ use Rattle.std.specs.Prelude.{◌≡◌, ◌⊎◌, ℕ, nat_lt, if◌then◌els
 use Rattle.p416_ast.specs.declared.syntax.Syntax16.{Syntax16}
 use Rattle.p416_ast.specs.declared.grammar.program.Syntax16.{Syntax16 as Grammar16}
 use Rattle.p416_reader.specs.Reading.{Reads16}
+use Rattle.p416_rules.specs.Breaks.{BreaksNone, program_rules}
 use Rattle.p4x_fault.specs.declared.Fault.{Fault as Refusal}
 use Rattle.p4x_io.specs.Desk.{DeskView}
 use Rattle.pcap_io.specs.Ports.{ports_of}
@@ -14,7 +15,6 @@ use Rattle.file_work.specs.declared.stop.Limited.TheVariants as limited
 use Rattle.file_work.specs.declared.stop.Stop.{Stop}
 use Rattle.file_work.specs.declared.stop.Stop.TheVariants.{Fault, Program, Judged, Entries, Refused, Limit}
 use Rattle.p4x_cmd.specs.Carries.{Carries}
-use Rattle.p4x_cmd.specs.Typed16.{is_well_typed}
 use Rattle.p4x_cmd.specs.FirstCut.{is_first_cut}
 use Rattle.p4x_cmd.specs.Extended16.{extended}
 use Rattle.file_work.specs.Phases.{Loosely, StopsOrGoesOn}
@@ -144,12 +144,12 @@ pub record KeepsInOrder (f : CarryFiles) (old new : DeskView) (end : Result (Lis
   pub ports : (files : Held) → Tells (ports_read f) old files → (stop : Stop) → StopsBefore f files stop
       → AllKept (carry_outputs f) old new
 
--- By the grammar of the whole of P4_16 the text reads as this program, and as no other; the program is well-typed, it is one
--- on which the meaning is whole, and it carries the program of P4_14.
+-- By the grammar of the whole of P4_16 the text reads as this program, and as no other; the program breaks none of the rules
+-- T1 to T12, it is one on which the meaning is whole, and it carries the program of P4_14.
 pub record Written (p : OneTable14) (text : List ℕ) (s : Syntax16) : Type 0 where
   pub reads : Reads16 text (extended s)
   pub only : (other : Grammar16) → Reads16 text other → other ≡ extended s
-  pub typed : is_well_typed s ≡ true
+  pub typed : BreaksNone (extended s) program_rules
   pub whole : is_first_cut s ≡ true
   pub carries : Carries p s
 

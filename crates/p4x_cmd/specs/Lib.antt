@@ -16,9 +16,8 @@
 --   Entries    what stands in the tables
 --   Headers    the bits of a header's fields
 --   Forms16    the syntax of the programs that are written
---   Extended16 the same in the syntax of the whole language (`Reads16` of `p416_reader` says which text reads as it)
---   Typed16    which P4_16 programs are well-typed
---   Kinds16    what names and expressions are, as far as Typed16 asks
+--   Extended16 the same in the syntax of the whole language (`Reads16` of `p416_reader` says which text reads as it, and
+--              `BreaksNone` of `p416_rules` that it is well-typed)
 --
 -- `internal` has what only private functions and proofs name.
 pub mod Calls
@@ -30,10 +29,8 @@ pub mod FirstCut
 pub mod Forms16
 pub mod Headers
 pub mod internal
-pub mod Kinds16
 pub mod Meaning14
 pub mod Meaning16
 pub mod Passes
 pub mod Reports
 pub mod Runs
-pub mod Typed16
