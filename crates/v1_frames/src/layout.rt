@@ -94,7 +94,7 @@ impl FrameLayout {
     }
 
     /// How many elements a stack has.
-    pub(crate) fn size(&self, stack: u32) -> u32
+    pub fn size(&self, stack: u32) -> u32
         requires { stack < length self.now.sizes }
         ensures { result ≡ slice_index self.now.sizes stack }
     {

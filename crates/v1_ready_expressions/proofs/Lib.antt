@@ -1,0 +1,4 @@
+mod Cutting
+mod Keeping
+mod Elements
+mod Looking
