@@ -2,4 +2,6 @@
 #![tactic(auto)]
 
 #[cfg(test)]
+mod stacks;
+#[cfg(test)]
 mod states;

@@ -32,7 +32,7 @@ fn program_of(rt: &(impl Abort + AllocGlobal)) -> Result<Program14, Fail> {
 }
 
 /// Its state of that item, which came in on port 7 and was resubmitted.
-fn state_of(rt: &(impl Abort + AllocGlobal)) -> Result<State14, Fail> {
+pub fn state_of(rt: &(impl Abort + AllocGlobal)) -> Result<State14, Fail> {
     let program = program_of(rt)?;
     let mut octets = Octets::new(rt.alloc());
     for octet in ITEM {
@@ -77,7 +77,7 @@ fn put_place(state: &mut State14, instance: u32, place: u32) -> bool {
 }
 
 /// Fills a header with the next octets, and takes these off; false where too few are left.
-fn extract(state: &mut State14, instance: u32, element: u32) -> bool {
+pub fn extract(state: &mut State14, instance: u32, element: u32) -> bool {
     let octets = state.bits(instance).div_ceil(8);
     if state.unparsed().len() < octets {
         return false;
