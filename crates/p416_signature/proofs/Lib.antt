@@ -1,0 +1,5 @@
+mod Ordered
+mod Finding
+mod Telling
+mod Acting
+mod Whole

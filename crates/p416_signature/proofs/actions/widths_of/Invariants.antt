@@ -1,0 +1,10 @@
+use Rattle.std.proofs.Common.{◌≡◌, ◌++◌, map, drop}
+use Rattle.p416_rules.specs.Scopes.{handed}
+use Rattle.p416_rules.specs.Declarations.{top_names}
+use Rattle.v1_sem.specs.Signatures.{handed_width}
+use Rattle.p416_signature.proofs.actions.widths_of.Given as goal
+
+abbrev pub invariant-loop-parameter : goal.invariant-loop-parameter
+invariant-loop-parameter l =
+    l.widths ++ map handed_width (map (handed (top_names l.top)) (drop l.parameter-index l.parameters))
+    ≡ map handed_width (map (handed (top_names l.top)) l.parameters)
