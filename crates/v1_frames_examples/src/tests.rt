@@ -124,12 +124,18 @@ fn copy_stays(alloc: Global, frame: &mut Frame<'_>) -> Result<bool, OutOfMemory>
     Ok(has(&kept, 0xffff, 2, Some((7, 2))) && has(frame, 0, 1, None))
 }
 
+/// Whether both hold of a new frame.
+fn keep_what_is_put(alloc: Global) -> Result<bool, OutOfMemory> {
+    let layout = layout(alloc)?;
+    let mut frame = Frame::of_layout(alloc, &layout)?;
+    let fields = fields_follow_their_header(&mut frame);
+    let copies = copy_stays(alloc, &mut frame)?;
+    Ok(fields && copies)
+}
+
 #[test]
 fn frames_keep_what_is_put(rt: HostRuntime) -> Result<(), Fail> {
-    let layout = layout(rt.alloc())?;
-    let mut frame = Frame::of_layout(rt.alloc(), &layout)?;
-    let fields = fields_follow_their_header(&mut frame);
-    let copies = copy_stays(rt.alloc(), &mut frame)?;
-    assert!(rt; fields && copies);
+    let kept = keep_what_is_put(rt.alloc())?;
+    assert!(rt; kept);
     Ok(())
 }
