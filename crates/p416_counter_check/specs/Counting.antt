@@ -1,5 +1,5 @@
 -- Direct counters that an action counts outside their table: T9's test of expressions, told by the tables that a declaration has.
-use Rattle.std.specs.Prelude.{Bool, false, not, List}
+use Rattle.std.specs.Prelude.{Bool, false, not}
 use Rattle.std.specs.List.{list_any}
 use Rattle.p416_ast.specs.declared.grammar.controls.Table16.{Table16}
 use Rattle.p416_ast.specs.declared.grammar.program.Decl16.{Decl16}
