@@ -4,4 +4,4 @@
 
 mod visits;
 
-pub use visits::Visits;
+pub use visits::{Visits, declare_variable, shorten};

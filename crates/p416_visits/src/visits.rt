@@ -33,8 +33,8 @@ pub struct Visits<'a> {
     work: Stack<Work<'a>>,
 }
 
-/// Declares a variable inside a scope.
-fn declare_variable<'a>(
+/// Declares a variable of a type, which is looked up in the scope, inside the scope. The one error is want of memory.
+pub fn declare_variable<'a>(
     scope: &mut Scope<'_, 'a>,
     of: &Type16,
     name: &'a Text,
@@ -46,9 +46,10 @@ fn declare_variable<'a>(
     scope.declare(name.as_slice(), Sort::Value(kind, true))
 }
 
-/// Takes the names off but for so many.
+/// Takes all names off a scope that are declared within but for so many, those that were declared first. For want of memory
+/// some of the others stay.
 #[tactic(auto, using(crate::proofs::Visiting::scope_shortened))]
-fn shorten<'a>(scope: &mut Scope<'_, 'a>, len: usize) -> Result<(), OutOfMemory>
+pub fn shorten<'a>(scope: &mut Scope<'_, 'a>, len: usize) -> Result<(), OutOfMemory>
     ensures scope { OnOk result (seen_scope scope.new ≡ shortened (height scope.old.top.now len) (seen_scope scope.old)) }
     ensures top { scope.new.top ≡ scope.old.top }
 {

@@ -1,0 +1,3 @@
+-- Read Cycles first: which declarations have an action that calls itself.
+pub mod Cycles
+pub mod internal

@@ -1,0 +1,6 @@
+pub mod Exactly
+pub mod Groups
+pub mod Leaving
+pub mod Orders
+pub mod Telling
+pub mod Uses

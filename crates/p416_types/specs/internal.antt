@@ -1,0 +1,3 @@
+-- What private functions name.
+pub mod Steps
+pub mod Seen
