@@ -6,7 +6,7 @@ use Rattle.std.specs.Str.{bytes_eq}
 use Rattle.std.proofs.lemmas.Bool.{and_parts, leb-true}
 use Rattle.std.proofs.lemmas.Bool.Decides.{nat_tests}
 use Rattle.std.proofs.lemmas.List.Sums.{sum_by-cons}
-use Rattle.p416_ast.specs.declared.grammar.parts.BitField.{BitField}
+use Rattle.p416_ast.specs.declared.parts.BitField.{BitField}
 use Rattle.p416_rules.specs.Names.{has_name}
 use Rattle.p416_rules.specs.Names as names
 use Rattle.p416_rules.specs.Uses.{Use}

@@ -9,8 +9,8 @@ use Rattle.std.proofs.Math.Nat.{lt_irrefl, lt_trans}
 use Rattle.state_store.specs.Ports.{drop_port}
 use Rattle.digraph.specs.Graphs.{Among, successors, Edge, Onward, Walk}
 use Rattle.digraph.specs.Expansions.{HasCycle}
-use Rattle.p416_ast.specs.declared.grammar.program.Decl16.{Decl16}
-use Rattle.p416_ast.specs.declared.grammar.program.Syntax16.{Syntax16}
+use Rattle.p416_ast.specs.declared.program.Decl16.{Decl16}
+use Rattle.p416_ast.specs.declared.program.Syntax16.{Syntax16}
 use Rattle.p416_rules.specs.declared.rule.ProgramRule.TheVariants.{T1, T7, T8, T9, T11, T12}
 use Rattle.p416_rules.specs.Uses.{Use}
 use Rattle.p416_rules.specs.Unknown.{is_misnamed, struct_graph}

@@ -1,6 +1,6 @@
 // The text of a program of the form.
 ghost use Rattle.std.specs.Prelude.{◌≡◌, true, IfOk};
-ghost use Rattle.p416_ast.specs.declared.grammar.program.Syntax16.{Syntax16};
+ghost use Rattle.p416_ast.specs.declared.program.Syntax16.{Syntax16};
 ghost use Rattle.p416_reader.specs.Reading.{Reads16};
 ghost use Rattle.one_table_text.specs.Programs.{is_one_table16, program16};
 

@@ -9,4 +9,5 @@ mod shapes;
 mod signature;
 mod tables;
 
+pub use order::object_names;
 pub use signature::signature_of;

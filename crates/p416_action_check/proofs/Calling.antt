@@ -5,11 +5,11 @@ use Rattle.std.specs.Bool.{MatchBool}
 use Rattle.digraph.specs.Expansions.{HasCycle}
 use Rattle.name_numbers.specs.Names.{find_name}
 use Rattle.name_cycles.specs.Named.{NamedNode, called_of, next_of, named_graph}
-use Rattle.p416_ast.specs.declared.grammar.controls.Action16.{Action16}
-use Rattle.p416_ast.specs.declared.grammar.controls.Control16.{Control16}
-use Rattle.p416_ast.specs.declared.grammar.controls.Local.{Local}
-use Rattle.p416_ast.specs.declared.grammar.controls.Local.TheVariants as local
-use Rattle.p416_ast.specs.declared.grammar.program.Decl16.{Decl16}
+use Rattle.p416_ast.specs.declared.controls.Action16.{Action16}
+use Rattle.p416_ast.specs.declared.controls.Control16.{Control16}
+use Rattle.p416_ast.specs.declared.controls.Local.{Local}
+use Rattle.p416_ast.specs.declared.controls.Local.TheVariants as local
+use Rattle.p416_ast.specs.declared.program.Decl16.{Decl16}
 use Rattle.p416_rules.specs.Exact.{IsExact}
 use Rattle.p416_rules.specs.Names.{Name}
 use Rattle.p416_rules.specs.Scopes.{Scope}

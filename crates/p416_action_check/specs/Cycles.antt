@@ -1,6 +1,6 @@
 -- Actions that call themselves, in some declaration of a program whose names at the top and in `main` are these.
 use Rattle.std.specs.Prelude.{List}
-use Rattle.p416_ast.specs.declared.grammar.program.Decl16.{Decl16}
+use Rattle.p416_ast.specs.declared.program.Decl16.{Decl16}
 use Rattle.p416_rules.specs.Names.{Name}
 use Rattle.p416_rules.specs.Scopes.{Scope}
 use Rattle.p416_rules.specs.Declarations.{top_scope}

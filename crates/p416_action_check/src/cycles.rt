@@ -11,7 +11,7 @@ ghost use Rattle.p416_action_check.specs.Cycles.{CallsItself, SomeCallsItself};
 use crate::nodes::action_nodes;
 use name_cycles::lead_back;
 use p4x_bits::OutOfMemory;
-use p416_ast::grammar::{Control16, Decl16};
+use p416_ast::{Control16, Decl16};
 use p416_main_check::MainPlaces;
 use p416_names::Top;
 use p416_scopes::Scope;

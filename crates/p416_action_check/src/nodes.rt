@@ -8,7 +8,7 @@ ghost use Rattle.p416_action_check.specs.internal.Nodes.{action_node};
 
 use name_cycles::NameNode;
 use p4x_bits::OutOfMemory;
-use p416_ast::grammar::{Action16, Local};
+use p416_ast::{Action16, Local};
 use p416_expression_uses::Findings;
 use p416_scopes::Scope;
 use p416_uses::see_action;

@@ -2,18 +2,18 @@
 -- arguments and an `else` ask.
 use Rattle.std.specs.Prelude.{◌≡◌, true, false, [], ◌∷◌, None, codes, refl}
 use Rattle.std.specs.List.{list_all, list_any}
-use Rattle.p416_ast.specs.declared.grammar.parts.Type16.TheVariants as kind
-use Rattle.p416_ast.specs.declared.grammar.node.UnaryOperator.TheVariants as before
-use Rattle.p416_ast.specs.declared.grammar.node.BinaryOperator.TheVariants as between
-use Rattle.p416_ast.specs.declared.grammar.node.CastType.TheVariants as cast_to
-use Rattle.p416_ast.specs.declared.grammar.parsers.Simple.TheVariants as simple
-use Rattle.p416_ast.specs.declared.grammar.parsers.Keyset.TheVariants as keyset
+use Rattle.p416_ast.specs.declared.parts.Type16.TheVariants as kind
+use Rattle.p416_ast.specs.declared.node.UnaryOperator.TheVariants as before
+use Rattle.p416_ast.specs.declared.node.BinaryOperator.TheVariants as between
+use Rattle.p416_ast.specs.declared.node.CastType.TheVariants as cast_to
+use Rattle.p416_ast.specs.declared.parsers.Simple.TheVariants as simple
+use Rattle.p416_ast.specs.declared.parsers.Keyset.TheVariants as keyset
 use Rattle.p416_lexemes.specs.declared.keyword.Keyword16.TheVariants as key
-use Rattle.p416_ast.specs.Grammar.Tree.{Exp16, error, name, member, call, lookahead, cast, unary, binary, choice, parenthesized, no_arguments, argument, listed, empty, expression, if_then, if_else, block, no_statements}
-use Rattle.p416_ast.specs.Grammar.Tokens.{id, quoted, joined, opens, lookahead_text, is_spelt_seen, seen_word, dot, comma, greater, paren_open, paren_close, brace_open, brace_close}
-use Rattle.p416_ast.specs.Grammar.Written.{written_exp}
-use Rattle.p416_ast.specs.Grammar.Parentheses.{bare_exp}
-use Rattle.p416_ast.specs.Grammar.Conditions.{is_exp, is_stmt, is_keyset, statement, with_parentheses, without_parentheses}
+use Rattle.p416_ast.specs.Tree.{Exp16, error, name, member, call, lookahead, cast, unary, binary, choice, parenthesized, no_arguments, argument, listed, empty, expression, if_then, if_else, block, no_statements}
+use Rattle.p416_ast.specs.Tokens.{id, quoted, joined, opens, lookahead_text, is_spelt_seen, seen_word, dot, comma, greater, paren_open, paren_close, brace_open, brace_close}
+use Rattle.p416_ast.specs.Written.{written_exp}
+use Rattle.p416_ast.specs.Parentheses.{bare_exp}
+use Rattle.p416_ast.specs.Conditions.{is_exp, is_stmt, is_keyset, statement, with_parentheses, without_parentheses}
 
 abbrev a : Exp16
 a = name (codes "a")

@@ -2,11 +2,11 @@
 use Rattle.std.proofs.Common.{◌≡◌, ℕ, ◌<◌, ◌≤◌, List, [], ◌∷◌, ◌++◌, length, get_or, refl, sym, ap, subst, ◌∙◌, arith}
 use Rattle.node_lists.specs.Trees.{Adds}
 use Rattle.node_lists.proofs.Growth as growth
-use Rattle.p416_ast.specs.declared.grammar.node.ExpNode.{ExpNode}
-use Rattle.p416_ast.specs.declared.grammar.node.ExpNode.TheVariants.{Literal, Truth, Error, Name, Member, Index, Slice, Call, Lookahead, Cast, Unary, Binary, Choice, NoArguments, Argument, Listed}
-use Rattle.p416_ast.specs.declared.grammar.node.StmtNode.{StmtNode}
-use Rattle.p416_ast.specs.declared.grammar.node.StmtNode.TheVariants.{NoStatements, Then, Block, Empty, Var, VarIs, Assign, Expression, If, IfElse, Switch, NoCases, Case}
-use Rattle.p416_ast.specs.Grammar.Tree.{Exp16, member, index, slice, call, lookahead, cast, unary, binary, choice, no_arguments, argument, listed, Stmt16, no_statements, then, block, var_is, assign, expression, if_then, if_else, switch, case_of, exp_at, stmt_at, exp_of, stmt_of, grow_exps, grow_stmts, ExpInOrder, StmtInOrder, InOrder, Trees, trees_of, AddsExp, AddsStmt}
+use Rattle.p416_ast.specs.declared.node.ExpNode.{ExpNode}
+use Rattle.p416_ast.specs.declared.node.ExpNode.TheVariants.{Literal, Truth, Error, Name, Member, Index, Slice, Call, Lookahead, Cast, Unary, Binary, Choice, NoArguments, Argument, Listed}
+use Rattle.p416_ast.specs.declared.node.StmtNode.{StmtNode}
+use Rattle.p416_ast.specs.declared.node.StmtNode.TheVariants.{NoStatements, Then, Block, Empty, Var, VarIs, Assign, Expression, If, IfElse, Switch, NoCases, Case}
+use Rattle.p416_ast.specs.Tree.{Exp16, member, index, slice, call, lookahead, cast, unary, binary, choice, no_arguments, argument, listed, Stmt16, no_statements, then, block, var_is, assign, expression, if_then, if_else, switch, case_of, exp_at, stmt_at, exp_of, stmt_of, grow_exps, grow_stmts, ExpInOrder, StmtInOrder, InOrder, Trees, trees_of, AddsExp, AddsStmt}
 
 -- the tree of a node in order depends on no trees but those of its children
 

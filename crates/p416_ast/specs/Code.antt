@@ -1,59 +1,107 @@
--- The codes of trees, and of what is seen of parsers, controls, actions and tables. Proofs tell values apart by them.
-use Rattle.std.specs.Prelude.{◌≡◌, ◌⊎◌, ℕ, List, [], ◌∷◌, ◌++◌, refl}
-use Rattle.std.proofs.Common.{inl, inr}
-use Rattle.std.specs.Coded.{Coded, code_by, coded×, coded⊎, coded_ℕ, coded_list}
-use Rattle.node_lists.specs.Codes.{on_one, on_two, Puts, behind_one, behind_two, coded_tree}
-use Rattle.p416_ast.specs.declared.decl.Note.{Note}
-use Rattle.p416_ast.specs.declared.decl.Param.{Param}
-use Rattle.p416_ast.specs.declared.parser.Transition.{Transition}
-use Rattle.p416_ast.specs.declared.control.ActionName.{ActionName}
+-- The codes of trees. Proofs tell values apart by them.
+use Rattle.std.specs.Prelude.{◌≡◌, Bool, true, false, List, [], ◌∷◌, ◌++◌, refl}
+use Rattle.std.proofs.Common.{◌∙◌, ap, append_assoc}
+use Rattle.std.specs.Coded.{Coded, code_by, coded×, coded_bool, coded_list}
+use Rattle.node_lists.specs.Codes.{on_one, on_two, stack, Puts, behind_one, behind_two, coded_tree}
 use Rattle.p416_ast.specs.declared.node.ExpNode.{ExpNode}
-use Rattle.p416_ast.specs.declared.node.ExpNode.TheVariants.{Literal, Name, Error, Member, Binary, Call, NoArguments, Argument}
+use Rattle.p416_ast.specs.declared.node.ExpNode.TheVariants.{Literal, Truth, Error, Name, Member, Index, Slice, Call, Lookahead, Cast, Unary, Binary, Choice, NoArguments, Argument, Listed}
 use Rattle.p416_ast.specs.declared.node.StmtNode.{StmtNode}
-use Rattle.p416_ast.specs.declared.node.StmtNode.TheVariants.{NoStatements, Then, Block, Assign, Expression, IfElse}
+use Rattle.p416_ast.specs.declared.node.StmtNode.TheVariants.{NoStatements, Then, Block, Empty, Var, VarIs, Assign, Expression, If, IfElse, Switch, NoCases, Case}
 use Rattle.p416_ast.specs.contracts.node.ExpNode as exp_node
 use Rattle.p416_ast.specs.contracts.node.StmtNode as stmt_node
-use Rattle.p416_ast.specs.contracts.decl.Note as note
-use Rattle.p416_ast.specs.contracts.decl.Param as param
-use Rattle.p416_ast.specs.contracts.parser.Transition as transition
-use Rattle.p416_ast.specs.contracts.control.ActionName as action_name
-use Rattle.p416_ast.specs.Tree.{Exp16, literal, name, error, member, binary, call, no_arguments, argument, Stmt16, no_statements, then, block, assign, expression, if_else, Trees}
-use Rattle.p416_ast.specs.Blocks.{StateTree, ParserTree, ActionTree, PropertyTree, actions, default_action, TableTree, LocalTree, action_local, table_local, ControlTree}
+use Rattle.p416_ast.specs.Tree.{Exp16, literal, truth, error, name, member, index, slice, call, lookahead, cast, unary, binary, choice, parenthesized, no_arguments, argument, listed, Stmt16, no_statements, then, block, empty, var, var_is, assign, expression, if_then, if_else, switch, no_cases, case_of, Trees}
 
--- the nodes of an expression; a child's place in a node says nothing here: it is on top of the stack
-abbrev pub exp_marks : Exp16 → List ExpNode
-exp_marks (literal width value) = Literal width value ∷ []
-exp_marks (name text) = Name text ∷ []
-exp_marks error = Error ∷ []
-exp_marks (member e word) = exp_marks e ++ Member 0 word ∷ []
-exp_marks (binary operator a b) = exp_marks a ++ (exp_marks b ++ Binary operator 0 0 ∷ [])
-exp_marks (call a b) = exp_marks a ++ (exp_marks b ++ Call 0 0 ∷ [])
-exp_marks no_arguments = NoArguments ∷ []
-exp_marks (argument a b) = exp_marks a ++ (exp_marks b ++ Argument 0 0 ∷ [])
+-- a function of the topmost three of a stack
+abbrev pub on_three : {T : Type 0} → (T → T → T → T) → List T → List T
+on_three f [] = []
+on_three f (c ∷ []) = []
+on_three f (c ∷ b ∷ []) = []
+on_three f (c ∷ b ∷ a ∷ rest) = f a b c ∷ rest
+
+-- a mark behind those of three trees
+module _ {M T : Type 0} (step : M → List T → List T) where
+  pub behind_three : (first second third : List M) (a b c : T) (m : M) → Puts step first a → Puts step second b → Puts step third c → (ms : List M) (ts : List T) → stack step ((first ++ (second ++ (third ++ m ∷ []))) ++ ms) ts ≡ stack step (m ∷ ms) (c ∷ b ∷ a ∷ ts)
+  behind_three first second third a b c m puts puts_second puts_third ms ts =
+      ap (λ l. stack step l ts) (append_assoc first (second ++ (third ++ m ∷ [])) ms) ∙ puts _ ts ∙ behind_two step second third b c m puts_second puts_third ms (a ∷ ts)
+
+-- A node of an expression, or parentheses: then the truth value is true, and the node says nothing. A child's place in a
+-- node says nothing either: it is on top of the stack.
+abbrev pub ExpMark : Type 0
+ExpMark = Bool × ExpNode
+
+abbrev pub node : ExpNode → ExpMark
+node n = (false, n)
+
+abbrev pub parens : ExpMark
+parens = (true, Error)
+
+-- the marks of an expression
+abbrev pub exp_marks : Exp16 → List ExpMark
+exp_marks (literal number) = node (Literal number) ∷ []
+exp_marks (truth value) = node (Truth value) ∷ []
+exp_marks error = node Error ∷ []
+exp_marks (name text) = node (Name text) ∷ []
+exp_marks (member a word) = exp_marks a ++ node (Member 0 word) ∷ []
+exp_marks (index a at) = exp_marks a ++ node (Index 0 at) ∷ []
+exp_marks (slice a high low) = exp_marks a ++ node (Slice 0 high low) ∷ []
+exp_marks (call a b) = exp_marks a ++ (exp_marks b ++ node (Call 0 0) ∷ [])
+exp_marks (lookahead a to b) = exp_marks a ++ (exp_marks b ++ node (Lookahead 0 to 0) ∷ [])
+exp_marks (cast to a) = exp_marks a ++ node (Cast to 0) ∷ []
+exp_marks (unary operator a) = exp_marks a ++ node (Unary operator 0) ∷ []
+exp_marks (binary operator a b) = exp_marks a ++ (exp_marks b ++ node (Binary operator 0 0) ∷ [])
+exp_marks (choice a b c) = exp_marks a ++ (exp_marks b ++ (exp_marks c ++ node (Choice 0 0 0) ∷ []))
+exp_marks (parenthesized a) = exp_marks a ++ parens ∷ []
+exp_marks no_arguments = node NoArguments ∷ []
+exp_marks (argument a b) = exp_marks a ++ (exp_marks b ++ node (Argument 0 0) ∷ [])
+exp_marks (listed a) = exp_marks a ++ node (Listed 0) ∷ []
 
 -- what a node does to a stack of expressions
-abbrev pub exp_step : ExpNode → List Exp16 → List Exp16
-exp_step (Literal width value) es = literal width value ∷ es
-exp_step (Name text) es = name text ∷ es
-exp_step Error es = error ∷ es
-exp_step (Member i word) es = on_one (λ e. member e word) es
-exp_step (Binary operator i j) es = on_two (binary operator) es
-exp_step (Call i j) es = on_two call es
-exp_step NoArguments es = no_arguments ∷ es
-exp_step (Argument i j) es = on_two argument es
+abbrev pub node_step : ExpNode → List Exp16 → List Exp16
+node_step (Literal number) es = literal number ∷ es
+node_step (Truth value) es = truth value ∷ es
+node_step Error es = error ∷ es
+node_step (Name text) es = name text ∷ es
+node_step (Member i word) es = on_one (λ a. member a word) es
+node_step (Index i at) es = on_one (λ a. index a at) es
+node_step (Slice i high low) es = on_one (λ a. slice a high low) es
+node_step (Call i j) es = on_two call es
+node_step (Lookahead i to j) es = on_two (λ a b. lookahead a to b) es
+node_step (Cast to i) es = on_one (cast to) es
+node_step (Unary operator i) es = on_one (unary operator) es
+node_step (Binary operator i j) es = on_two (binary operator) es
+node_step (Choice i j k) es = on_three choice es
+node_step NoArguments es = no_arguments ∷ es
+node_step (Argument i j) es = on_two argument es
+node_step (Listed i) es = on_one listed es
+
+abbrev pub mark_step : Bool → ExpNode → List Exp16 → List Exp16
+mark_step true n es = on_one parenthesized es
+mark_step false n es = node_step n es
+
+abbrev pub exp_step : ExpMark → List Exp16 → List Exp16
+exp_step m es = mark_step m.0 m.1 es
 
 pub exp_puts : (e : Exp16) → Puts exp_step (exp_marks e) e
-exp_puts (literal width value) = λ ms es. refl
-exp_puts (name text) = λ ms es. refl
+exp_puts (literal number) = λ ms es. refl
+exp_puts (truth value) = λ ms es. refl
 exp_puts error = λ ms es. refl
-exp_puts (member e word) = behind_one exp_step (exp_marks e) e (Member 0 word) (exp_puts e)
-exp_puts (binary operator a b) = behind_two exp_step (exp_marks a) (exp_marks b) a b (Binary operator 0 0) (exp_puts a) (exp_puts b)
-exp_puts (call a b) = behind_two exp_step (exp_marks a) (exp_marks b) a b (Call 0 0) (exp_puts a) (exp_puts b)
+exp_puts (name text) = λ ms es. refl
+exp_puts (member a word) = behind_one exp_step (exp_marks a) a (node (Member 0 word)) (exp_puts a)
+exp_puts (index a at) = behind_one exp_step (exp_marks a) a (node (Index 0 at)) (exp_puts a)
+exp_puts (slice a high low) = behind_one exp_step (exp_marks a) a (node (Slice 0 high low)) (exp_puts a)
+exp_puts (call a b) = behind_two exp_step (exp_marks a) (exp_marks b) a b (node (Call 0 0)) (exp_puts a) (exp_puts b)
+exp_puts (lookahead a to b) = behind_two exp_step (exp_marks a) (exp_marks b) a b (node (Lookahead 0 to 0)) (exp_puts a) (exp_puts b)
+exp_puts (cast to a) = behind_one exp_step (exp_marks a) a (node (Cast to 0)) (exp_puts a)
+exp_puts (unary operator a) = behind_one exp_step (exp_marks a) a (node (Unary operator 0)) (exp_puts a)
+exp_puts (binary operator a b) = behind_two exp_step (exp_marks a) (exp_marks b) a b (node (Binary operator 0 0)) (exp_puts a) (exp_puts b)
+exp_puts (choice a b c) = behind_three exp_step (exp_marks a) (exp_marks b) (exp_marks c) a b c (node (Choice 0 0 0)) (exp_puts a) (exp_puts b) (exp_puts c)
+exp_puts (parenthesized a) = behind_one exp_step (exp_marks a) a parens (exp_puts a)
 exp_puts no_arguments = λ ms es. refl
-exp_puts (argument a b) = behind_two exp_step (exp_marks a) (exp_marks b) a b (Argument 0 0) (exp_puts a) (exp_puts b)
+exp_puts (argument a b) = behind_two exp_step (exp_marks a) (exp_marks b) a b (node (Argument 0 0)) (exp_puts a) (exp_puts b)
+exp_puts (listed a) = behind_one exp_step (exp_marks a) a (node (Listed 0)) (exp_puts a)
 
 abbrev pub coded_exp : Coded Exp16
-coded_exp = coded_tree exp_node.the_row.coded error exp_step exp_marks exp_puts
+coded_exp = coded_tree (coded× coded_bool exp_node.the_row.coded) no_arguments exp_step exp_marks exp_puts
 
 -- a statement's node with the expressions that it holds
 abbrev pub StmtMark : Type 0
@@ -64,30 +112,51 @@ bare n = (n, (error, error))
 
 abbrev pub stmt_marks : Stmt16 → List StmtMark
 stmt_marks no_statements = bare NoStatements ∷ []
-stmt_marks (then s t) = stmt_marks s ++ (stmt_marks t ++ bare (Then 0 0) ∷ [])
-stmt_marks (block s) = stmt_marks s ++ bare (Block 0) ∷ []
+stmt_marks (then a b) = stmt_marks a ++ (stmt_marks b ++ bare (Then 0 0) ∷ [])
+stmt_marks (block a) = stmt_marks a ++ bare (Block 0) ∷ []
+stmt_marks empty = bare Empty ∷ []
+stmt_marks (var of called) = bare (Var of called) ∷ []
+stmt_marks (var_is of called a) = (VarIs of called 0, (a, error)) ∷ []
 stmt_marks (assign a b) = (Assign 0 0, (a, b)) ∷ []
-stmt_marks (expression e) = (Expression 0, (e, error)) ∷ []
-stmt_marks (if_else e s t) = stmt_marks s ++ (stmt_marks t ++ (IfElse 0 0 0, (e, error)) ∷ [])
+stmt_marks (expression a) = (Expression 0, (a, error)) ∷ []
+stmt_marks (if_then a b) = stmt_marks b ++ (If 0 0, (a, error)) ∷ []
+stmt_marks (if_else a b c) = stmt_marks b ++ (stmt_marks c ++ (IfElse 0 0 0, (a, error)) ∷ [])
+stmt_marks (switch table a) = stmt_marks a ++ bare (Switch table 0) ∷ []
+stmt_marks no_cases = bare NoCases ∷ []
+stmt_marks (case_of a label b) = stmt_marks a ++ (stmt_marks b ++ bare (Case 0 label 0) ∷ [])
 
-abbrev pub node_step : StmtNode → Exp16 → Exp16 → List Stmt16 → List Stmt16
-node_step NoStatements a b ss = no_statements ∷ ss
-node_step (Then i j) a b ss = on_two then ss
-node_step (Block i) a b ss = on_one block ss
-node_step (Assign i j) a b ss = assign a b ∷ ss
-node_step (Expression i) a b ss = expression a ∷ ss
-node_step (IfElse c i j) a b ss = on_two (if_else a) ss
+abbrev pub stmt_node_step : StmtNode → Exp16 → Exp16 → List Stmt16 → List Stmt16
+stmt_node_step NoStatements d e ss = no_statements ∷ ss
+stmt_node_step (Then i j) d e ss = on_two then ss
+stmt_node_step (Block i) d e ss = on_one block ss
+stmt_node_step Empty d e ss = empty ∷ ss
+stmt_node_step (Var of called) d e ss = var of called ∷ ss
+stmt_node_step (VarIs of called i) d e ss = var_is of called d ∷ ss
+stmt_node_step (Assign i j) d e ss = assign d e ∷ ss
+stmt_node_step (Expression i) d e ss = expression d ∷ ss
+stmt_node_step (If i j) d e ss = on_one (if_then d) ss
+stmt_node_step (IfElse i j k) d e ss = on_two (if_else d) ss
+stmt_node_step (Switch table i) d e ss = on_one (switch table) ss
+stmt_node_step NoCases d e ss = no_cases ∷ ss
+stmt_node_step (Case i label j) d e ss = on_two (λ a b. case_of a label b) ss
 
 abbrev pub stmt_step : StmtMark → List Stmt16 → List Stmt16
-stmt_step m ss = node_step m.0 m.1.0 m.1.1 ss
+stmt_step m ss = stmt_node_step m.0 m.1.0 m.1.1 ss
 
 pub stmt_puts : (s : Stmt16) → Puts stmt_step (stmt_marks s) s
 stmt_puts no_statements = λ ms ss. refl
-stmt_puts (then s t) = behind_two stmt_step (stmt_marks s) (stmt_marks t) s t (bare (Then 0 0)) (stmt_puts s) (stmt_puts t)
-stmt_puts (block s) = behind_one stmt_step (stmt_marks s) s (bare (Block 0)) (stmt_puts s)
+stmt_puts (then a b) = behind_two stmt_step (stmt_marks a) (stmt_marks b) a b (bare (Then 0 0)) (stmt_puts a) (stmt_puts b)
+stmt_puts (block a) = behind_one stmt_step (stmt_marks a) a (bare (Block 0)) (stmt_puts a)
+stmt_puts empty = λ ms ss. refl
+stmt_puts (var of called) = λ ms ss. refl
+stmt_puts (var_is of called a) = λ ms ss. refl
 stmt_puts (assign a b) = λ ms ss. refl
-stmt_puts (expression e) = λ ms ss. refl
-stmt_puts (if_else e s t) = behind_two stmt_step (stmt_marks s) (stmt_marks t) s t (IfElse 0 0 0, (e, error)) (stmt_puts s) (stmt_puts t)
+stmt_puts (expression a) = λ ms ss. refl
+stmt_puts (if_then a b) = behind_one stmt_step (stmt_marks b) b ((If 0 0, (a, error))) (stmt_puts b)
+stmt_puts (if_else a b c) = behind_two stmt_step (stmt_marks b) (stmt_marks c) b c ((IfElse 0 0 0, (a, error))) (stmt_puts b) (stmt_puts c)
+stmt_puts (switch table a) = behind_one stmt_step (stmt_marks a) a (bare (Switch table 0)) (stmt_puts a)
+stmt_puts no_cases = λ ms ss. refl
+stmt_puts (case_of a label b) = behind_two stmt_step (stmt_marks a) (stmt_marks b) a b (bare (Case 0 label 0)) (stmt_puts a) (stmt_puts b)
 
 abbrev pub coded_stmt : Coded Stmt16
 coded_stmt = coded_tree (coded× stmt_node.the_row.coded (coded× coded_exp coded_exp)) no_statements stmt_step stmt_marks stmt_puts
@@ -95,57 +164,3 @@ coded_stmt = coded_tree (coded× stmt_node.the_row.coded (coded× coded_exp code
 abbrev pub coded_trees : Coded Trees
 coded_trees =
     code_by (List Exp16 × List Stmt16) (coded× (coded_list coded_exp) (coded_list coded_stmt)) (λ t. (t.exps, t.stmts)) (λ p. record { exps = p.0; stmts = p.1 }) (λ _. refl)
-
-abbrev pub coded_text : Coded (List ℕ)
-coded_text = coded_list coded_ℕ
-
-abbrev pub coded_state : Coded StateTree
-coded_state =
-    code_by (List ℕ × (Stmt16 × Transition)) (coded× coded_text (coded× coded_stmt transition.the_row.coded)) (λ s. (s.name, (s.body, s.transition))) (λ p. record { name = p.0; body = p.1.0; transition = p.1.1 }) (λ _. refl)
-
-abbrev pub coded_parser : Coded ParserTree
-coded_parser =
-    code_by (List ℕ × (List Param × List StateTree)) (coded× coded_text (coded× (coded_list param.the_row.coded) (coded_list coded_state))) (λ s. (s.name, (s.parameters, s.states))) (λ p. record { name = p.0; parameters = p.1.0; states = p.1.1 }) (λ _. refl)
-
-abbrev pub coded_action : Coded ActionTree
-coded_action =
-    code_by (List Note × (List ℕ × (List Param × Stmt16))) (coded× (coded_list note.the_row.coded) (coded× coded_text (coded× (coded_list param.the_row.coded) coded_stmt))) (λ a. (a.notes, (a.name, (a.parameters, a.body)))) (λ p. record { notes = p.0; name = p.1.0; parameters = p.1.1.0; body = p.1.1.1 }) (λ _. refl)
-
-abbrev pub property_cases : PropertyTree → List ActionName ⊎ (ActionName × Exp16)
-property_cases (actions names) = inl names
-property_cases (default_action a e) = inr (a, e)
-
-abbrev pub property_of : List ActionName ⊎ (ActionName × Exp16) → PropertyTree
-property_of (inl names) = actions names
-property_of (inr p) = default_action p.0 p.1
-
-pub property_round : (p : PropertyTree) → property_of (property_cases p) ≡ p
-property_round (actions names) = refl
-property_round (default_action a e) = refl
-
-abbrev pub coded_property : Coded PropertyTree
-coded_property =
-    code_by (List ActionName ⊎ (ActionName × Exp16)) (coded⊎ (coded_list action_name.the_row.coded) (coded× action_name.the_row.coded coded_exp)) property_cases property_of property_round
-
-abbrev pub coded_table : Coded TableTree
-coded_table =
-    code_by (List Note × (List ℕ × List PropertyTree)) (coded× (coded_list note.the_row.coded) (coded× coded_text (coded_list coded_property))) (λ t. (t.notes, (t.name, t.properties))) (λ p. record { notes = p.0; name = p.1.0; properties = p.1.1 }) (λ _. refl)
-
-abbrev pub local_cases : LocalTree → ActionTree ⊎ TableTree
-local_cases (action_local a) = inl a
-local_cases (table_local t) = inr t
-
-abbrev pub local_of : ActionTree ⊎ TableTree → LocalTree
-local_of (inl a) = action_local a
-local_of (inr t) = table_local t
-
-pub local_round : (l : LocalTree) → local_of (local_cases l) ≡ l
-local_round (action_local a) = refl
-local_round (table_local t) = refl
-
-abbrev pub coded_local : Coded LocalTree
-coded_local = code_by (ActionTree ⊎ TableTree) (coded⊎ coded_action coded_table) local_cases local_of local_round
-
-abbrev pub coded_control : Coded ControlTree
-coded_control =
-    code_by (List ℕ × (List Param × (List LocalTree × Stmt16))) (coded× coded_text (coded× (coded_list param.the_row.coded) (coded× (coded_list coded_local) coded_stmt))) (λ c. (c.name, (c.parameters, (c.locals, c.body)))) (λ p. record { name = p.0; parameters = p.1.0; locals = p.1.1.0; body = p.1.1.1 }) (λ _. refl)

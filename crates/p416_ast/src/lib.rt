@@ -1,20 +1,28 @@
-//! The syntax of P4_16: declarations as structs and enums, statements and expressions as nodes in lists. Contracts see the trees.
-//! `grammar` has the whole syntax. What stands beside it is a first cut, of the programs that the command writes.
+//! The syntax of P4_16, as this profile has it: each part of the grammar as a struct or an enum, expressions and
+//! statements as nodes in lists. Contracts see the trees.
 #![tactic(auto)]
 
-mod action;
-mod control;
-mod decl;
-pub mod grammar;
+mod blocks;
+mod controls;
 mod node;
 mod nodes;
-mod parser;
-mod syntax;
+mod parsers;
+mod parts;
+mod program;
+mod stack;
+mod views;
+mod walk;
 
-pub use action::{Action16, ActionParts};
-pub use control::{ActionName, Control16, ControlParts, Local, Property, Table16};
-pub use decl::{BitField, Direction, Header16, Note, Param, Struct16, StructField, Type16};
-pub use node::{ExpNode, Operator, StmtNode};
+pub use blocks::{Block16, BlockParts, Exp, ExpParts};
+pub use controls::{Action16, ActionName, Control16, Instance, Local, Property, Table16, TableKey};
+pub use node::{BinaryOperator, CaseLabel, CastType, ExpNode, StmtNode, UnaryOperator};
 pub use nodes::Nodes;
-pub use parser::{Parser16, ParserParts, State, Target, Transition};
-pub use syntax::{Decl16, Syntax16};
+pub use p416_lexemes::Literal16;
+pub use parsers::{Keyset, Parser16, SelectCase, Simple, State, Target, Transition, Var};
+pub use parts::{
+    BitField, CloneType, CounterType, Direction, HashAlgorithm, Header16, Member, MeterType, Note,
+    Param, Struct16, StructField, Type16, name_note,
+};
+pub use program::{Decl16, Syntax16};
+pub use views::{ExpHead, ExpView, StmtHead, StmtView};
+pub use walk::{all_expressions, own_expressions, statements_within};

@@ -8,7 +8,7 @@ use std::alloc::Global;
 use std::marker::Model;
 
 /// Expressions and statements, each over earlier ones. Contracts see the list of the expressions' trees and that of the statements' trees.
-#[derive(Debug, Drop)]
+#[derive(Drop)]
 pub struct Nodes {
     exps: Vec<ExpNode>,
     stmts: Vec<StmtNode>,
@@ -39,7 +39,7 @@ impl Nodes {
     }
 
     /// Puts one more expression over the earlier ones and gives its place. For want of memory all stays as it was, and the node is let go.
-    pub fn exp(&mut self, node: ExpNode) -> Result<usize, OutOfMemory>
+    pub fn expression(&mut self, node: ExpNode) -> Result<usize, OutOfMemory>
         requires { ExpInOrder (length self.old.exps) node }
         ensures ok { IfOk result (λ place. AddsExp self.old self.new place (exp_of self.old.exps node)) }
         ensures err { OnErr result (self.new ≡ self.old) }

@@ -1,6 +1,6 @@
 -- The place with a number.
 use Rattle.std.proofs.Common.{◌≡◌, ℕ, zero, suc, Option, Some, None, List, [], ◌∷◌, map, get_or, slice_get, refl, ap}
-use Rattle.p416_ast.specs.declared.grammar.parts.Param.{Param}
+use Rattle.p416_ast.specs.declared.parts.Param.{Param}
 use Rattle.p416_rules.specs.Scopes.{Known, handed}
 use Rattle.p416_rules.specs.Calls as rules
 

@@ -10,7 +10,7 @@ ghost use Rattle.p416_calls.specs.Seen.{seen_place, seen_callee, function_seen, 
 
 use crate::callee::{Callee, Function, Method};
 use crate::place::{Place, place_at};
-use p416_ast::grammar::{Action16, Direction, Param};
+use p416_ast::{Action16, Direction, Param};
 use p416_kinds::{Enumeration, Kind};
 use p416_names::Top;
 

@@ -5,7 +5,7 @@ ghost use Rattle.p416_rules.specs.Totals.{is_bad_cell_count, cell_sum, has_bad_c
 
 use crate::cells::cell_counts;
 use p4x_bits::OutOfMemory;
-use p416_ast::grammar::Decl16;
+use p416_ast::Decl16;
 use std::alloc::Global;
 
 /// How many cells one object may have.

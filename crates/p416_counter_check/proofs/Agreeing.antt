@@ -3,36 +3,36 @@ use Rattle.std.proofs.Common.{◌≡◌, ℕ, Bool, true, false, not, ◌||◌, 
 use Rattle.std.specs.List.{list_any}
 use Rattle.std.specs.Option.{option_map_or}
 use Rattle.std.proofs.lemmas.List.Folds.{list_any-append}
-use Rattle.p416_ast.specs.declared.grammar.parts.Note.{Note}
-use Rattle.p416_ast.specs.declared.grammar.parts.Type16.{Type16}
-use Rattle.p416_ast.specs.declared.grammar.parts.Type16.TheVariants.{Bit, Bool as BoolType, Named}
-use Rattle.p416_ast.specs.declared.grammar.parts.Param.{Param}
-use Rattle.p416_ast.specs.declared.grammar.parsers.Var.{Var}
-use Rattle.p416_ast.specs.declared.grammar.parsers.Target.{Target}
-use Rattle.p416_ast.specs.declared.grammar.parsers.Simple.{Simple}
-use Rattle.p416_ast.specs.declared.grammar.parsers.Simple.TheVariants as simple
-use Rattle.p416_ast.specs.declared.grammar.parsers.SelectCase.{SelectCase}
-use Rattle.p416_ast.specs.declared.grammar.parsers.Transition.{Transition}
-use Rattle.p416_ast.specs.declared.grammar.parsers.Transition.TheVariants as transition
-use Rattle.p416_ast.specs.declared.grammar.parsers.State.{State}
-use Rattle.p416_ast.specs.declared.grammar.parsers.Parser16.{Parser16}
-use Rattle.p416_ast.specs.declared.grammar.node.CastType.{CastType}
-use Rattle.p416_ast.specs.declared.grammar.node.CastType.TheVariants as cast_to
-use Rattle.p416_ast.specs.declared.grammar.node.CaseLabel.{CaseLabel}
-use Rattle.p416_ast.specs.declared.grammar.node.CaseLabel.TheVariants as label
-use Rattle.p416_ast.specs.declared.grammar.controls.Instance.{Instance}
-use Rattle.p416_ast.specs.declared.grammar.controls.Instance.TheVariants as instance
-use Rattle.p416_ast.specs.declared.grammar.controls.ActionName.{ActionName}
-use Rattle.p416_ast.specs.declared.grammar.controls.Action16.{Action16}
-use Rattle.p416_ast.specs.declared.grammar.controls.TableKey.{TableKey}
-use Rattle.p416_ast.specs.declared.grammar.controls.Table16.{Table16}
-use Rattle.p416_ast.specs.declared.grammar.controls.Local.{Local}
-use Rattle.p416_ast.specs.declared.grammar.controls.Local.TheVariants as local
-use Rattle.p416_ast.specs.declared.grammar.controls.Control16.{Control16}
-use Rattle.p416_ast.specs.declared.grammar.program.Decl16.{Decl16}
-use Rattle.p416_ast.specs.declared.grammar.program.Decl16.TheVariants as decl
-use Rattle.p416_ast.specs.Grammar.Properties.{keys_of, actions_of, size_of, counters_of, default_action_of, default_arguments_of}
-use Rattle.p416_ast.specs.Grammar.Tree.{Exp16, literal, truth, error, name, member, index, slice, call, lookahead, cast, unary, binary, choice, parenthesized, no_arguments, argument, listed, Stmt16, no_statements, then, block, empty, var, var_is, assign, expression, if_then, if_else, switch, no_cases, case_of}
+use Rattle.p416_ast.specs.declared.parts.Note.{Note}
+use Rattle.p416_ast.specs.declared.parts.Type16.{Type16}
+use Rattle.p416_ast.specs.declared.parts.Type16.TheVariants.{Bit, Bool as BoolType, Named}
+use Rattle.p416_ast.specs.declared.parts.Param.{Param}
+use Rattle.p416_ast.specs.declared.parsers.Var.{Var}
+use Rattle.p416_ast.specs.declared.parsers.Target.{Target}
+use Rattle.p416_ast.specs.declared.parsers.Simple.{Simple}
+use Rattle.p416_ast.specs.declared.parsers.Simple.TheVariants as simple
+use Rattle.p416_ast.specs.declared.parsers.SelectCase.{SelectCase}
+use Rattle.p416_ast.specs.declared.parsers.Transition.{Transition}
+use Rattle.p416_ast.specs.declared.parsers.Transition.TheVariants as transition
+use Rattle.p416_ast.specs.declared.parsers.State.{State}
+use Rattle.p416_ast.specs.declared.parsers.Parser16.{Parser16}
+use Rattle.p416_ast.specs.declared.node.CastType.{CastType}
+use Rattle.p416_ast.specs.declared.node.CastType.TheVariants as cast_to
+use Rattle.p416_ast.specs.declared.node.CaseLabel.{CaseLabel}
+use Rattle.p416_ast.specs.declared.node.CaseLabel.TheVariants as label
+use Rattle.p416_ast.specs.declared.controls.Instance.{Instance}
+use Rattle.p416_ast.specs.declared.controls.Instance.TheVariants as instance
+use Rattle.p416_ast.specs.declared.controls.ActionName.{ActionName}
+use Rattle.p416_ast.specs.declared.controls.Action16.{Action16}
+use Rattle.p416_ast.specs.declared.controls.TableKey.{TableKey}
+use Rattle.p416_ast.specs.declared.controls.Table16.{Table16}
+use Rattle.p416_ast.specs.declared.controls.Local.{Local}
+use Rattle.p416_ast.specs.declared.controls.Local.TheVariants as local
+use Rattle.p416_ast.specs.declared.controls.Control16.{Control16}
+use Rattle.p416_ast.specs.declared.program.Decl16.{Decl16}
+use Rattle.p416_ast.specs.declared.program.Decl16.TheVariants as decl
+use Rattle.p416_ast.specs.Properties.{keys_of, actions_of, size_of, counters_of, default_action_of, default_arguments_of}
+use Rattle.p416_ast.specs.Tree.{Exp16, literal, truth, error, name, member, index, slice, call, lookahead, cast, unary, binary, choice, parenthesized, no_arguments, argument, listed, Stmt16, no_statements, then, block, empty, var, var_is, assign, expression, if_then, if_else, switch, no_cases, case_of}
 use Rattle.p416_rules.specs.Names.{Name}
 use Rattle.p416_rules.specs.Kinds.{Kind, bits, boolean}
 use Rattle.p416_rules.specs.Expressions.{kind_of, signature_of, argument_count}

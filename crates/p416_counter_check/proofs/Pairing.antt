@@ -8,11 +8,11 @@ use Rattle.std.proofs.lemmas.List.{map-append}
 use Rattle.std.proofs.lemmas.List.Folds.{list_any-append}
 use Rattle.std.proofs.lemmas.Slice.Eq.{bytes_eq-Decides}
 use Rattle.indexmap.specs.IndexSet.{insert_key}
-use Rattle.p416_ast.specs.declared.grammar.controls.ActionName.{ActionName}
-use Rattle.p416_ast.specs.declared.grammar.controls.ActionName.TheVariants as action_name
-use Rattle.p416_ast.specs.declared.grammar.controls.Table16.{Table16}
-use Rattle.p416_ast.specs.declared.grammar.program.Decl16.{Decl16}
-use Rattle.p416_ast.specs.Grammar.Properties.{actions_of, counters_of}
+use Rattle.p416_ast.specs.declared.controls.ActionName.{ActionName}
+use Rattle.p416_ast.specs.declared.controls.ActionName.TheVariants as action_name
+use Rattle.p416_ast.specs.declared.controls.Table16.{Table16}
+use Rattle.p416_ast.specs.declared.program.Decl16.{Decl16}
+use Rattle.p416_ast.specs.Properties.{actions_of, counters_of}
 use Rattle.p416_rules.specs.Names.{Name}
 use Rattle.p416_rules.specs.Scopes.{a_table}
 use Rattle.p416_rules.specs.Declarations.{top_scope, declaration_uses}

@@ -1,9 +1,9 @@
 -- Direct counters that an action counts outside their table: T9's test of expressions, told by the tables that a declaration has.
 use Rattle.std.specs.Prelude.{Bool, false, not}
 use Rattle.std.specs.List.{list_any}
-use Rattle.p416_ast.specs.declared.grammar.controls.Table16.{Table16}
-use Rattle.p416_ast.specs.declared.grammar.program.Decl16.{Decl16}
-use Rattle.p416_ast.specs.Grammar.Properties.{actions_of, counters_of}
+use Rattle.p416_ast.specs.declared.controls.Table16.{Table16}
+use Rattle.p416_ast.specs.declared.program.Decl16.{Decl16}
+use Rattle.p416_ast.specs.Properties.{actions_of, counters_of}
 use Rattle.p416_rules.specs.Names.{Name}
 use Rattle.p416_rules.specs.Scopes.{a_table}
 use Rattle.p416_rules.specs.Uses.{Use, an_expression}

@@ -1,7 +1,7 @@
 // Whether a direct counter is counted outside its table (`v1model.p4`).
 ghost use Rattle.std.specs.Prelude.{◌≡◌, ℕ, not, map, flat_map, IfOk, List};
 ghost use Rattle.std.specs.List.{list_any};
-ghost use Rattle.p416_ast.specs.declared.grammar.program.Decl16.{Decl16};
+ghost use Rattle.p416_ast.specs.declared.program.Decl16.{Decl16};
 ghost use Rattle.p416_rules.specs.Declarations.{top_scope, declaration_uses};
 ghost use Rattle.p416_expression_uses.specs.Found.{counted_of};
 ghost use Rattle.p416_expression_uses.specs.Seen.{seen_counted};
@@ -10,7 +10,7 @@ ghost use Rattle.p416_counter_check.specs.internal.Pairs.{is_same_pair, is_missi
 
 use crate::pairs::{PairSet, pairs_of};
 use p4x_bits::OutOfMemory;
-use p416_ast::grammar::Decl16;
+use p416_ast::Decl16;
 use p416_expression_uses::Counted;
 use std::alloc::Global;
 

@@ -7,7 +7,7 @@ ghost use Rattle.p416_counter_check.specs.internal.Pairs.{Pair, shown_pair, is_s
 
 use indexmap::IndexSet;
 use p4x_bits::{OutOfMemory, Text};
-use p416_ast::grammar::{ActionName, Decl16, Local, Table16};
+use p416_ast::{ActionName, Decl16, Local, Table16};
 use std::alloc::Global;
 use std::marker::Model;
 

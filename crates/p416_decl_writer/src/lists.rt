@@ -1,7 +1,7 @@
 // Lists of parts.
 ghost use Rattle.std.specs.Prelude.{◌≡◌, ◌++◌, OnOk, IsTrue};
 ghost use Rattle.std.specs.List.{flat_map};
-ghost use Rattle.p416_ast.specs.Grammar.Written.{after_commas, by_commas};
+ghost use Rattle.p416_ast.specs.Written.{after_commas, by_commas};
 ghost use Rattle.p416_spelling.specs.Words.{words16};
 ghost use Rattle.p416_decl_writer.specs.Tokens.{are_spelt};
 

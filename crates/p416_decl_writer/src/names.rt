@@ -1,6 +1,6 @@
 // Names, and the headings of declarations.
 ghost use Rattle.std.specs.Prelude.{◌≡◌, ◌++◌, ◌∷◌, [], OnOk, IsTrue};
-ghost use Rattle.p416_ast.specs.Grammar.Tokens.{id, quoted, is_spelt_seen};
+ghost use Rattle.p416_ast.specs.Tokens.{id, quoted, is_spelt_seen};
 ghost use Rattle.p416_spelling.specs.Words.{words16};
 
 use p4x_bits::{OutOfMemory, Text};

@@ -5,13 +5,13 @@ ghost use Rattle.p416_sheet.specs.declared.sheet.Token16.TheVariants.{At};
 use crate::lists::write_by_commas;
 use crate::written::Written;
 use p4x_bits::OutOfMemory;
-use p416_ast::grammar::Note;
+use p416_ast::Note;
 use p416_lexemes::{Annotation16, Literal16, Mark16};
 use p416_sheet::{Gap, Put16, Sheet16, TextView, Token16, put_token, put_tokens};
 use std::alloc::Global;
 
 impl Written for Literal16 {
-    ghost use Rattle.p416_ast.specs.Grammar.Written.{written_number};
+    ghost use Rattle.p416_ast.specs.Written.{written_number};
 
     ghost plain = { written_number };
 
@@ -23,7 +23,7 @@ impl Written for Literal16 {
 }
 
 impl Written for Note {
-    ghost use Rattle.p416_ast.specs.Grammar.Written.{written_note};
+    ghost use Rattle.p416_ast.specs.Written.{written_note};
 
     ghost plain = { written_note };
 

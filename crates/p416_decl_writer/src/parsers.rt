@@ -4,13 +4,13 @@ use crate::names::write_heading;
 use crate::params::write_params;
 use crate::written::Written;
 use p4x_bits::OutOfMemory;
-use p416_ast::grammar::Parser16;
+use p416_ast::Parser16;
 use p416_lexemes::{Keyword16, Mark16};
 use p416_sheet::{Gap, Put16, Sheet16, Token16, put_tokens};
 use std::alloc::Global;
 
 impl Written for Parser16 {
-    ghost use Rattle.p416_ast.specs.Grammar.Written.{written_parser};
+    ghost use Rattle.p416_ast.specs.Written.{written_parser};
     ghost use Rattle.p416_parentheses.specs.Syntax.{full_parser};
 
     ghost plain = { written_parser };

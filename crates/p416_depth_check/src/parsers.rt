@@ -7,7 +7,7 @@ ghost use Rattle.p416_depth_check.specs.internal.Deep.{is_deep, is_deep_var, is_
 use crate::bodies::{is_deep_body, is_deep_var};
 use crate::expressions::is_deep;
 use p4x_bits::OutOfMemory;
-use p416_ast::grammar::{Exp, Keyset, Parser16, SelectCase, Simple, State, Transition, Var};
+use p416_ast::{Exp, Keyset, Parser16, SelectCase, Simple, State, Transition, Var};
 use std::alloc::Global;
 
 /// Whether one of two expressions nests over 512 deep.

@@ -12,7 +12,7 @@ use crate::bodies::is_deep_instance;
 use crate::controls::is_deep_control;
 use crate::parsers::is_deep_parser;
 use p4x_bits::OutOfMemory;
-use p416_ast::grammar::{Decl16, Syntax16};
+use p416_ast::{Decl16, Syntax16};
 use std::alloc::Global;
 
 /// Whether blocks or expressions of a declaration nest over 512 deep.

@@ -2,7 +2,7 @@
 ghost use Rattle.std.specs.Prelude.{◌≡◌};
 ghost use Rattle.p416_exp_writer.specs.Layouts.{prefix_mark, operator_token, truth_word};
 
-use p416_ast::grammar::{BinaryOperator, UnaryOperator};
+use p416_ast::{BinaryOperator, UnaryOperator};
 use p416_lexemes::{Keyword16, Mark16};
 use p416_sheet::Token16;
 

@@ -1,5 +1,5 @@
 // What is left to be written of an expression.
-use p416_ast::grammar::{CastType, ExpView, Literal16, Type16};
+use p416_ast::{CastType, ExpView, Literal16, Type16};
 use p416_sheet::{Gap, TextView, Token16};
 
 /// Some tokens that are written at once.

@@ -5,7 +5,7 @@ ghost use Rattle.p416_calls.specs.Seen.{seen_callee};
 ghost use Rattle.p416_kinds.specs.Seen.{seen_kind};
 ghost use Rattle.p416_expression_check.specs.internal.Broken.{takes_other_by, miscounted_by, application_by};
 
-use p416_ast::grammar::{ExpHead, ExpView};
+use p416_ast::{ExpHead, ExpView};
 use p416_calls::Callee;
 use p416_kinds::Kind;
 

@@ -15,7 +15,7 @@ use crate::names::is_unknown;
 use crate::sizes::leaves_size;
 use crate::stands::{Standing, applies_nothing, is_misplaced};
 use crate::takes::takes;
-use p416_ast::grammar::ExpView;
+use p416_ast::ExpView;
 use p416_calls::Place;
 use p416_rules::ProgramRule;
 use p416_scopes::Scope;

@@ -6,7 +6,7 @@ ghost use Rattle.p416_rules.specs.Uses.{an_expression};
 ghost use Rattle.p416_kinds.specs.Seen.{seen_kind};
 ghost use Rattle.p416_calls.specs.Seen.{seen_place};
 
-use p416_ast::grammar::{ExpHead, ExpView, Literal16};
+use p416_ast::{ExpHead, ExpView, Literal16};
 use p416_calls::Place;
 use p416_kinds::Kind;
 

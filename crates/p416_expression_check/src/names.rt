@@ -10,7 +10,7 @@ ghost use Rattle.p416_scopes.specs.Seen.{seen_scope};
 ghost use Rattle.p416_expression_check.specs.internal.Broken.{unknown_member_by, unknown_by};
 
 use crate::fits::fits_place;
-use p416_ast::grammar::{ExpHead, ExpView};
+use p416_ast::{ExpHead, ExpView};
 use p416_calls::{Callee, Place};
 use p416_kinds::Kind;
 use p416_names::Top;

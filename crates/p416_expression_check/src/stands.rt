@@ -9,7 +9,7 @@ ghost use Rattle.p416_scopes.specs.Seen.{seen_part};
 ghost use Rattle.p416_expression_check.specs.Stands.{seen_stand};
 ghost use Rattle.p416_expression_check.specs.internal.Broken.{all_allowed, may_stand_by, stands_elsewhere_by, outside_parser_by, misplaced_by};
 
-use p416_ast::grammar::{ExpHead, ExpView};
+use p416_ast::{ExpHead, ExpView};
 use p416_calls::{Callee, Function, Method};
 use p416_kinds::{Kind, is_among};
 use p416_scopes::Part;

@@ -3,9 +3,9 @@ use Rattle.std.proofs.Common.{◌≡◌, Bool, true, false, not, if◌then◌els
 use Rattle.std.proofs.lemmas.Bool.{false≢true}
 use Rattle.std.proofs.lemmas.List.{append_assoc, append-nil}
 use Rattle.p416_lexemes.specs.declared.lexeme.Literal16.{Literal16}
-use Rattle.p416_ast.specs.declared.grammar.parts.Type16.{Type16}
-use Rattle.p416_ast.specs.declared.grammar.parts.Type16.TheVariants.{Named}
-use Rattle.p416_ast.specs.Grammar.Tree.{Exp16, literal, truth, error, name, member, index, slice, call, lookahead, cast, unary, binary, choice, parenthesized, no_arguments, argument, listed}
+use Rattle.p416_ast.specs.declared.parts.Type16.{Type16}
+use Rattle.p416_ast.specs.declared.parts.Type16.TheVariants.{Named}
+use Rattle.p416_ast.specs.Tree.{Exp16, literal, truth, error, name, member, index, slice, call, lookahead, cast, unary, binary, choice, parenthesized, no_arguments, argument, listed}
 use Rattle.p416_rules.specs.declared.rule.ProgramRule.{ProgramRule}
 use Rattle.p416_rules.specs.declared.rule.ProgramRule.TheVariants.{T1, T3}
 use Rattle.p416_rules.specs.Names.{Name}

@@ -1,8 +1,8 @@
 -- An expression is judged from its front to its end as it is judged within itself.
 use Rattle.std.proofs.Common.{◌≡◌, ℕ, ◌+◌, ◌-◌, ◌<◌, List, [], ◌∷◌, ◌++◌, length, drop, map, get_or, refl, sym, ap, ◌∙◌, arith, add-one, drop-cons}
 use Rattle.std.proofs.lemmas.List.{append_assoc, append-nil}
-use Rattle.p416_ast.specs.Grammar.Tree.{Exp16, literal, truth, error, name, member, index, slice, call, lookahead, cast, unary, binary, choice, parenthesized, no_arguments, argument, listed}
-use Rattle.p416_ast.specs.Grammar.Subtrees.{subexpressions}
+use Rattle.p416_ast.specs.Tree.{Exp16, literal, truth, error, name, member, index, slice, call, lookahead, cast, unary, binary, choice, parenthesized, no_arguments, argument, listed}
+use Rattle.p416_ast.specs.Subtrees.{subexpressions}
 use Rattle.p416_rules.specs.Kinds.{boolean}
 use Rattle.p416_rules.specs.Scopes.{Scope, Known}
 use Rattle.p416_rules.specs.Calls.{Place, value, any_bits, owner, a_stack, callee, unasked, method_signature}

@@ -1,7 +1,7 @@
 -- What is found as one use after another is judged: the first rule that is broken, and what questions about more than one use
 -- need.
 use Rattle.std.specs.Prelude.{List, [], ◌∷◌, ◌++◌, option_to_list, if◌then◌else◌, Option, None}
-use Rattle.p416_ast.specs.Grammar.Tree.{Exp16, name, member}
+use Rattle.p416_ast.specs.Tree.{Exp16, name, member}
 use Rattle.p416_rules.specs.declared.rule.ProgramRule.{ProgramRule}
 use Rattle.p416_rules.specs.Names.{Name}
 use Rattle.p416_rules.specs.Kinds.{Kind}

@@ -21,7 +21,7 @@ ghost use Rattle.p416_expression_uses.specs.internal.Plain.{is_plain_use, is_lis
 
 use crate::first::lower;
 use p4x_bits::OutOfMemory;
-use p416_ast::grammar::{ExpHead, ExpView};
+use p416_ast::{ExpHead, ExpView};
 use p416_calls::Place;
 use p416_expression_check::broken_rule;
 use p416_kinds::{Kind, ObjectKind};

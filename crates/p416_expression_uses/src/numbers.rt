@@ -6,7 +6,7 @@ ghost use Rattle.p416_expression_check.specs.Judged.{first_broken};
 ghost use Rattle.p416_expression_uses.specs.Found.{after, after_all};
 
 use crate::found::Findings;
-use p416_ast::grammar::{CastType, Literal16};
+use p416_ast::{CastType, Literal16};
 use p416_expression_check::is_too_large;
 use p416_rules::ProgramRule;
 

@@ -5,7 +5,7 @@ ghost use Rattle.p416_rules.specs.Uses as rules;
 ghost use Rattle.p416_kinds.specs.Seen.{seen_kind};
 ghost use Rattle.p416_calls.specs.Seen.{seen_place, seen_callee};
 
-use p416_ast::grammar::{BinaryOperator, CastType, UnaryOperator};
+use p416_ast::{BinaryOperator, CastType, UnaryOperator};
 use p416_calls::{Callee, Place};
 use p416_kinds::Kind;
 

@@ -8,7 +8,7 @@ ghost use Rattle.p416_calls.specs.Seen.{seen_place};
 ghost use Rattle.p416_expression_uses.specs.Seen.{wanted_in, otherwise_in};
 ghost use Rattle.p416_expression_uses.specs.internal.Runs.{place_in};
 
-use p416_ast::grammar::Action16;
+use p416_ast::Action16;
 use p416_calls::{Callee, Place};
 use p416_names::{Sort, Top};
 

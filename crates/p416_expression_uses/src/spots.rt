@@ -1,6 +1,6 @@
 // Where the parts of an expression that are still to come stand.
 ghost use Rattle.std.specs.Prelude.{◌≡◌, [], ◌∷◌, ◌++◌, OnOk, List};
-ghost use Rattle.p416_ast.specs.Grammar.Heads.{of_exp_head};
+ghost use Rattle.p416_ast.specs.Heads.{of_exp_head};
 ghost use Rattle.p416_rules.specs.Scopes.{Known};
 ghost use Rattle.p416_rules.specs.Declarations.{top_names};
 ghost use Rattle.p416_calls.specs.Seen.{seen_place};
@@ -13,7 +13,7 @@ use crate::operands::{
 };
 use crate::places::{Arguments, Places};
 use p4x_bits::OutOfMemory;
-use p416_ast::grammar::ExpHead;
+use p416_ast::ExpHead;
 use p416_calls::{Callee, Place};
 use p416_kinds::Kind;
 use p416_names::Top;

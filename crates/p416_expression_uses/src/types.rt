@@ -1,6 +1,6 @@
 // Types in their places (P4_16 1.2, "Types", "Name resolution").
 ghost use Rattle.std.specs.Prelude.{◌≡◌, List, map, option_to_list, OnOk};
-ghost use Rattle.p416_ast.specs.declared.grammar.parts.Type16.TheVariants.{Named};
+ghost use Rattle.p416_ast.specs.declared.parts.Type16.TheVariants.{Named};
 ghost use Rattle.p416_rules.specs.Names.{Name};
 ghost use Rattle.p416_rules.specs.Scopes.{Known};
 ghost use Rattle.p416_rules.specs.Types.{is_misplaced};
@@ -17,7 +17,7 @@ ghost use Rattle.p416_expression_uses.specs.internal.Runs.{kind_rule, named_rule
 use crate::found::Findings;
 use crate::numbers::{see_size, see_width};
 use p4x_bits::OutOfMemory;
-use p416_ast::grammar::{Literal16, Type16};
+use p416_ast::{Literal16, Type16};
 use p416_kinds::Kind;
 use p416_names::Sort;
 use p416_rules::ProgramRule;

@@ -1,6 +1,6 @@
 // An expression is gone through from its front to its end; a stack holds where the parts stand that are still to come.
 ghost use Rattle.std.specs.Prelude.{◌≡◌, ◌∷◌, map, List, IfOk, OnOk};
-ghost use Rattle.p416_ast.specs.Grammar.Tree.{Exp16};
+ghost use Rattle.p416_ast.specs.Tree.{Exp16};
 ghost use Rattle.p416_rules.specs.Scopes.{Known};
 ghost use Rattle.p416_rules.specs.Declarations.{top_names};
 ghost use Rattle.p416_rules.specs.Expressions.{kind_of};
@@ -20,7 +20,7 @@ use crate::places::Places;
 use crate::spots::{Spot, push_parts, take_spot};
 use crate::types::{TypePlace, see_type};
 use p4x_bits::OutOfMemory;
-use p416_ast::grammar::{ExpHead, ExpView};
+use p416_ast::{ExpHead, ExpView};
 use p416_calls::Callee;
 use p416_kinds::Kind;
 use p416_scopes::Scope;

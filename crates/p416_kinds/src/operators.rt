@@ -6,7 +6,7 @@ ghost use Rattle.p416_kinds.specs.Seen.{seen_kind};
 ghost use Rattle.p416_kinds.specs.internal.Parts.{chosen_kind, slice_of};
 
 use crate::kind::Kind;
-use p416_ast::grammar::{BinaryOperator, CastType, Literal16, UnaryOperator};
+use p416_ast::{BinaryOperator, CastType, Literal16, UnaryOperator};
 
 /// How many bits `++` makes at most.
 const MOST_BITS: u128 = 128;

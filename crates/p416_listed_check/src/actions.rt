@@ -7,7 +7,7 @@ ghost use Rattle.p416_rules.specs.Tables.{is_not_given, is_bad_action};
 ghost use Rattle.p416_names.specs.Seen.{seen_sort};
 ghost use Rattle.p416_scopes.specs.Seen.{seen_scope};
 
-use p416_ast::grammar::{ActionName, Param};
+use p416_ast::{ActionName, Param};
 use p416_kinds::Kind;
 use p416_names::{Sort, Top};
 use p416_scopes::Scope;

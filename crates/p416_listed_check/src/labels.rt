@@ -1,7 +1,7 @@
 // The labels of `switch` (P4_16 1.2, "Switch statement").
 ghost use Rattle.std.specs.Prelude.{◌≡◌, ◌++◌, [], ◌∷◌, map, filter_map, MatchOption, IfOk, List};
 ghost use Rattle.std.specs.List.{list_any};
-ghost use Rattle.p416_ast.specs.Grammar.Tree.{case_of};
+ghost use Rattle.p416_ast.specs.Tree.{case_of};
 ghost use Rattle.p416_rules.specs.Scopes.{Known, sort_of};
 ghost use Rattle.p416_rules.specs.Statements.{labels_of};
 ghost use Rattle.p416_rules.specs.Declarations.{declared_name, top_names};
@@ -12,7 +12,7 @@ ghost use Rattle.p416_listed_check.specs.internal.Labels.{is_outside_names};
 
 use name_numbers::{Numbering, number_names};
 use p4x_bits::{OutOfMemory, Text};
-use p416_ast::grammar::{ActionName, CaseLabel, StmtHead, StmtView};
+use p416_ast::{ActionName, CaseLabel, StmtHead, StmtView};
 use p416_names::Sort;
 use p416_scopes::Scope;
 use std::alloc::Global;

@@ -9,7 +9,7 @@ ghost use Rattle.std.specs.List.{list_any};
 
 use name_numbers::{Numbering, number_names};
 use p4x_bits::{OutOfMemory, Text};
-use p416_ast::grammar::{ActionName, Note, name_note};
+use p416_ast::{ActionName, Note, name_note};
 use p416_names::Sort;
 use p416_scopes::Scope;
 use std::alloc::Global;

@@ -6,7 +6,7 @@ ghost use Rattle.p416_scopes.specs.Seen.{seen_scope};
 use crate::actions::some_bad_action;
 use crate::planes::mixes_up;
 use p4x_bits::OutOfMemory;
-use p416_ast::grammar::{ActionName, Table16};
+use p416_ast::{ActionName, Table16};
 use p416_scopes::Scope;
 use p416_table_check::{has_bad_keys, has_outside_default};
 use std::alloc::Global;

@@ -7,7 +7,7 @@ ghost use Rattle.p416_rules.specs.Main.{shape, parameter_shape, block_in, block_
 ghost use Rattle.p416_kinds.specs.Seen.{seen_kind};
 ghost use Rattle.p416_main_check.specs.internal.Seen.{seen_block};
 
-use p416_ast::grammar::{Decl16, Direction, Param};
+use p416_ast::{Decl16, Direction, Param};
 use p416_kinds::Kind;
 use p416_names::Top;
 

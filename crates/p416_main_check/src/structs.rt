@@ -8,7 +8,7 @@ ghost use Rattle.p416_kinds.specs.Seen.{seen_kind};
 ghost use Rattle.p416_main_check.specs.internal.Seen.{AreOfBits};
 
 use p4x_bits::OutOfMemory;
-use p416_ast::grammar::StructField;
+use p416_ast::StructField;
 use p416_kinds::Kind;
 use p416_name_set::NameSet;
 use p416_names::{Fields, Top};

@@ -8,8 +8,8 @@ use Rattle.std.proofs.lemmas.Bool.{cases_eq, ne_eqb, lt-ltb, ltb-true}
 use Rattle.std.proofs.lemmas.List.{length-map}
 use Rattle.std.proofs.lemmas.List.Quantifiers.{position-Some}
 use Rattle.std.proofs.lemmas.Option.{slice_get_cases}
-use Rattle.p416_ast.specs.declared.grammar.program.Decl16.{Decl16}
-use Rattle.p416_ast.specs.declared.grammar.program.Decl16.TheVariants as decl
+use Rattle.p416_ast.specs.declared.program.Decl16.{Decl16}
+use Rattle.p416_ast.specs.declared.program.Decl16.TheVariants as decl
 use Rattle.name_numbers.specs.Names.{find_name}
 use Rattle.p416_rules.specs.Names.{Name, has_name}
 use Rattle.p416_rules.specs.Kinds.{Kind}
@@ -19,7 +19,7 @@ use Rattle.p416_rules.specs.Expressions.{field_kind_in}
 use Rattle.p416_rules.specs.Declarations.{top_name, top_names, layouts_of, field_name, member_name, bit_field, struct_field, layout_in}
 use Rattle.p416_rules.specs.Unknown.{declared_name}
 use Rattle.p416_lexemes.specs.declared.lexeme.Literal16.{Literal16}
-use Rattle.p416_ast.specs.declared.grammar.parts.Type16.TheVariants.{Named}
+use Rattle.p416_ast.specs.declared.parts.Type16.TheVariants.{Named}
 use Rattle.p416_names.specs.Seen.{kind_of_named}
 use Rattle.p416_names.specs.internal.Tables.{is_type, field_names, fields_of, bits_of_field, kind_of_field, kind_at, field_in, field_at, fields_at, sort_of_decl, sort_at, declared_sort}
 

@@ -1,7 +1,7 @@
 -- Which sort of the rules a sort of code is, given the names at the top.
 use Rattle.std.specs.Prelude.{List, [], map, Option, Some, None}
 use Rattle.p416_lexemes.specs.declared.lexeme.Literal16.{Literal16}
-use Rattle.p416_ast.specs.Grammar.Properties.{actions_of, counters_of}
+use Rattle.p416_ast.specs.Properties.{actions_of, counters_of}
 use Rattle.p416_rules.specs.Kinds.{Kind, bits}
 use Rattle.p416_rules.specs.Scopes as rule
 use Rattle.p416_rules.specs.Scopes.{Known, type_sort, stack_kind, kind_of_type, handed, plane_name, FieldKind}

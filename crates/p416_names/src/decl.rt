@@ -7,7 +7,7 @@ ghost use Rattle.p416_names.specs.Seen.{seen_sort};
 
 use crate::sort::Sort;
 use p4x_bits::Text;
-use p416_ast::grammar::{Decl16, Instance};
+use p416_ast::{Decl16, Instance};
 use p416_kinds::{Kind, ObjectKind};
 
 /// The name of a stateful object.

@@ -5,7 +5,7 @@ ghost use Rattle.p416_rules.specs.BuiltIn.{standard_layout};
 ghost use Rattle.p416_names.specs.Seen.{seen_fields};
 ghost use Rattle.p416_names.specs.internal.Tables.{fields_of};
 
-use p416_ast::grammar::{BitField, Decl16, StructField};
+use p416_ast::{BitField, Decl16, StructField};
 
 /// The fields of a type.
 #[derive(Clone, Copy, Drop)]

@@ -10,7 +10,7 @@ ghost use Rattle.p416_names.specs.internal.Tables.{field_names, is_type, fields_
 use crate::fields::{Fields, fields_of};
 use name_numbers::{Numbering, number_names};
 use p4x_bits::OutOfMemory;
-use p416_ast::grammar::{BitField, Decl16, StructField};
+use p416_ast::{BitField, Decl16, StructField};
 use std::alloc::Global;
 use std::marker::Model;
 
@@ -22,8 +22,8 @@ pub struct Layout<'a> {
 }
 
 impl<'a> Model for Layout<'a> {
-    ghost use Rattle.p416_ast.specs.declared.grammar.program.Decl16.{Decl16};
-    ghost use Rattle.p416_ast.specs.contracts.grammar.program.Decl16 as declaration;
+    ghost use Rattle.p416_ast.specs.declared.program.Decl16.{Decl16};
+    ghost use Rattle.p416_ast.specs.contracts.program.Decl16 as declaration;
     ghost use Rattle.p416_names.specs.internal.Tables.{field_names};
     ghost use Rattle.std.specs.Prelude.{◌≡◌};
 

@@ -4,7 +4,7 @@ ghost use Rattle.p416_rules.specs.Scopes.{Known, type_sort, stack_kind};
 ghost use Rattle.p416_kinds.specs.Seen.{seen_kind};
 ghost use Rattle.p416_names.specs.Seen.{seen_sort, kind_of_named};
 
-use p416_ast::grammar::{Action16, Literal16, Table16};
+use p416_ast::{Action16, Literal16, Table16};
 use p416_kinds::{Enumeration, Kind, ObjectKind};
 
 /// What a name is declared as.

@@ -16,7 +16,7 @@ use crate::layout::{Field, Layout, is_type, layouts_of};
 use crate::sort::Sort;
 use name_numbers::{Numbering, number_names};
 use p4x_bits::OutOfMemory;
-use p416_ast::grammar::{Decl16, Type16};
+use p416_ast::{Decl16, Type16};
 use p416_kinds::Kind;
 use std::alloc::Global;
 use std::marker::Model;
@@ -34,8 +34,8 @@ pub struct Top<'a> {
 impl<'a> Model for Top<'a> {
     ghost use Rattle.std.specs.Prelude.{◌≡◌, List, map, filter};
     ghost use Rattle.std.specs.Coded.{codes};
-    ghost use Rattle.p416_ast.specs.contracts.grammar.program.Decl16 as declaration;
-    ghost use Rattle.p416_ast.specs.declared.grammar.program.Decl16.{Decl16};
+    ghost use Rattle.p416_ast.specs.contracts.program.Decl16 as declaration;
+    ghost use Rattle.p416_ast.specs.declared.program.Decl16.{Decl16};
     ghost use Rattle.p416_names.specs.internal.Tables.{AreTables};
 
     ghost Value = { List Decl16 };

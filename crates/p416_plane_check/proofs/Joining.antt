@@ -5,8 +5,8 @@ use Rattle.std.specs.Str.{bytes_eq}
 use Rattle.std.proofs.lemmas.List.{map-append}
 use Rattle.std.proofs.lemmas.Bool.{lt-ltb, ltb-true, false≢true}
 use Rattle.name_numbers.specs.Names.{find_name}
-use Rattle.p416_ast.specs.declared.grammar.controls.Control16.{Control16}
-use Rattle.p416_ast.specs.declared.grammar.program.Decl16.{Decl16}
+use Rattle.p416_ast.specs.declared.controls.Control16.{Control16}
+use Rattle.p416_ast.specs.declared.program.Decl16.{Decl16}
 use Rattle.p416_rules.specs.Names.{Name}
 use Rattle.p416_rules.specs.Scopes.{called_of, known_parameter}
 use Rattle.p416_rules.specs.Declarations.{known_local, control_names}

@@ -6,7 +6,7 @@ ghost use Rattle.p416_rules.specs.Tables.{is_not_among, outer_counters};
 
 use name_numbers::{Numbering, number_names};
 use p4x_bits::{OutOfMemory, Text};
-use p416_ast::grammar::{Control16, Decl16, Instance, Local, Param};
+use p416_ast::{Control16, Decl16, Instance, Local, Param};
 use std::alloc::Global;
 
 /// The name of an object.

@@ -5,7 +5,7 @@ ghost use Rattle.p416_rules.specs.Declarations.{instance_name, table_in};
 ghost use Rattle.p416_rules.specs.Tables.{table_plane, tables_of, local_object, objects_of};
 
 use p4x_bits::{OutOfMemory, Text};
-use p416_ast::grammar::{Decl16, Instance, Local, Note, Table16, name_note};
+use p416_ast::{Decl16, Instance, Local, Note, Table16, name_note};
 use std::alloc::Global;
 
 /// The name by which the control plane knows what has these annotations: that of `@name`, else its own.

@@ -6,7 +6,7 @@ ghost use Rattle.p416_rules.specs.Tables.{table_plane, tables_of, objects_of, ou
 use crate::counters::counter_names;
 use crate::names::{object_names, table_names};
 use p4x_bits::OutOfMemory;
-use p416_ast::grammar::Decl16;
+use p416_ast::Decl16;
 use p416_name_set::is_repeated;
 use std::alloc::Global;
 

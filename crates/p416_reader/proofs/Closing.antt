@@ -10,9 +10,9 @@ use Rattle.p416_lexemes.specs.declared.lexeme.Annotation16.TheVariants as note_o
 use Rattle.p416_lexemes.specs.declared.lexeme.Include16.TheVariants as include
 use Rattle.p416_lexemes.specs.declared.mark.Mark16.{Mark16}
 use Rattle.p416_lexemes.specs.declared.mark.Mark16.TheVariants as mark_of
-use Rattle.p416_ast.specs.declared.grammar.node.BinaryOperator.{BinaryOperator}
-use Rattle.p416_ast.specs.declared.grammar.node.BinaryOperator.TheVariants as operator_of
-use Rattle.p416_ast.specs.Grammar.Tokens.{Seen16, id, quoted, number, mark, string, annotation, include_line, opens, brace_open, brace_close, paren_open, paren_close, bracket_close, semicolon, dot, equals}
+use Rattle.p416_ast.specs.declared.node.BinaryOperator.{BinaryOperator}
+use Rattle.p416_ast.specs.declared.node.BinaryOperator.TheVariants as operator_of
+use Rattle.p416_ast.specs.Tokens.{Seen16, id, quoted, number, mark, string, annotation, include_line, opens, brace_open, brace_close, paren_open, paren_close, bracket_close, semicolon, dot, equals}
 use Rattle.p416_reader.specs.declared.symbols.Class.{Class}
 use Rattle.p416_reader.specs.declared.symbols.Class.TheVariants as class
 use Rattle.p416_reader.specs.declared.symbols.Known.TheVariants as known

@@ -12,7 +12,7 @@ use Rattle.p416_lexemes.specs.declared.lexeme.Literal16.{Literal16}
 use Rattle.p416_lexemes.specs.declared.mark.Mark16.{Mark16}
 use Rattle.p416_lexemes.specs.declared.mark.Mark16.TheVariants as mark_of
 use Rattle.p416_lexemes.specs.Keywords.{is_reserved16}
-use Rattle.p416_ast.specs.Grammar.Tokens.{Seen16, id, quoted, number, mark, string, annotation, include_line, joined, opens}
+use Rattle.p416_ast.specs.Tokens.{Seen16, id, quoted, number, mark, string, annotation, include_line, joined, opens}
 use Rattle.p416_reader.specs.declared.symbols.Class.{Class}
 use Rattle.p416_reader.specs.declared.symbols.Class.TheVariants as class
 use Rattle.p416_reader.specs.declared.built.Built.{Built}

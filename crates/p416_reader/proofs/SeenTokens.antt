@@ -4,7 +4,7 @@ use Rattle.std.proofs.lemmas.List.{map-append, drop_all}
 use Rattle.std.specs.Prelude.{slice_get, slice_index_or}
 use Rattle.token_division.specs.declared.division.Token.{Token}
 use Rattle.p416_tok.specs.declared.kind.TokenKind16.{TokenKind16}
-use Rattle.p416_ast.specs.Grammar.Tokens.{Seen16}
+use Rattle.p416_ast.specs.Tokens.{Seen16}
 use Rattle.p416_reader.specs.declared.token.TokenView.{TokenView}
 use Rattle.p416_reader.specs.internal.Lexemes.{seen_of}
 use Rattle.p416_reader.specs.Seen.{Tokens, seen_at, seen_from}

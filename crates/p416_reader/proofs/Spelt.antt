@@ -17,11 +17,11 @@ use Rattle.p416_tok.specs.Front.{front}
 use Rattle.p416_tok.specs.Lexemes.{lexeme_as, lexeme_in, lexemes16}
 use Rattle.p416_tok.proofs.Spelling.{tokens_spelled}
 use Rattle.p416_tok.proofs.Spelt.{all_spelt}
-use Rattle.p416_ast.specs.declared.grammar.program.Syntax16.{Syntax16}
-use Rattle.p416_ast.specs.Grammar.Tokens.{is_spelt_seen, keyword_among, seen_as, seen_word}
-use Rattle.p416_ast.specs.Grammar.Written.{written}
-use Rattle.p416_ast.specs.Grammar.Conditions.{is_syntax, without_parentheses}
-use Rattle.p416_ast.specs.Grammar.Spelt.{is_spelt16}
+use Rattle.p416_ast.specs.declared.program.Syntax16.{Syntax16}
+use Rattle.p416_ast.specs.Tokens.{is_spelt_seen, keyword_among, seen_as, seen_word}
+use Rattle.p416_ast.specs.Written.{written}
+use Rattle.p416_ast.specs.Conditions.{is_syntax, without_parentheses}
+use Rattle.p416_ast.specs.Spelt.{is_spelt16}
 use Rattle.text_reading.specs.declared.error.ReadError.{ReadError}
 use Rattle.p416_reader.specs.Seen.{Tokens, octets_in, seen_greater, seen_less, seen_mark, seen_as_kind, seen_at, seen_from, seen16}
 use Rattle.p416_reader.specs.Reading.{Reads16}

@@ -3,8 +3,8 @@
 use Rattle.std.specs.Prelude.{ℕ, List}
 use Rattle.p4x_fault.specs.declared.Fault.{Fault}
 use Rattle.p416_tok.specs.Front.{front}
-use Rattle.p416_ast.specs.declared.grammar.program.Syntax16.{Syntax16}
-use Rattle.p416_ast.specs.Grammar.Spells.{Spells16}
+use Rattle.p416_ast.specs.declared.program.Syntax16.{Syntax16}
+use Rattle.p416_ast.specs.Spells.{Spells16}
 use Rattle.text_reading.specs.Reading.{Reads, IsRefused}
 use Rattle.p416_reader.specs.Seen.{seen16}
 

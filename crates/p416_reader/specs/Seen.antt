@@ -9,7 +9,7 @@ use Rattle.p416_lexemes.specs.Keywords.{is_reserved16}
 use Rattle.p416_tok.specs.declared.kind.TokenKind16.{TokenKind16}
 use Rattle.p416_tok.specs.declared.kind.TokenKind16.TheVariants as kind
 use Rattle.p416_tok.specs.Lexemes.{inner}
-use Rattle.p416_ast.specs.Grammar.Tokens.{Seen16, number, mark, string, annotation, include_line, joined, opens, seen_word, lookahead_text}
+use Rattle.p416_ast.specs.Tokens.{Seen16, number, mark, string, annotation, include_line, joined, opens, seen_word, lookahead_text}
 
 abbrev pub Tokens : Type 0
 Tokens = List (Token TokenKind16)

@@ -5,13 +5,13 @@ ghost use Rattle.p416_reader.specs.declared.built.Built.{Built};
 ghost use Rattle.p416_reader.specs.internal.Actions.{put_body, with_bodies, first_exp, first_stmt};
 ghost use Rattle.p416_reader.specs.internal.Built.{no_bodies};
 ghost use Rattle.p416_reader.specs.internal.Classes.{is_type_like};
-ghost use Rattle.p416_ast.specs.Grammar.Conditions.{is_call};
+ghost use Rattle.p416_ast.specs.Conditions.{is_call};
 
 use crate::forest::Forest;
 use crate::parts::Parts;
 use crate::symbols::BodyAction;
 use p4x_bits::{OutOfMemory, Text};
-use p416_ast::grammar::{Block16, CaseLabel, CastType, Exp, ExpNode, StmtNode};
+use p416_ast::{Block16, CaseLabel, CastType, Exp, ExpNode, StmtNode};
 use std::alloc::Global;
 use std::marker::Model;
 
@@ -25,7 +25,7 @@ pub struct Bodies {
 impl Model for Bodies {
     ghost use Rattle.p416_reader.specs.internal.Bodies as bodies;
     ghost use Rattle.std.specs.Coded.{codes};
-    ghost use Rattle.p416_ast.specs.Grammar.Code.{coded_exp, coded_stmt};
+    ghost use Rattle.p416_ast.specs.Code.{coded_exp, coded_stmt};
 
     ghost Value = { bodies.Bodies };
 

@@ -1,6 +1,6 @@
 // Which row of the operators is taken: what follows an operator depends on how tightly it binds.
 ghost use Rattle.std.specs.Prelude.{◌≡◌, ◌<◌, length, map, Some, None, IfOk, slice_get};
-ghost use Rattle.p416_ast.specs.Grammar.Tokens.{Seen16};
+ghost use Rattle.p416_ast.specs.Tokens.{Seen16};
 ghost use Rattle.p416_reader.specs.internal.Lexemes.{seen_of};
 ghost use Rattle.p416_reader.specs.internal.Classes.{infix_of};
 ghost use Rattle.p416_reader.specs.internal.Rows as specs;
@@ -12,7 +12,7 @@ use crate::rows::{COLON, GREATER, Sym};
 use crate::symbols::{Action, BodyAction, BodyWord, Class, Word};
 use crate::token::token_at;
 use p4x_bits::OutOfMemory;
-use p416_ast::grammar::BinaryOperator;
+use p416_ast::BinaryOperator;
 use predictive_parser::{Alternative, Stack, Symbol, choose_first};
 
 const OPERAND: Sym = Symbol::Word(Word::Body(BodyWord::Operand));

@@ -7,7 +7,7 @@ ghost use Rattle.p416_reader.specs.internal.Actions.{put_decl, with_decl};
 use crate::built::Built;
 use crate::symbols::DeclAction;
 use p4x_bits::{OutOfMemory, Rows, Text};
-use p416_ast::grammar::{BitField, Control16, Decl16, Header16, Parser16, Struct16, StructField};
+use p416_ast::{BitField, Control16, Decl16, Header16, Parser16, Struct16, StructField};
 use predictive_parser::ValueStack;
 use std::alloc::Global;
 

@@ -1,11 +1,11 @@
 // The operators of expressions.
 ghost use Rattle.std.specs.Prelude.{◌≡◌, ◌≤◌};
-ghost use Rattle.p416_ast.specs.Grammar.Operators.{binary_power};
+ghost use Rattle.p416_ast.specs.Operators.{binary_power};
 ghost use Rattle.p416_reader.specs.internal.Classes.{infix_of, infix_mark, is_infix};
 ghost use Rattle.p416_reader.specs.internal.Lexemes.{seen_of};
 
 use crate::token::TokenView;
-use p416_ast::grammar::BinaryOperator;
+use p416_ast::BinaryOperator;
 use p416_lexemes::Mark16;
 use predictive_parser::may_follow;
 

@@ -1,15 +1,15 @@
 // Annotations, types, parameters and members of enumerations, as they are put together.
 ghost use Rattle.std.specs.Prelude.{◌≡◌, [], ◌∷◌, None, OnOk};
 ghost use Rattle.predictive_parser.specs.Values.{newest, older, extended};
-ghost use Rattle.p416_ast.specs.declared.grammar.parts.Note.TheVariants as note;
-ghost use Rattle.p416_ast.specs.declared.grammar.parts.Type16.TheVariants as kind;
-ghost use Rattle.p416_ast.specs.declared.grammar.parts.Direction.{Direction};
+ghost use Rattle.p416_ast.specs.declared.parts.Note.TheVariants as note;
+ghost use Rattle.p416_ast.specs.declared.parts.Type16.TheVariants as kind;
+ghost use Rattle.p416_ast.specs.declared.parts.Direction.{Direction};
 ghost use Rattle.p416_reader.specs.internal.Built.{no_parts};
 ghost use Rattle.p416_reader.specs.internal.Actions.{last_name, last_literal, last_type, last_member, last_notes, without_name, without_literal, without_type, without_member, without_notes, put_part};
 
 use crate::symbols::PartAction;
 use p4x_bits::{OutOfMemory, Rows, Text};
-use p416_ast::grammar::{Direction, HashAlgorithm, Literal16, Member, Note, Param, Type16};
+use p416_ast::{Direction, HashAlgorithm, Literal16, Member, Note, Param, Type16};
 use predictive_parser::ValueStack;
 use std::alloc::Global;
 

@@ -1,8 +1,8 @@
 // The reading of a text.
 ghost use Rattle.std.specs.Prelude.{◌≡◌, map, Ok, Err, IfOk, IsTrue};
 ghost use Rattle.p4x_fault.specs.declared.Fault.{Fault};
-ghost use Rattle.p416_ast.specs.declared.grammar.program.Syntax16.{Syntax16};
-ghost use Rattle.p416_ast.specs.Grammar.Spelt.{is_spelt16};
+ghost use Rattle.p416_ast.specs.declared.program.Syntax16.{Syntax16};
+ghost use Rattle.p416_ast.specs.Spelt.{is_spelt16};
 ghost use Rattle.predictive_parser.specs.Grammar.{parse};
 ghost use Rattle.text_reading.specs.Reading.{IfRefused, Answers};
 ghost use Rattle.text_reading.specs.internal.Machine.{IsParsed};
@@ -19,7 +19,7 @@ use crate::built::Built;
 use crate::reading::Reading;
 use crate::symbols::{DeclWord, Word};
 use crate::token::{TokenView, views_of};
-use p416_ast::grammar::Syntax16;
+use p416_ast::Syntax16;
 use p416_tok::{Token16, tokens16};
 use std::alloc::Global;
 use text_reading::{ReadError, parse_text};

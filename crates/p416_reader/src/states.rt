@@ -1,10 +1,10 @@
 // Parsers and their states, as they are put together.
 ghost use Rattle.std.specs.Prelude.{◌≡◌, OnOk, IfOk, [], ◌∷◌, None, Some};
 ghost use Rattle.predictive_parser.specs.Values.{newest, older, extended};
-ghost use Rattle.p416_ast.specs.declared.grammar.parsers.Simple.TheVariants as simple;
-ghost use Rattle.p416_ast.specs.declared.grammar.parsers.Keyset.TheVariants as keyset;
-ghost use Rattle.p416_ast.specs.declared.grammar.parsers.Target.TheVariants as target;
-ghost use Rattle.p416_ast.specs.declared.grammar.parsers.Transition.TheVariants as transition;
+ghost use Rattle.p416_ast.specs.declared.parsers.Simple.TheVariants as simple;
+ghost use Rattle.p416_ast.specs.declared.parsers.Keyset.TheVariants as keyset;
+ghost use Rattle.p416_ast.specs.declared.parsers.Target.TheVariants as target;
+ghost use Rattle.p416_ast.specs.declared.parsers.Transition.TheVariants as transition;
 ghost use Rattle.p416_reader.specs.declared.built.Built.{Built};
 ghost use Rattle.p416_reader.specs.internal.Built.{no_bodies, no_states};
 ghost use Rattle.p416_reader.specs.internal.Actions.{put_state, first_exp, first_stmt, last_name, last_type, without_name, without_type, without_exp, without_block, with_states};
@@ -13,7 +13,7 @@ use crate::bodies::Bodies;
 use crate::parts::Parts;
 use crate::symbols::StateAction;
 use p4x_bits::{OutOfMemory, Rows};
-use p416_ast::grammar::{
+use p416_ast::{
     Block16, Exp, ExpNode, Keyset, Nodes, SelectCase, Simple, State, StmtNode, Target, Transition,
     Var,
 };

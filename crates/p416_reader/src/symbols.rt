@@ -1,5 +1,5 @@
 // What the rows of the grammar are made of: classes of tokens, actions and words.
-use p416_ast::grammar::{BinaryOperator, Direction, Member, UnaryOperator};
+use p416_ast::{BinaryOperator, Direction, Member, UnaryOperator};
 use p416_lexemes::{Annotation16, Include16, Keyword16, Mark16};
 
 /// A name that the grammar quotes and that isn't reserved.

@@ -1,6 +1,6 @@
 // Keysets: a value in parentheses is a tuple of one, and where an expression goes on they are parentheses.
 use crate::setting::{behind_mark, with_case};
-use p416_ast::grammar::{Decl16, Keyset, SelectCase, Simple, Syntax16, Transition};
+use p416_ast::{Decl16, Keyset, SelectCase, Simple, Syntax16, Transition};
 use p416_reader::read16;
 use std::alloc::Global;
 use std::process::Abort;

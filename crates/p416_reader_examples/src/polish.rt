@@ -1,5 +1,5 @@
 // Trees in Polish notation: each node in front of its parts, with a blank in front of each word.
-use p416_ast::grammar::{
+use p416_ast::{
     BinaryOperator, CaseLabel, CastType, ExpHead, ExpView, Literal16, StmtHead, StmtView, Type16,
     UnaryOperator, all_expressions, own_expressions, statements_within,
 };

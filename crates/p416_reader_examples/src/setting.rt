@@ -1,7 +1,7 @@
 // What the examples have in common: where the rows of a table stand in a program, and what is expected of each.
 use crate::polish::statement_text;
 use p4x_fault::{Fault, Place, Rule};
-use p416_ast::grammar::{Decl16, StmtHead, StmtView, Syntax16};
+use p416_ast::{Decl16, StmtHead, StmtView, Syntax16};
 use p416_reader::{ReadError, read16};
 use std::alloc::Global;
 use std::process::Abort;

@@ -1,5 +1,5 @@
 // Programs that are put together from pieces.
-use p416_ast::grammar::Syntax16;
+use p416_ast::Syntax16;
 use p416_reader::read16;
 use std::test::Fail;
 

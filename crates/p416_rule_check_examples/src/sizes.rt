@@ -1,7 +1,7 @@
 // T12: how large headers, metadata and what variables hold are.
 use crate::setting::syntax_of;
 use p4x_bits::OutOfMemory;
-use p416_ast::grammar::Syntax16;
+use p416_ast::Syntax16;
 use p416_kinds::Kind;
 use p416_names::Top;
 use p416_size_check::{has_large_headers, has_large_variables};

@@ -1,7 +1,7 @@
 // T1: names at the top and in `main`, and structs that hold themselves.
 use crate::setting::syntax_of;
 use p4x_bits::OutOfMemory;
-use p416_ast::grammar::Syntax16;
+use p416_ast::Syntax16;
 use p416_names::Top;
 use p416_top_check::{declares_twice, names_no_block};
 use p416_type_totals::TypeTotals;

@@ -2,9 +2,9 @@
 -- "Match-action unit invocation"). In a key no table is applied either: that is this project's own.
 use Rattle.std.specs.Prelude.{ℕ, Bool, true, false, ◌&&◌, List, map, filter_map, position, Option, Some, None}
 use Rattle.std.specs.Str.{bytes_eq}
-use Rattle.p416_ast.specs.declared.grammar.controls.Action16.{Action16}
-use Rattle.p416_ast.specs.declared.grammar.controls.Control16.{Control16}
-use Rattle.p416_ast.specs.Grammar.Tree.{Exp16, name, call}
+use Rattle.p416_ast.specs.declared.controls.Action16.{Action16}
+use Rattle.p416_ast.specs.declared.controls.Control16.{Control16}
+use Rattle.p416_ast.specs.Tree.{Exp16, name, call}
 use Rattle.p416_rules.specs.Names.{Name}
 use Rattle.p416_rules.specs.Kinds.{Kind, applied}
 use Rattle.p416_rules.specs.Scopes.{Sort, an_action, Scope, sort_of, Part, in_action, in_key}

@@ -2,7 +2,7 @@
 -- action is a call too.
 use Rattle.std.specs.Prelude.{ℕ, Bool, false, not, nat_eq, length}
 use Rattle.std.specs.Option.{option_map_or}
-use Rattle.p416_ast.specs.Grammar.Tree.{Exp16, call, lookahead}
+use Rattle.p416_ast.specs.Tree.{Exp16, call, lookahead}
 use Rattle.p416_rules.specs.Calls.{Signature}
 use Rattle.p416_rules.specs.Scopes.{Scope}
 use Rattle.p416_rules.specs.Expressions.{signature_of, argument_count}

@@ -4,9 +4,9 @@ use Rattle.std.specs.List.{list_any}
 use Rattle.digraph.specs.Expansions.{HasCycle}
 use Rattle.p4x_fault.specs.declared.Fault.{Fault}
 use Rattle.p4x_fault.specs.declared.Rule.TheVariants.{T}
-use Rattle.p416_ast.specs.declared.grammar.program.Decl16.{Decl16}
-use Rattle.p416_ast.specs.declared.grammar.program.Decl16.TheVariants as decl
-use Rattle.p416_ast.specs.declared.grammar.program.Syntax16.{Syntax16}
+use Rattle.p416_ast.specs.declared.program.Decl16.{Decl16}
+use Rattle.p416_ast.specs.declared.program.Decl16.TheVariants as decl
+use Rattle.p416_ast.specs.declared.program.Syntax16.{Syntax16}
 use Rattle.p416_rules.specs.declared.rule.ProgramRule.{ProgramRule}
 use Rattle.p416_rules.specs.declared.rule.ProgramRule.TheVariants.{T1, T2, T3, T4, T5, T6, T7, T8, T9, T10, T11, T12}
 use Rattle.p416_rules.specs.Names.{Name}

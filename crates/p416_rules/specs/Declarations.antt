@@ -5,39 +5,39 @@ use Rattle.std.specs.Prelude.{ℕ, ◌+◌, Bool, true, List, [], ◌∷◌, ◌
 use Rattle.std.specs.Option.{option_map_or}
 use Rattle.std.specs.Str.{bytes_eq}
 use Rattle.p416_lexemes.specs.declared.lexeme.Literal16.{Literal16}
-use Rattle.p416_ast.specs.declared.grammar.parts.Note.{Note}
-use Rattle.p416_ast.specs.declared.grammar.parts.Note.TheVariants as note
-use Rattle.p416_ast.specs.declared.grammar.parts.Param.{Param}
-use Rattle.p416_ast.specs.declared.grammar.parts.BitField.{BitField}
-use Rattle.p416_ast.specs.declared.grammar.parts.Header16.{Header16}
-use Rattle.p416_ast.specs.declared.grammar.parts.StructField.{StructField}
-use Rattle.p416_ast.specs.declared.grammar.parts.Struct16.{Struct16}
-use Rattle.p416_ast.specs.declared.grammar.parsers.Var.{Var}
-use Rattle.p416_ast.specs.declared.grammar.parsers.Target.{Target}
-use Rattle.p416_ast.specs.declared.grammar.parsers.Target.TheVariants as target_of
-use Rattle.p416_ast.specs.declared.grammar.parsers.Simple.{Simple}
-use Rattle.p416_ast.specs.declared.grammar.parsers.Simple.TheVariants as simple
-use Rattle.p416_ast.specs.declared.grammar.parsers.Keyset.{Keyset}
-use Rattle.p416_ast.specs.declared.grammar.parsers.Keyset.TheVariants as keyset
-use Rattle.p416_ast.specs.declared.grammar.parsers.SelectCase.{SelectCase}
-use Rattle.p416_ast.specs.declared.grammar.parsers.Transition.{Transition}
-use Rattle.p416_ast.specs.declared.grammar.parsers.Transition.TheVariants as transition
-use Rattle.p416_ast.specs.declared.grammar.parsers.State.{State}
-use Rattle.p416_ast.specs.declared.grammar.parsers.Parser16.{Parser16}
-use Rattle.p416_ast.specs.declared.grammar.controls.Instance.{Instance}
-use Rattle.p416_ast.specs.declared.grammar.controls.Instance.TheVariants as instance
-use Rattle.p416_ast.specs.declared.grammar.controls.Action16.{Action16}
-use Rattle.p416_ast.specs.declared.grammar.controls.ActionName.{ActionName}
-use Rattle.p416_ast.specs.declared.grammar.controls.ActionName.TheVariants as action_name
-use Rattle.p416_ast.specs.declared.grammar.controls.TableKey.{TableKey}
-use Rattle.p416_ast.specs.declared.grammar.controls.Table16.{Table16}
-use Rattle.p416_ast.specs.declared.grammar.controls.Local.{Local}
-use Rattle.p416_ast.specs.declared.grammar.controls.Local.TheVariants as local
-use Rattle.p416_ast.specs.declared.grammar.controls.Control16.{Control16}
-use Rattle.p416_ast.specs.declared.grammar.program.Decl16.{Decl16}
-use Rattle.p416_ast.specs.declared.grammar.program.Decl16.TheVariants as decl
-use Rattle.p416_ast.specs.Grammar.Properties.{keys_of, actions_of, size_of, counters_of, default_action_of, default_arguments_of}
-use Rattle.p416_ast.specs.Grammar.Tree.{Exp16, Stmt16}
+use Rattle.p416_ast.specs.declared.parts.Note.{Note}
+use Rattle.p416_ast.specs.declared.parts.Note.TheVariants as note
+use Rattle.p416_ast.specs.declared.parts.Param.{Param}
+use Rattle.p416_ast.specs.declared.parts.BitField.{BitField}
+use Rattle.p416_ast.specs.declared.parts.Header16.{Header16}
+use Rattle.p416_ast.specs.declared.parts.StructField.{StructField}
+use Rattle.p416_ast.specs.declared.parts.Struct16.{Struct16}
+use Rattle.p416_ast.specs.declared.parsers.Var.{Var}
+use Rattle.p416_ast.specs.declared.parsers.Target.{Target}
+use Rattle.p416_ast.specs.declared.parsers.Target.TheVariants as target_of
+use Rattle.p416_ast.specs.declared.parsers.Simple.{Simple}
+use Rattle.p416_ast.specs.declared.parsers.Simple.TheVariants as simple
+use Rattle.p416_ast.specs.declared.parsers.Keyset.{Keyset}
+use Rattle.p416_ast.specs.declared.parsers.Keyset.TheVariants as keyset
+use Rattle.p416_ast.specs.declared.parsers.SelectCase.{SelectCase}
+use Rattle.p416_ast.specs.declared.parsers.Transition.{Transition}
+use Rattle.p416_ast.specs.declared.parsers.Transition.TheVariants as transition
+use Rattle.p416_ast.specs.declared.parsers.State.{State}
+use Rattle.p416_ast.specs.declared.parsers.Parser16.{Parser16}
+use Rattle.p416_ast.specs.declared.controls.Instance.{Instance}
+use Rattle.p416_ast.specs.declared.controls.Instance.TheVariants as instance
+use Rattle.p416_ast.specs.declared.controls.Action16.{Action16}
+use Rattle.p416_ast.specs.declared.controls.ActionName.{ActionName}
+use Rattle.p416_ast.specs.declared.controls.ActionName.TheVariants as action_name
+use Rattle.p416_ast.specs.declared.controls.TableKey.{TableKey}
+use Rattle.p416_ast.specs.declared.controls.Table16.{Table16}
+use Rattle.p416_ast.specs.declared.controls.Local.{Local}
+use Rattle.p416_ast.specs.declared.controls.Local.TheVariants as local
+use Rattle.p416_ast.specs.declared.controls.Control16.{Control16}
+use Rattle.p416_ast.specs.declared.program.Decl16.{Decl16}
+use Rattle.p416_ast.specs.declared.program.Decl16.TheVariants as decl
+use Rattle.p416_ast.specs.Properties.{keys_of, actions_of, size_of, counters_of, default_action_of, default_arguments_of}
+use Rattle.p416_ast.specs.Tree.{Exp16, Stmt16}
 use Rattle.p416_rules.specs.Names.{Name}
 use Rattle.p416_rules.specs.Kinds.{counter_type, meter_type, counter, direct_counter, register, meter, Kind, bits, header, struct, unknown}
 use Rattle.p416_rules.specs.Scopes.{Handed, Sort, a_type, a_value, an_object, an_action, a_table, a_state, a_block, Known, known, called_of, FieldKind, Layout, in_parser, in_apply, in_action, in_key, elsewhere, Scope, sort_of, inside, kind_of_type, known_parameter, handed, plane_name}

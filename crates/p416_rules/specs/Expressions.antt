@@ -6,13 +6,13 @@ use Rattle.std.specs.Prelude.{ℕ, suc, ◌+◌, ◌-◌, Bool, true, false, ◌
 use Rattle.std.specs.Option.{option_map_or}
 use Rattle.std.specs.Str.{bytes_eq}
 use Rattle.p416_lexemes.specs.declared.lexeme.Literal16.{Literal16}
-use Rattle.p416_ast.specs.declared.grammar.node.CastType.{CastType}
-use Rattle.p416_ast.specs.declared.grammar.node.CastType.TheVariants as cast_to
-use Rattle.p416_ast.specs.declared.grammar.node.UnaryOperator.{UnaryOperator}
-use Rattle.p416_ast.specs.declared.grammar.node.UnaryOperator.TheVariants.{Not, Complement, Negate}
-use Rattle.p416_ast.specs.declared.grammar.node.BinaryOperator.{BinaryOperator}
-use Rattle.p416_ast.specs.declared.grammar.node.BinaryOperator.TheVariants.{Multiply, Add, Subtract, SaturatingAdd, SaturatingSubtract, Concatenate, ShiftLeft, ShiftRight, BitAnd, BitXor, BitOr, Less, LessEqual, Greater, GreaterEqual, Equal, NotEqual, And, Or}
-use Rattle.p416_ast.specs.Grammar.Tree.{Exp16, literal, truth, error, name, member, index, slice, call, lookahead, cast, unary, binary, choice, argument, listed}
+use Rattle.p416_ast.specs.declared.node.CastType.{CastType}
+use Rattle.p416_ast.specs.declared.node.CastType.TheVariants as cast_to
+use Rattle.p416_ast.specs.declared.node.UnaryOperator.{UnaryOperator}
+use Rattle.p416_ast.specs.declared.node.UnaryOperator.TheVariants.{Not, Complement, Negate}
+use Rattle.p416_ast.specs.declared.node.BinaryOperator.{BinaryOperator}
+use Rattle.p416_ast.specs.declared.node.BinaryOperator.TheVariants.{Multiply, Add, Subtract, SaturatingAdd, SaturatingSubtract, Concatenate, ShiftLeft, ShiftRight, BitAnd, BitXor, BitOr, Less, LessEqual, Greater, GreaterEqual, Equal, NotEqual, And, Or}
+use Rattle.p416_ast.specs.Tree.{Exp16, literal, truth, error, name, member, index, slice, call, lookahead, cast, unary, binary, choice, argument, listed}
 use Rattle.p416_rules.specs.Names.{Name, has_name}
 use Rattle.p416_rules.specs.Kinds.{Kind, bits, unsized, boolean, error_code, header, stack, struct, packet_in, errors, enumeration, one_of, table, applied, object, items, unknown, is_same_kind}
 use Rattle.p416_rules.specs.Scopes.{Sort, a_value, an_enumeration, an_object, an_action, a_table, a_function, Scope, sort_of, kind_of_type, FieldKind, fields_in, Layout}

@@ -5,7 +5,7 @@ use Rattle.std.specs.Prelude.{ℕ, Bool, true, false, not, ◌&&◌, nat_eq, Lis
 use Rattle.std.specs.List.{list_any, list_all}
 use Rattle.std.specs.Option.{option_map_or}
 use Rattle.std.specs.Str.{bytes_eq}
-use Rattle.p416_ast.specs.Grammar.Tree.{Exp16, member, call, lookahead}
+use Rattle.p416_ast.specs.Tree.{Exp16, member, call, lookahead}
 use Rattle.p416_rules.specs.Names.{Name}
 use Rattle.p416_rules.specs.Kinds.{is_stack}
 use Rattle.p416_rules.specs.Scopes.{Scope, Part, in_parser, in_action}

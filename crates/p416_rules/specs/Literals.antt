@@ -3,7 +3,7 @@
 use Rattle.std.specs.Prelude.{ℕ, Bool, false, nat_le, ◌^◌, Option, Some, None}
 use Rattle.std.specs.Option.{option_map_or}
 use Rattle.p416_lexemes.specs.declared.lexeme.Literal16.{Literal16}
-use Rattle.p416_ast.specs.Grammar.Tree.{literal}
+use Rattle.p416_ast.specs.Tree.{literal}
 use Rattle.p416_rules.specs.Kinds.{Kind, bits}
 use Rattle.p416_rules.specs.Calls.{Place, value, written, literal_of}
 use Rattle.p416_rules.specs.Uses.{Use, an_expression, a_width, a_size, a_number}

@@ -5,12 +5,12 @@
 use Rattle.std.specs.Prelude.{ℕ, zero, suc, Bool, true, false, ◌&&◌, ◌||◌, if◌then◌else◌, List, [], ◌∷◌, map, Option, Some, None}
 use Rattle.std.specs.List.{list_all}
 use Rattle.std.specs.Str.{bytes_eq}
-use Rattle.p416_ast.specs.declared.grammar.parts.Direction.{Direction}
-use Rattle.p416_ast.specs.declared.grammar.parts.Direction.TheVariants.{In, Out, InOut}
-use Rattle.p416_ast.specs.declared.grammar.parts.Param.{Param}
-use Rattle.p416_ast.specs.declared.grammar.program.Decl16.{Decl16}
-use Rattle.p416_ast.specs.declared.grammar.program.Decl16.TheVariants as decl
-use Rattle.p416_ast.specs.declared.grammar.program.Syntax16.{Syntax16}
+use Rattle.p416_ast.specs.declared.parts.Direction.{Direction}
+use Rattle.p416_ast.specs.declared.parts.Direction.TheVariants.{In, Out, InOut}
+use Rattle.p416_ast.specs.declared.parts.Param.{Param}
+use Rattle.p416_ast.specs.declared.program.Decl16.{Decl16}
+use Rattle.p416_ast.specs.declared.program.Decl16.TheVariants as decl
+use Rattle.p416_ast.specs.declared.program.Syntax16.{Syntax16}
 use Rattle.p416_rules.specs.Names.{Name}
 use Rattle.p416_rules.specs.Kinds.{Kind, struct, packet_in, packet_out, unknown, is_same_kind, is_bits, is_header, is_stack}
 use Rattle.p416_rules.specs.Scopes.{Known, Layout, FieldKind, fields_in, kind_of_type}

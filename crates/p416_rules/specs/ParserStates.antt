@@ -4,12 +4,12 @@
 use Rattle.std.specs.Prelude.{ℕ, ◌⊎◌, IsTrue, Bool, false, not, ◌||◌, if◌then◌else◌, List, [], map, filter_map, option_to_list, position, codes, Option}
 use Rattle.std.specs.Str.{bytes_eq}
 use Rattle.digraph.specs.Expansions.{HasCycle}
-use Rattle.p416_ast.specs.declared.grammar.parsers.SelectCase.{SelectCase}
-use Rattle.p416_ast.specs.declared.grammar.parsers.Transition.{Transition}
-use Rattle.p416_ast.specs.declared.grammar.parsers.Transition.TheVariants as transition
-use Rattle.p416_ast.specs.declared.grammar.parsers.State.{State}
-use Rattle.p416_ast.specs.declared.grammar.parsers.Parser16.{Parser16}
-use Rattle.p416_ast.specs.Grammar.Tree.{Exp16, member, call, Stmt16, then, block, expression}
+use Rattle.p416_ast.specs.declared.parsers.SelectCase.{SelectCase}
+use Rattle.p416_ast.specs.declared.parsers.Transition.{Transition}
+use Rattle.p416_ast.specs.declared.parsers.Transition.TheVariants as transition
+use Rattle.p416_ast.specs.declared.parsers.State.{State}
+use Rattle.p416_ast.specs.declared.parsers.Parser16.{Parser16}
+use Rattle.p416_ast.specs.Tree.{Exp16, member, call, Stmt16, then, block, expression}
 use Rattle.p416_rules.specs.Names.{Name, has_name}
 use Rattle.p416_rules.specs.Declarations.{state_name, target_name}
 

@@ -4,11 +4,11 @@
 use Rattle.std.specs.Prelude.{ℕ, ◌+◌, ◌%◌, Bool, false, not, ◌&&◌, ◌||◌, nat_lt, nat_le, nat_eq, sum_by}
 use Rattle.std.specs.List.{list_any}
 use Rattle.p416_lexemes.specs.declared.lexeme.Literal16.{Literal16}
-use Rattle.p416_ast.specs.declared.grammar.parts.BitField.{BitField}
-use Rattle.p416_ast.specs.declared.grammar.parts.Header16.{Header16}
-use Rattle.p416_ast.specs.declared.grammar.node.BinaryOperator.{BinaryOperator}
-use Rattle.p416_ast.specs.declared.grammar.node.BinaryOperator.TheVariants.{Concatenate}
-use Rattle.p416_ast.specs.Grammar.Tree.{Exp16, index, slice, binary}
+use Rattle.p416_ast.specs.declared.parts.BitField.{BitField}
+use Rattle.p416_ast.specs.declared.parts.Header16.{Header16}
+use Rattle.p416_ast.specs.declared.node.BinaryOperator.{BinaryOperator}
+use Rattle.p416_ast.specs.declared.node.BinaryOperator.TheVariants.{Concatenate}
+use Rattle.p416_ast.specs.Tree.{Exp16, index, slice, binary}
 use Rattle.p416_rules.specs.Kinds.{Kind, bits, stack}
 use Rattle.p416_rules.specs.Scopes.{Scope}
 use Rattle.p416_rules.specs.Expressions.{kind_of, leaves_width}

@@ -2,10 +2,10 @@
 -- "Variable declarations", "Switch statement"). A variable is in scope behind its declaration, up to the end of its block;
 -- the block, a branch of an `if` without braces and the statements of a case are scopes of their own.
 use Rattle.std.specs.Prelude.{ℕ, ◌+◌, ◌||◌, max, true, if◌then◌else◌, List, [], ◌∷◌, ◌++◌, flat_map}
-use Rattle.p416_ast.specs.declared.grammar.parts.Type16.{Type16}
-use Rattle.p416_ast.specs.declared.grammar.node.CaseLabel.{CaseLabel}
-use Rattle.p416_ast.specs.declared.grammar.node.CaseLabel.TheVariants as case_label
-use Rattle.p416_ast.specs.Grammar.Tree.{Stmt16, no_statements, then, block, var, var_is, assign, expression, if_then, if_else, switch, no_cases, case_of}
+use Rattle.p416_ast.specs.declared.parts.Type16.{Type16}
+use Rattle.p416_ast.specs.declared.node.CaseLabel.{CaseLabel}
+use Rattle.p416_ast.specs.declared.node.CaseLabel.TheVariants as case_label
+use Rattle.p416_ast.specs.Tree.{Stmt16, no_statements, then, block, var, var_is, assign, expression, if_then, if_else, switch, no_cases, case_of}
 use Rattle.p416_rules.specs.Names.{Name}
 use Rattle.p416_rules.specs.Kinds.{Kind, boolean, is_packet}
 use Rattle.p416_rules.specs.Scopes.{Scope, known, a_value, inside, kind_of_type}

@@ -8,19 +8,19 @@ use Rattle.std.specs.Prelude.{Bool, true, false, not, ◌&&◌, ◌||◌, nat_lt
 use Rattle.std.specs.List.{list_any}
 use Rattle.std.specs.Option.{option_map_or}
 use Rattle.std.specs.Str.{bytes_eq}
-use Rattle.p416_ast.specs.declared.grammar.parts.Param.{Param}
-use Rattle.p416_ast.specs.declared.grammar.node.CaseLabel.{CaseLabel}
-use Rattle.p416_ast.specs.declared.grammar.node.CaseLabel.TheVariants as label
-use Rattle.p416_ast.specs.declared.grammar.controls.ActionName.{ActionName}
-use Rattle.p416_ast.specs.declared.grammar.controls.ActionName.TheVariants as action_name
-use Rattle.p416_ast.specs.declared.grammar.controls.TableKey.{TableKey}
-use Rattle.p416_ast.specs.declared.grammar.controls.Table16.{Table16}
-use Rattle.p416_ast.specs.declared.grammar.controls.Local.{Local}
-use Rattle.p416_ast.specs.declared.grammar.controls.Local.TheVariants as local
-use Rattle.p416_ast.specs.declared.grammar.program.Decl16.{Decl16}
-use Rattle.p416_ast.specs.declared.grammar.program.Decl16.TheVariants as decl
-use Rattle.p416_ast.specs.Grammar.Properties.{keys_of, actions_of, default_action_of}
-use Rattle.p416_ast.specs.Grammar.Tree.{Exp16, name, member}
+use Rattle.p416_ast.specs.declared.parts.Param.{Param}
+use Rattle.p416_ast.specs.declared.node.CaseLabel.{CaseLabel}
+use Rattle.p416_ast.specs.declared.node.CaseLabel.TheVariants as label
+use Rattle.p416_ast.specs.declared.controls.ActionName.{ActionName}
+use Rattle.p416_ast.specs.declared.controls.ActionName.TheVariants as action_name
+use Rattle.p416_ast.specs.declared.controls.TableKey.{TableKey}
+use Rattle.p416_ast.specs.declared.controls.Table16.{Table16}
+use Rattle.p416_ast.specs.declared.controls.Local.{Local}
+use Rattle.p416_ast.specs.declared.controls.Local.TheVariants as local
+use Rattle.p416_ast.specs.declared.program.Decl16.{Decl16}
+use Rattle.p416_ast.specs.declared.program.Decl16.TheVariants as decl
+use Rattle.p416_ast.specs.Properties.{keys_of, actions_of, default_action_of}
+use Rattle.p416_ast.specs.Tree.{Exp16, name, member}
 use Rattle.p416_rules.specs.Names.{Name, has_name, repeats}
 use Rattle.p416_rules.specs.Kinds.{Kind, object, direct_counter, is_bits}
 use Rattle.p416_rules.specs.Scopes.{Handed, Sort, an_action, a_table, Known, called_of, Scope, sort_of, Part, in_action, is_directed, plane_name}

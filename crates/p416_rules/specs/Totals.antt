@@ -6,14 +6,14 @@
 -- `else if`, and a branch without braces, are no block.
 use Rattle.std.specs.Prelude.{ℕ, zero, suc, ◌+◌, ◌*◌, ◌/◌, max, Bool, true, false, ◌||◌, ◌&&◌, nat_lt, List, [], ◌∷◌, length, flat_map, sum_by}
 use Rattle.std.specs.List.{list_any}
-use Rattle.p416_ast.specs.declared.grammar.controls.Instance.{Instance}
-use Rattle.p416_ast.specs.declared.grammar.controls.Instance.TheVariants as instance
-use Rattle.p416_ast.specs.declared.grammar.controls.Local.{Local}
-use Rattle.p416_ast.specs.declared.grammar.controls.Local.TheVariants as local
-use Rattle.p416_ast.specs.declared.grammar.program.Decl16.{Decl16}
-use Rattle.p416_ast.specs.declared.grammar.program.Decl16.TheVariants as decl
-use Rattle.p416_ast.specs.declared.grammar.program.Syntax16.{Syntax16}
-use Rattle.p416_ast.specs.Grammar.Tree.{Exp16, literal, member, index, slice, call, lookahead, cast, unary, binary, choice, no_arguments, argument, listed}
+use Rattle.p416_ast.specs.declared.controls.Instance.{Instance}
+use Rattle.p416_ast.specs.declared.controls.Instance.TheVariants as instance
+use Rattle.p416_ast.specs.declared.controls.Local.{Local}
+use Rattle.p416_ast.specs.declared.controls.Local.TheVariants as local
+use Rattle.p416_ast.specs.declared.program.Decl16.{Decl16}
+use Rattle.p416_ast.specs.declared.program.Decl16.TheVariants as decl
+use Rattle.p416_ast.specs.declared.program.Syntax16.{Syntax16}
+use Rattle.p416_ast.specs.Tree.{Exp16, literal, member, index, slice, call, lookahead, cast, unary, binary, choice, no_arguments, argument, listed}
 use Rattle.p416_rules.specs.Names.{Name}
 use Rattle.p416_rules.specs.Kinds.{Kind, bits, header, stack, struct, is_header, is_stack, is_struct}
 use Rattle.p416_rules.specs.Scopes.{Layout, FieldKind, fields_in, kind_of_type}

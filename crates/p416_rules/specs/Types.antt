@@ -6,13 +6,13 @@
 -- `pop_front`, or as the number of a field list, is a literal.
 use Rattle.std.specs.Prelude.{Bool, true, false, not, ◌&&◌, ◌||◌, nat_eq, List, [], ◌∷◌, length, zip}
 use Rattle.std.specs.List.{list_any}
-use Rattle.p416_ast.specs.declared.grammar.parts.Member.{Member}
-use Rattle.p416_ast.specs.declared.grammar.parts.Member.TheVariants as member_of
-use Rattle.p416_ast.specs.declared.grammar.parsers.Simple.{Simple}
-use Rattle.p416_ast.specs.declared.grammar.parsers.Simple.TheVariants as simple
-use Rattle.p416_ast.specs.declared.grammar.parsers.Keyset.{Keyset}
-use Rattle.p416_ast.specs.declared.grammar.parsers.Keyset.TheVariants as keyset
-use Rattle.p416_ast.specs.Grammar.Tree.{Exp16, literal, truth, name, member}
+use Rattle.p416_ast.specs.declared.parts.Member.{Member}
+use Rattle.p416_ast.specs.declared.parts.Member.TheVariants as member_of
+use Rattle.p416_ast.specs.declared.parsers.Simple.{Simple}
+use Rattle.p416_ast.specs.declared.parsers.Simple.TheVariants as simple
+use Rattle.p416_ast.specs.declared.parsers.Keyset.{Keyset}
+use Rattle.p416_ast.specs.declared.parsers.Keyset.TheVariants as keyset
+use Rattle.p416_ast.specs.Tree.{Exp16, literal, truth, name, member}
 use Rattle.p416_rules.specs.Kinds.{Enumeration, hash_algorithm, counter_type, meter_type, clone_type, is_same_enumeration, Kind, bits, error_code, items, one_of, unknown, is_same_kind, is_bits, is_unsized, is_boolean, is_header, is_stack, is_packet, is_plain}
 use Rattle.p416_rules.specs.Scopes.{kind_of_type}
 use Rattle.p416_rules.specs.Calls.{Place, value, written, any_bits, written_bits, one_bit, bits_or_boolean, written_header, emitted, literal_of, any_literal, item_list, member_place, select_key, table_key, target, owner, written_owner, a_stack, callee, statement, unasked}

@@ -6,12 +6,12 @@
 -- itself, through others or directly, is none that was declared.
 use Rattle.std.specs.Prelude.{ℕ, Bool, true, false, not, ◌&&◌, is_none, List, [], map, filter_map, position, Option, Some, None}
 use Rattle.std.specs.Str.{bytes_eq}
-use Rattle.p416_ast.specs.declared.grammar.parts.Type16.{Type16}
-use Rattle.p416_ast.specs.declared.grammar.parts.Type16.TheVariants.{Bit, Bool as BoolType, Named}
-use Rattle.p416_ast.specs.declared.grammar.parts.StructField.{StructField}
-use Rattle.p416_ast.specs.declared.grammar.program.Decl16.{Decl16}
-use Rattle.p416_ast.specs.declared.grammar.program.Decl16.TheVariants as decl
-use Rattle.p416_ast.specs.Grammar.Tree.{Exp16, name, member, lookahead}
+use Rattle.p416_ast.specs.declared.parts.Type16.{Type16}
+use Rattle.p416_ast.specs.declared.parts.Type16.TheVariants.{Bit, Bool as BoolType, Named}
+use Rattle.p416_ast.specs.declared.parts.StructField.{StructField}
+use Rattle.p416_ast.specs.declared.program.Decl16.{Decl16}
+use Rattle.p416_ast.specs.declared.program.Decl16.TheVariants as decl
+use Rattle.p416_ast.specs.Tree.{Exp16, name, member, lookahead}
 use Rattle.p416_rules.specs.Names.{Name, repeats}
 use Rattle.p416_rules.specs.Kinds.{Kind, packet_in, direct_counter, is_plain}
 use Rattle.p416_rules.specs.Scopes.{Sort, a_value, an_enumeration, a_function, an_object, an_action, a_table, a_state, a_block, Scope, sort_of, called_of}

@@ -3,21 +3,21 @@
 -- this project's own). No parentheses stand in the trees of a program, so nothing is said of them.
 use Rattle.std.specs.Prelude.{ℕ, ◌&&◌, if◌then◌else◌, nat_eq, List, [], ◌∷◌, ◌++◌, get_or, Option, Some, None}
 use Rattle.p416_lexemes.specs.declared.lexeme.Literal16.{Literal16}
-use Rattle.p416_ast.specs.declared.grammar.parts.Type16.{Type16}
-use Rattle.p416_ast.specs.declared.grammar.parts.Type16.TheVariants.{Bit, Bool as BoolType, Named}
-use Rattle.p416_ast.specs.declared.grammar.parts.Header16.{Header16}
-use Rattle.p416_ast.specs.declared.grammar.parts.Param.{Param}
-use Rattle.p416_ast.specs.declared.grammar.parts.Member.{Member}
-use Rattle.p416_ast.specs.declared.grammar.node.CastType.{CastType}
-use Rattle.p416_ast.specs.declared.grammar.node.CastType.TheVariants as cast_to
-use Rattle.p416_ast.specs.declared.grammar.node.CaseLabel.{CaseLabel}
-use Rattle.p416_ast.specs.declared.grammar.node.UnaryOperator.{UnaryOperator}
-use Rattle.p416_ast.specs.declared.grammar.node.UnaryOperator.TheVariants.{Not, Complement, Negate}
-use Rattle.p416_ast.specs.declared.grammar.node.BinaryOperator.{BinaryOperator}
-use Rattle.p416_ast.specs.declared.grammar.node.BinaryOperator.TheVariants.{Multiply, Add, Subtract, SaturatingAdd, SaturatingSubtract, Concatenate, ShiftLeft, ShiftRight, BitAnd, BitXor, BitOr, Less, LessEqual, Greater, GreaterEqual, Equal, NotEqual, And, Or}
-use Rattle.p416_ast.specs.declared.grammar.parsers.Keyset.{Keyset}
-use Rattle.p416_ast.specs.declared.grammar.controls.Table16.{Table16}
-use Rattle.p416_ast.specs.Grammar.Tree.{Exp16, member, index, slice, call, lookahead, cast, unary, binary, choice, argument, listed}
+use Rattle.p416_ast.specs.declared.parts.Type16.{Type16}
+use Rattle.p416_ast.specs.declared.parts.Type16.TheVariants.{Bit, Bool as BoolType, Named}
+use Rattle.p416_ast.specs.declared.parts.Header16.{Header16}
+use Rattle.p416_ast.specs.declared.parts.Param.{Param}
+use Rattle.p416_ast.specs.declared.parts.Member.{Member}
+use Rattle.p416_ast.specs.declared.node.CastType.{CastType}
+use Rattle.p416_ast.specs.declared.node.CastType.TheVariants as cast_to
+use Rattle.p416_ast.specs.declared.node.CaseLabel.{CaseLabel}
+use Rattle.p416_ast.specs.declared.node.UnaryOperator.{UnaryOperator}
+use Rattle.p416_ast.specs.declared.node.UnaryOperator.TheVariants.{Not, Complement, Negate}
+use Rattle.p416_ast.specs.declared.node.BinaryOperator.{BinaryOperator}
+use Rattle.p416_ast.specs.declared.node.BinaryOperator.TheVariants.{Multiply, Add, Subtract, SaturatingAdd, SaturatingSubtract, Concatenate, ShiftLeft, ShiftRight, BitAnd, BitXor, BitOr, Less, LessEqual, Greater, GreaterEqual, Equal, NotEqual, And, Or}
+use Rattle.p416_ast.specs.declared.parsers.Keyset.{Keyset}
+use Rattle.p416_ast.specs.declared.controls.Table16.{Table16}
+use Rattle.p416_ast.specs.Tree.{Exp16, member, index, slice, call, lookahead, cast, unary, binary, choice, argument, listed}
 use Rattle.p416_rules.specs.Names.{Name}
 use Rattle.p416_rules.specs.Kinds.{Enumeration, Kind, bits, unsized, boolean, error_code, is_unsized}
 use Rattle.p416_rules.specs.Scopes.{Scope}

@@ -2,21 +2,21 @@
 -- compute to.
 use Rattle.std.specs.Prelude.{◌≡◌, true, false, [], ◌∷◌, codes, Some, refl}
 use Rattle.std.specs.List.{list_any}
-use Rattle.p416_ast.specs.declared.grammar.parts.Type16.TheVariants.{Bit, Named}
-use Rattle.p416_ast.specs.declared.grammar.parts.Direction.TheVariants.{In}
-use Rattle.p416_ast.specs.declared.grammar.parsers.Target.TheVariants as target_of
-use Rattle.p416_ast.specs.declared.grammar.parsers.Transition.TheVariants as transition
-use Rattle.p416_ast.specs.declared.grammar.controls.ActionName.TheVariants as action_name
-use Rattle.p416_ast.specs.declared.grammar.controls.Property.TheVariants as property
-use Rattle.p416_ast.specs.declared.grammar.controls.Instance.TheVariants as instance
-use Rattle.p416_ast.specs.declared.grammar.controls.Local.TheVariants as local
-use Rattle.p416_ast.specs.declared.grammar.node.CastType.TheVariants as cast_to
-use Rattle.p416_ast.specs.declared.grammar.parsers.Keyset.TheVariants as keyset
-use Rattle.p416_ast.specs.declared.grammar.parsers.Simple.TheVariants as simple
-use Rattle.p416_ast.specs.declared.grammar.node.CaseLabel.TheVariants as case_label
-use Rattle.p416_ast.specs.declared.grammar.node.BinaryOperator.TheVariants.{Add, ShiftLeft, Equal, Concatenate}
-use Rattle.p416_ast.specs.declared.grammar.program.Decl16.TheVariants as decl
-use Rattle.p416_ast.specs.Grammar.Tree.{literal, error, name, member, index, slice, call, cast, choice, truth, binary, no_arguments, argument, listed, no_statements, then, block, var, var_is, assign, expression, if_then, switch, no_cases, case_of}
+use Rattle.p416_ast.specs.declared.parts.Type16.TheVariants.{Bit, Named}
+use Rattle.p416_ast.specs.declared.parts.Direction.TheVariants.{In}
+use Rattle.p416_ast.specs.declared.parsers.Target.TheVariants as target_of
+use Rattle.p416_ast.specs.declared.parsers.Transition.TheVariants as transition
+use Rattle.p416_ast.specs.declared.controls.ActionName.TheVariants as action_name
+use Rattle.p416_ast.specs.declared.controls.Property.TheVariants as property
+use Rattle.p416_ast.specs.declared.controls.Instance.TheVariants as instance
+use Rattle.p416_ast.specs.declared.controls.Local.TheVariants as local
+use Rattle.p416_ast.specs.declared.node.CastType.TheVariants as cast_to
+use Rattle.p416_ast.specs.declared.parsers.Keyset.TheVariants as keyset
+use Rattle.p416_ast.specs.declared.parsers.Simple.TheVariants as simple
+use Rattle.p416_ast.specs.declared.node.CaseLabel.TheVariants as case_label
+use Rattle.p416_ast.specs.declared.node.BinaryOperator.TheVariants.{Add, ShiftLeft, Equal, Concatenate}
+use Rattle.p416_ast.specs.declared.program.Decl16.TheVariants as decl
+use Rattle.p416_ast.specs.Tree.{literal, error, name, member, index, slice, call, cast, choice, truth, binary, no_arguments, argument, listed, no_statements, then, block, var, var_is, assign, expression, if_then, switch, no_cases, case_of}
 use Rattle.p416_rules.specs.Unknown.{declares_twice, struct_graph}
 use Rattle.p416_rules.specs.ParserStates.{idle_graph, has_no_start}
 use Rattle.p416_rules.specs.Applications.{call_graph}

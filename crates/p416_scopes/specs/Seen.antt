@@ -1,7 +1,7 @@
 -- Which scope of the rules a scope of code is.
 use Rattle.std.specs.Prelude.{ℕ, List, [], ◌∷◌, slice_get}
 use Rattle.std.specs.Option.{option_map_or}
-use Rattle.p416_ast.specs.declared.grammar.program.Decl16.{Decl16}
+use Rattle.p416_ast.specs.declared.program.Decl16.{Decl16}
 use Rattle.p416_rules.specs.Names.{Name}
 use Rattle.p416_rules.specs.Scopes as rule
 use Rattle.p416_rules.specs.Scopes.{Known, known, undeclared}

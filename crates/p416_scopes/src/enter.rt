@@ -6,7 +6,7 @@ ghost use Rattle.p416_scopes.specs.Seen.{seen_scope, seen_declared};
 
 use crate::scope::{Part, Scope};
 use p4x_bits::OutOfMemory;
-use p416_ast::grammar::{Action16, Control16, Direction, Local, Param, Parser16, State, Var};
+use p416_ast::{Action16, Control16, Direction, Local, Param, Parser16, State, Var};
 use p416_names::{Sort, Top, instance_name, instance_sort};
 use std::alloc::Global;
 

@@ -9,7 +9,7 @@ ghost use Rattle.p416_scopes.specs.Seen.{seen_part, seen_scope, outer_scope, sor
 use crate::scope::{Part, Scope};
 use name_stack::NameStack;
 use p4x_bits::OutOfMemory;
-use p416_ast::grammar::Type16;
+use p416_ast::Type16;
 use p416_kinds::Kind;
 use p416_names::{Sort, Top};
 use std::alloc::Global;

@@ -5,7 +5,7 @@ use Rattle.p416_lexemes.specs.declared.mark.Mark16.TheVariants as mark_of
 use Rattle.p416_lexemes.specs.Spelt.{is_identifier16, is_spelt_literal16}
 use Rattle.p416_tok.specs.declared.kind.TokenKind16.{TokenKind16}
 use Rattle.p416_tok.specs.declared.kind.TokenKind16.TheVariants as kind
-use Rattle.p416_ast.specs.Grammar.Tokens.{Seen16, quoted, number, mark, string, annotation, include_line, joined as joined_greater}
+use Rattle.p416_ast.specs.Tokens.{Seen16, quoted, number, mark, string, annotation, include_line, joined as joined_greater}
 use Rattle.token_sheet.specs.Words.{Word, word}
 use Rattle.p416_sheet.specs.declared.sheet.Put16.{Put16}
 use Rattle.p416_sheet.specs.declared.sheet.Token16.{Token16}

@@ -1,7 +1,7 @@
 // P4_16 texts that are written a token at a time.
 ghost use Rattle.std.specs.Prelude.{◌≡◌, ◌++◌, ◌∷◌, [], true, OnOk, IfOk, IsTrue};
 ghost use Rattle.p416_lexemes.specs.Spelt.{is_identifier16, is_spelt_literal16};
-ghost use Rattle.p416_ast.specs.Grammar.Tokens.{string, number as number_token};
+ghost use Rattle.p416_ast.specs.Tokens.{string, number as number_token};
 ghost use Rattle.p416_spelling.specs.Words.{word16};
 ghost use Rattle.p416_sheet.specs.declared.sheet.Token16.TheVariants.{ShiftRight};
 ghost use Rattle.p416_sheet.specs.Tokens.{words_put, is_put, all_words_put, are_put};

@@ -4,10 +4,10 @@ use Rattle.std.specs.Prelude.{filter_map, option_and_then}
 use Rattle.std.specs.Option.{option_map_or}
 use Rattle.std.specs.Str.{bytes_eq}
 use Rattle.match_core.specs.declared.signatures.ActionSig.{ActionSig}
-use Rattle.p416_ast.specs.declared.grammar.controls.ActionName.{ActionName}
-use Rattle.p416_ast.specs.declared.grammar.controls.ActionName.TheVariants.{Declared, NoAction}
-use Rattle.p416_ast.specs.declared.grammar.controls.Table16.{Table16}
-use Rattle.p416_ast.specs.Grammar.Properties.{actions_of}
+use Rattle.p416_ast.specs.declared.controls.ActionName.{ActionName}
+use Rattle.p416_ast.specs.declared.controls.ActionName.TheVariants.{Declared, NoAction}
+use Rattle.p416_ast.specs.declared.controls.Table16.{Table16}
+use Rattle.p416_ast.specs.Properties.{actions_of}
 use Rattle.name_numbers.specs.Names.{find_name}
 use Rattle.p416_names.proofs.Found.{bytes_either, first_step}
 use Rattle.p416_rules.specs.Names.{Name}

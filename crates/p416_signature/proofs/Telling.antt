@@ -1,7 +1,7 @@
 -- What an expression is: the first of its rows tells, and where it stands in `main` doesn't matter.
 use Rattle.std.proofs.Common.{◌≡◌, List, ◌∷◌, map, refl, ap, ◌∙◌}
-use Rattle.p416_ast.specs.Grammar.Tree.{Exp16, literal, truth, error, name, member, index, slice, call, lookahead, cast, unary, binary, choice, parenthesized, no_arguments, argument, listed}
-use Rattle.p416_ast.specs.Grammar.Subtrees.{subexpressions}
+use Rattle.p416_ast.specs.Tree.{Exp16, literal, truth, error, name, member, index, slice, call, lookahead, cast, unary, binary, choice, parenthesized, no_arguments, argument, listed}
+use Rattle.p416_ast.specs.Subtrees.{subexpressions}
 use Rattle.p416_rules.specs.Kinds.{Kind}
 use Rattle.p416_rules.specs.Scopes.{Known, Layout, Scope, sort_in, kind_of_type}
 use Rattle.p416_rules.specs.Calls.{method_signature}

@@ -10,15 +10,15 @@ use Rattle.match_core.specs.declared.signatures.KeySpec.{KeySpec}
 use Rattle.match_core.specs.declared.signatures.ActionSig.{ActionSig}
 use Rattle.match_core.specs.declared.signatures.TableSig.{TableSig}
 use Rattle.match_core.specs.declared.signatures.ObjectSig.{ObjectSig}
-use Rattle.p416_ast.specs.declared.grammar.controls.TableKey.{TableKey}
-use Rattle.p416_ast.specs.declared.grammar.controls.Table16.{Table16}
-use Rattle.p416_ast.specs.declared.grammar.controls.Local.{Local}
-use Rattle.p416_ast.specs.declared.grammar.controls.Local.TheVariants as local
-use Rattle.p416_ast.specs.declared.grammar.controls.Control16.{Control16}
-use Rattle.p416_ast.specs.declared.grammar.program.Decl16.{Decl16}
-use Rattle.p416_ast.specs.declared.grammar.program.Decl16.TheVariants as decl
-use Rattle.p416_ast.specs.declared.grammar.program.Syntax16.{Syntax16}
-use Rattle.p416_ast.specs.Grammar.Properties.{keys_of, actions_of, counters_of}
+use Rattle.p416_ast.specs.declared.controls.TableKey.{TableKey}
+use Rattle.p416_ast.specs.declared.controls.Table16.{Table16}
+use Rattle.p416_ast.specs.declared.controls.Local.{Local}
+use Rattle.p416_ast.specs.declared.controls.Local.TheVariants as local
+use Rattle.p416_ast.specs.declared.controls.Control16.{Control16}
+use Rattle.p416_ast.specs.declared.program.Decl16.{Decl16}
+use Rattle.p416_ast.specs.declared.program.Decl16.TheVariants as decl
+use Rattle.p416_ast.specs.declared.program.Syntax16.{Syntax16}
+use Rattle.p416_ast.specs.Properties.{keys_of, actions_of, counters_of}
 use Rattle.p416_kinds.specs.Seen.{referred}
 use Rattle.p416_names.proofs.Found.{first_step}
 use Rattle.p416_rules.specs.Names.{Name}

@@ -15,7 +15,7 @@ use crate::shapes::plane_name;
 use match_core::ActionSig;
 use name_numbers::{Numbering, number_names};
 use p4x_bits::{Numbers, OutOfMemory, Rows, Text};
-use p416_ast::grammar::{ActionName, Param};
+use p416_ast::{ActionName, Param};
 use p416_names::{Sort, Top};
 use p416_scopes::Scope;
 use std::alloc::Global;

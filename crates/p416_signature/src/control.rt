@@ -10,7 +10,7 @@ use crate::objects::Objects;
 use crate::tables::table_sig;
 use match_core::TableSig;
 use p4x_bits::{OutOfMemory, Rows};
-use p416_ast::grammar::{Control16, Decl16, Local};
+use p416_ast::{Control16, Decl16, Local};
 use p416_names::Top;
 use p416_scopes::Scope;
 use std::alloc::Global;

@@ -13,7 +13,7 @@ ghost use Rattle.p416_signature.specs.internal.Gathered.{key_in};
 use crate::shapes::narrow_width;
 use match_core::{KeyKind, KeySpec};
 use p4x_bits::{OutOfMemory, Rows};
-use p416_ast::grammar::{Exp, TableKey};
+use p416_ast::{Exp, TableKey};
 use p416_kinds::Kind;
 use p416_scopes::Scope;
 use p416_typing::{Row, typed_expression};

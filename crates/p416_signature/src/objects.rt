@@ -1,7 +1,7 @@
 // The stateful objects of a program, by their own names and by those that the control plane knows.
 ghost use Rattle.std.specs.Prelude.{◌≡◌, ◌++◌, map, flat_map, filter_map, option_map, slice_get, option_and_then, IfOk, OnOk};
 ghost use Rattle.name_numbers.specs.Names.{find_name};
-ghost use Rattle.p416_ast.specs.Grammar.Properties.{counters_of};
+ghost use Rattle.p416_ast.specs.Properties.{counters_of};
 ghost use Rattle.p416_kinds.specs.Seen.{referred};
 ghost use Rattle.v1_sem.specs.Signatures.{in_order, own_object, objects_in, top_object, place_among, plane_among, shape_among};
 ghost use Rattle.p416_signature.specs.internal.Seen.{seen_object, own_name, plane_of};
@@ -13,7 +13,7 @@ use crate::shapes::{plane_name, shape_of};
 use match_core::ObjectSig;
 use name_numbers::{Numbering, narrow, number_names};
 use p4x_bits::{OutOfMemory, Rows, Text};
-use p416_ast::grammar::{Decl16, Instance, Local, Table16};
+use p416_ast::{Decl16, Instance, Local, Table16};
 use p416_names::instance_name;
 use state_store::Shape;
 use std::alloc::Global;

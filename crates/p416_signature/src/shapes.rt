@@ -5,7 +5,7 @@ ghost use Rattle.p416_rules.specs.Totals.{size_value};
 ghost use Rattle.v1_sem.specs.Signatures.{counted_by, shape_of};
 
 use p4x_bits::{OutOfMemory, Text};
-use p416_ast::grammar::{CounterType, Exp, ExpHead, Instance, Member, Note, name_note};
+use p416_ast::{CounterType, Exp, ExpHead, Instance, Member, Note, name_note};
 use state_store::{Kind, Shape};
 
 /// The name by which the control plane knows what has these annotations: that of `@name`, else its own.

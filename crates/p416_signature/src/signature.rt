@@ -8,7 +8,7 @@ use crate::objects::{Objects, all_objects, object_names, object_sigs};
 use crate::tables::by_names;
 use match_core::{Signature, TableSig};
 use p4x_bits::{OutOfMemory, Rows};
-use p416_ast::grammar::Syntax16;
+use p416_ast::Syntax16;
 use p416_names::Top;
 use std::alloc::Global;
 

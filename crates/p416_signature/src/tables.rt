@@ -1,6 +1,6 @@
 // A table, and tables by their names.
 ghost use Rattle.std.specs.Prelude.{◌≡◌, ◌^◌, ◌-◌, ◌++◌, min, map, filter_map, option_copied, option_to_list, IfOk, OnOk};
-ghost use Rattle.p416_ast.specs.Grammar.Properties.{actions_of, keys_of};
+ghost use Rattle.p416_ast.specs.Properties.{actions_of, keys_of};
 ghost use Rattle.p416_rules.specs.Tables.{table_plane};
 ghost use Rattle.p416_scopes.specs.Seen.{seen_scope};
 ghost use Rattle.v1_sem.specs.Signatures.{in_order, table_size};
@@ -15,7 +15,7 @@ use crate::shapes::plane_name;
 use match_core::{ActionSig, KeySpec, TableSig};
 use name_numbers::{Numbering, number_names};
 use p4x_bits::{Numbers, OutOfMemory, Rows, Text};
-use p416_ast::grammar::Table16;
+use p416_ast::Table16;
 use p416_scopes::Scope;
 use std::alloc::Global;
 

@@ -1,6 +1,6 @@
 // The size of headers and metadata (the limits are this project's own).
 ghost use Rattle.std.specs.Prelude.{◌≡◌, ◌+◌, ◌||◌, nat_lt};
-ghost use Rattle.p416_ast.specs.declared.grammar.program.Syntax16.{Syntax16};
+ghost use Rattle.p416_ast.specs.declared.program.Syntax16.{Syntax16};
 ghost use Rattle.p416_rules.specs.Declarations.{layouts_of};
 ghost use Rattle.p416_rules.specs.Main.{headers_kind, metadata_kind};
 ghost use Rattle.p416_rules.specs.Totals.{fields_of_kind, octets_of_kind, has_large_headers};

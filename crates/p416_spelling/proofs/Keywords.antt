@@ -8,7 +8,7 @@ use Rattle.p416_lexemes.specs.declared.keyword.Keyword16.TheVariants as word_of
 use Rattle.p416_lexemes.specs.Keywords.{keyword_text16, all_keywords16}
 use Rattle.p416_lexemes.specs.Spelt.{is_identifier16}
 use Rattle.p416_tok.specs.declared.kind.TokenKind16.TheVariants as kind
-use Rattle.p416_ast.specs.Grammar.Tokens.{keyword_among, seen_as, seen_word, is_spelt_seen, dot}
+use Rattle.p416_ast.specs.Tokens.{keyword_among, seen_as, seen_word, is_spelt_seen, dot}
 use Rattle.token_sheet.specs.Words.{word}
 use Rattle.p416_spelling.specs.Words.{word16, words16}
 

@@ -4,7 +4,7 @@ ghost use Rattle.p416_rules.specs.ParserStates.{is_extract, is_extract_method, e
 ghost use Rattle.p416_state_check.specs.internal.Outside.{outside_if, extracts_itself};
 
 use p4x_bits::OutOfMemory;
-use p416_ast::grammar::{ExpHead, ExpView, StmtHead, StmtView};
+use p416_ast::{ExpHead, ExpView, StmtHead, StmtView};
 use std::alloc::Global;
 use work_stack::Stack;
 

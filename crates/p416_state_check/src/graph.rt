@@ -7,7 +7,7 @@ ghost use Rattle.p416_state_check.specs.internal.Outside.{state_node, leading_on
 use crate::body::extracts;
 use name_cycles::NameNode;
 use p4x_bits::OutOfMemory;
-use p416_ast::grammar::{SelectCase, State, Target, Transition};
+use p416_ast::{SelectCase, State, Target, Transition};
 use std::alloc::Global;
 
 /// Leads a node to the state that a target names, where it names one.

@@ -10,7 +10,7 @@ ghost use Rattle.p416_rules.specs.Breaks.{SomeDeclaration, ParserBreaks, IsBroke
 use crate::graph::state_nodes;
 use name_cycles::lead_back;
 use p4x_bits::OutOfMemory;
-use p416_ast::grammar::{Decl16, Parser16, State, Syntax16};
+use p416_ast::{Decl16, Parser16, State, Syntax16};
 use std::alloc::Global;
 
 /// The name of the state that a parser begins in.

@@ -1,5 +1,5 @@
 // What is left to be written of a statement.
-use p416_ast::grammar::{CaseLabel, ExpView, StmtView, Type16};
+use p416_ast::{CaseLabel, ExpView, StmtView, Type16};
 use p416_exp_writer::Form;
 use p416_sheet::{Gap, TextView, Token16};
 

@@ -4,15 +4,15 @@ use Rattle.std.specs.List.{flat_map, list_all, slice_get}
 use Rattle.std.proofs.lemmas.List.Folds.{list_all-append}
 use Rattle.std.proofs.lemmas.Bool.{and_parts}
 use Rattle.p416_lexemes.specs.declared.keyword.Keyword16.TheVariants as key
-use Rattle.p416_ast.specs.declared.grammar.controls.Control16.{Control16}
-use Rattle.p416_ast.specs.declared.grammar.program.Decl16.{Decl16}
-use Rattle.p416_ast.specs.declared.grammar.program.Decl16.TheVariants as decl
-use Rattle.p416_ast.specs.declared.grammar.program.Syntax16.{Syntax16}
-use Rattle.p416_ast.specs.Grammar.Tree.{Exp16, Stmt16, then, assign}
-use Rattle.p416_ast.specs.Grammar.Tokens.{Seen16, id, quoted, equals, semicolon, brace_close, in_braces, is_spelt_seen}
-use Rattle.p416_ast.specs.Grammar.Conditions.{is_syntax, without_parentheses}
-use Rattle.p416_ast.specs.Grammar.Written.{written_exp, written_stmt, written_block, written_local, written_params, written_decl, written_main, written}
-use Rattle.p416_ast.specs.Grammar.Spelt.{is_spelt16}
+use Rattle.p416_ast.specs.declared.controls.Control16.{Control16}
+use Rattle.p416_ast.specs.declared.program.Decl16.{Decl16}
+use Rattle.p416_ast.specs.declared.program.Decl16.TheVariants as decl
+use Rattle.p416_ast.specs.declared.program.Syntax16.{Syntax16}
+use Rattle.p416_ast.specs.Tree.{Exp16, Stmt16, then, assign}
+use Rattle.p416_ast.specs.Tokens.{Seen16, id, quoted, equals, semicolon, brace_close, in_braces, is_spelt_seen}
+use Rattle.p416_ast.specs.Conditions.{is_syntax, without_parentheses}
+use Rattle.p416_ast.specs.Written.{written_exp, written_stmt, written_block, written_local, written_params, written_decl, written_main, written}
+use Rattle.p416_ast.specs.Spelt.{is_spelt16}
 use Rattle.p416_exp_writer.specs.Spelt.{is_spelt_exp}
 
 abbrev are_spelt : List Seen16 → Bool

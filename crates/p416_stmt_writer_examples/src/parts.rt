@@ -2,13 +2,13 @@
 // them, an assignment.
 ghost use Rattle.std.specs.Prelude.{IsTrue, IfSome};
 ghost use Rattle.std.specs.List.{list_all};
-ghost use Rattle.p416_ast.specs.Grammar.Tokens.{is_spelt_seen};
-ghost use Rattle.p416_ast.specs.Grammar.Written.{written_decl, written_stmt};
-ghost use Rattle.p416_ast.specs.Grammar.Spelt.{is_spelt16};
+ghost use Rattle.p416_ast.specs.Tokens.{is_spelt_seen};
+ghost use Rattle.p416_ast.specs.Written.{written_decl, written_stmt};
+ghost use Rattle.p416_ast.specs.Spelt.{is_spelt16};
 ghost use Rattle.p416_exp_writer.specs.Spelt.{is_spelt_exp};
 
 use p4x_bits::{Octets, OutOfMemory};
-use p416_ast::grammar::{Decl16, ExpView, StmtHead, StmtView, Syntax16};
+use p416_ast::{Decl16, ExpView, StmtHead, StmtView, Syntax16};
 use p416_exp_writer::{Form, write_expression};
 use p416_sheet::{Gap, Sheet16};
 use p416_stmt_writer::write_statements;

@@ -4,7 +4,7 @@ ghost use Rattle.std.specs.List.{list_any};
 ghost use Rattle.p416_rules.specs.Names.{has_name};
 ghost use Rattle.p416_rules.specs.Tables.{is_bad_key, is_prefix_key, has_bad_keys};
 
-use p416_ast::grammar::TableKey;
+use p416_ast::TableKey;
 
 const EXACT: &[u8] = b"exact";
 

@@ -2,7 +2,7 @@
 ghost use Rattle.std.specs.Prelude.{◌≡◌, ◌&&◌};
 ghost use Rattle.p416_rules.specs.Tables.{is_directed_parameter, is_behind};
 
-use p416_ast::grammar::Param;
+use p416_ast::Param;
 
 /// Whether a parameter has a direction.
 fn is_directed(parameter: &Param) -> bool

@@ -1,8 +1,8 @@
 -- The names at the top in one list, and the rule's own words for a name of no block.
 use Rattle.std.proofs.Common.{◌≡◌, Bool, List, [], ◌∷◌, ◌++◌, map, refl, sym, ap, ◌∙◌}
 use Rattle.std.specs.List.{list_any}
-use Rattle.p416_ast.specs.declared.grammar.program.Decl16.{Decl16}
-use Rattle.p416_ast.specs.declared.grammar.program.Syntax16.{Syntax16}
+use Rattle.p416_ast.specs.declared.program.Decl16.{Decl16}
+use Rattle.p416_ast.specs.declared.program.Syntax16.{Syntax16}
 use Rattle.p416_rules.specs.Names.{Name, repeats}
 use Rattle.p416_rules.specs.BuiltIn.{built_in}
 use Rattle.p416_rules.specs.Scopes.{Known, called_of}

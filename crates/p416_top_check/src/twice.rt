@@ -5,7 +5,7 @@ ghost use Rattle.p416_rules.specs.Scopes.{called_of};
 ghost use Rattle.p416_rules.specs.Unknown.{declared_name, declares_twice};
 
 use p4x_bits::OutOfMemory;
-use p416_ast::grammar::Decl16;
+use p416_ast::Decl16;
 use p416_name_set::is_repeated;
 use p416_names::decl_name;
 use std::alloc::Global;

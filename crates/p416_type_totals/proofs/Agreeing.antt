@@ -4,15 +4,15 @@ use Rattle.std.specs.List.{cons_option, list_all}
 use Rattle.std.specs.Str.{bytes_eq}
 use Rattle.std.proofs.lemmas.List.Sums.{sum_by-cons}
 use Rattle.digraph.specs.Graphs.{Among}
-use Rattle.p416_ast.specs.declared.grammar.parts.Type16.{Type16}
-use Rattle.p416_ast.specs.declared.grammar.parts.Type16.TheVariants.{Bit, Bool as BoolType, Named}
-use Rattle.p416_ast.specs.declared.grammar.parts.BitField.{BitField}
-use Rattle.p416_ast.specs.declared.grammar.parts.StructField.{StructField}
-use Rattle.p416_ast.specs.declared.grammar.parts.Struct16.{Struct16}
-use Rattle.p416_ast.specs.declared.grammar.controls.Instance.{Instance}
-use Rattle.p416_ast.specs.declared.grammar.controls.Instance.TheVariants as instance
-use Rattle.p416_ast.specs.declared.grammar.program.Decl16.{Decl16}
-use Rattle.p416_ast.specs.declared.grammar.program.Decl16.TheVariants as decl
+use Rattle.p416_ast.specs.declared.parts.Type16.{Type16}
+use Rattle.p416_ast.specs.declared.parts.Type16.TheVariants.{Bit, Bool as BoolType, Named}
+use Rattle.p416_ast.specs.declared.parts.BitField.{BitField}
+use Rattle.p416_ast.specs.declared.parts.StructField.{StructField}
+use Rattle.p416_ast.specs.declared.parts.Struct16.{Struct16}
+use Rattle.p416_ast.specs.declared.controls.Instance.{Instance}
+use Rattle.p416_ast.specs.declared.controls.Instance.TheVariants as instance
+use Rattle.p416_ast.specs.declared.program.Decl16.{Decl16}
+use Rattle.p416_ast.specs.declared.program.Decl16.TheVariants as decl
 use Rattle.p416_rules.specs.Names.{Name}
 use Rattle.p416_rules.specs.Kinds.{Kind, bits, unsized, boolean, error_code, header, stack, struct, packet_in, packet_out, errors, enumeration, one_of, table, applied, object, items, nothing, unknown, is_struct}
 use Rattle.p416_rules.specs.BuiltIn.{standard, built_in, functions}

@@ -15,9 +15,9 @@ use Rattle.digraph.proofs.Members.{among_place}
 use Rattle.digraph.proofs.Listing.{among_append}
 use Rattle.digraph.proofs.Cycles.{on_cycle}
 use Rattle.digraph.proofs.Sizing.{comes_before}
-use Rattle.p416_ast.specs.declared.grammar.parts.Struct16.{Struct16}
-use Rattle.p416_ast.specs.declared.grammar.program.Decl16.{Decl16}
-use Rattle.p416_ast.specs.declared.grammar.program.Decl16.TheVariants as decl
+use Rattle.p416_ast.specs.declared.parts.Struct16.{Struct16}
+use Rattle.p416_ast.specs.declared.program.Decl16.{Decl16}
+use Rattle.p416_ast.specs.declared.program.Decl16.TheVariants as decl
 use Rattle.p416_rules.specs.Names.{Name}
 use Rattle.p416_rules.specs.Kinds.{struct}
 use Rattle.p416_rules.specs.BuiltIn.{standard, standard_name}

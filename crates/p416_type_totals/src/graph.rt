@@ -6,7 +6,7 @@ ghost use Rattle.p416_rules.specs.Unknown.{declaration_number, type_name, field_
 use crate::types::Types;
 use digraph::Digraph;
 use p4x_bits::OutOfMemory;
-use p416_ast::grammar::{Decl16, StructField, Type16};
+use p416_ast::{Decl16, StructField, Type16};
 use std::alloc::Global;
 
 /// The name of a type that has one.

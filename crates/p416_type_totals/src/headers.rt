@@ -13,7 +13,7 @@ ghost use Rattle.p416_type_totals.specs.internal.Written.{HasHeaders};
 use crate::measure::{LIMIT, Measure, capped};
 use crate::types::Types;
 use p4x_bits::OutOfMemory;
-use p416_ast::grammar::{BitField, StructField, Type16};
+use p416_ast::{BitField, StructField, Type16};
 use p416_kinds::Kind;
 use p416_names::{Fields, decl_name};
 use std::alloc::Global;

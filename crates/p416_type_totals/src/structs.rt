@@ -16,7 +16,7 @@ use crate::measure::{LIMIT, capped, other_size, standard_size, times};
 use crate::types::Types;
 use digraph::Components;
 use p4x_bits::OutOfMemory;
-use p416_ast::grammar::StructField;
+use p416_ast::StructField;
 use p416_kinds::Kind;
 use p416_names::{Fields, decl_name};
 use std::alloc::Global;

@@ -41,8 +41,8 @@ pub struct TypeTotals<'t, 'a> {
 impl<'t, 'a> Model for TypeTotals<'t, 'a> {
     ghost use Rattle.std.specs.Prelude.{◌≡◌, List};
     ghost use Rattle.std.specs.Coded.{codes};
-    ghost use Rattle.p416_ast.specs.contracts.grammar.program.Decl16 as declaration;
-    ghost use Rattle.p416_ast.specs.declared.grammar.program.Decl16.{Decl16};
+    ghost use Rattle.p416_ast.specs.contracts.program.Decl16 as declaration;
+    ghost use Rattle.p416_ast.specs.declared.program.Decl16.{Decl16};
     ghost use Rattle.p416_type_totals.specs.declared.measure.Measure.TheVariants as measure;
     ghost use Rattle.p416_type_totals.specs.internal.Written.{IsTable};
 

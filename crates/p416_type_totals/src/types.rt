@@ -8,7 +8,7 @@ ghost use Rattle.p416_names.specs.Seen.{seen_fields};
 
 use name_numbers::{Numbering, number_names};
 use p4x_bits::OutOfMemory;
-use p416_ast::grammar::{Decl16, Type16};
+use p416_ast::{Decl16, Type16};
 use p416_kinds::Kind;
 use p416_names::{Fields, Top, decl_name};
 use std::alloc::Global;
@@ -24,8 +24,8 @@ pub(crate) struct Types<'t, 'a> {
 impl<'t, 'a> Model for Types<'t, 'a> {
     ghost use Rattle.std.specs.Prelude.{◌≡◌, List, map};
     ghost use Rattle.std.specs.Coded.{codes};
-    ghost use Rattle.p416_ast.specs.contracts.grammar.program.Decl16 as declaration;
-    ghost use Rattle.p416_ast.specs.declared.grammar.program.Decl16.{Decl16};
+    ghost use Rattle.p416_ast.specs.contracts.program.Decl16 as declaration;
+    ghost use Rattle.p416_ast.specs.declared.program.Decl16.{Decl16};
     ghost use Rattle.p416_rules.specs.Unknown.{declared_name};
 
     ghost Value = { List Decl16 };

@@ -1,7 +1,7 @@
 -- Three rules that are tests of uses, one after another.
 use Rattle.std.proofs.Common.{◌≡◌, Bool, true, false, List, [], ◌∷◌, Err, refl, sym, ◌∙◌}
 use Rattle.std.specs.List.{list_any}
-use Rattle.p416_ast.specs.declared.grammar.program.Syntax16.{Syntax16}
+use Rattle.p416_ast.specs.declared.program.Syntax16.{Syntax16}
 use Rattle.p416_rules.specs.declared.rule.ProgramRule.{ProgramRule}
 use Rattle.p416_rules.specs.Exact.{IsExact}
 use Rattle.p416_rules.specs.Breaks.{program_uses, IsBroken, BreaksNone, rule_fault}

@@ -1,6 +1,6 @@
 -- Rules one after another: which is the first that is broken.
 use Rattle.std.proofs.Common.{◌≡◌, Bool, true, false, List, [], ◌∷◌, ◌++◌, Ok, Err, Result, inl, inr, refl, sym, subst}
-use Rattle.p416_ast.specs.declared.grammar.program.Syntax16.{Syntax16}
+use Rattle.p416_ast.specs.declared.program.Syntax16.{Syntax16}
 use Rattle.p416_rules.specs.declared.rule.ProgramRule.{ProgramRule}
 use Rattle.p416_rules.specs.Breaks.{IsBroken, IsFirstBroken, BreaksNone, rule_fault}
 use Rattle.p416_rules.specs.Exact.{IsExact}

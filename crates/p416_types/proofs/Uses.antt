@@ -3,8 +3,8 @@ use Rattle.std.proofs.Common.{◌≡◌, ◌⊎◌, inl, inr, ℕ, Bool, true, f
 use Rattle.std.specs.List.{list_any}
 use Rattle.std.proofs.lemmas.Bool.{false≢true}
 use Rattle.std.proofs.lemmas.List.Folds.{list_any-append}
-use Rattle.p416_ast.specs.declared.grammar.program.Decl16.{Decl16}
-use Rattle.p416_ast.specs.declared.grammar.program.Syntax16.{Syntax16}
+use Rattle.p416_ast.specs.declared.program.Decl16.{Decl16}
+use Rattle.p416_ast.specs.declared.program.Syntax16.{Syntax16}
 use Rattle.p416_rules.specs.declared.rule.ProgramRule.{ProgramRule}
 use Rattle.p416_rules.specs.Exact.{IsExact}
 use Rattle.p416_rules.specs.Uses.{Use}

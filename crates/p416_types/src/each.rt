@@ -11,7 +11,7 @@ ghost use Rattle.p416_types.specs.internal.Steps.{uses_from_t7, uses_from_t9};
 
 use p4x_bits::OutOfMemory;
 use p416_action_check::some_call_cycle;
-use p416_ast::grammar::Syntax16;
+use p416_ast::Syntax16;
 use p416_cell_check::has_bad_cells;
 use p416_depth_check::some_too_deep;
 use p416_expression_uses::Findings;

@@ -9,7 +9,7 @@ use crate::each::is_misnamed_at_top;
 use crate::fault::{Check16, refusal};
 use crate::seen::see_all;
 use crate::steps::{judge_from_t1, judge_from_t4, judge_from_t7, judge_from_t10};
-use p416_ast::grammar::Syntax16;
+use p416_ast::Syntax16;
 use p416_expression_uses::Findings;
 use p416_main_check::MainPlaces;
 use p416_names::Top;

@@ -1,11 +1,11 @@
 // Programs that break no rule.
 ghost use Rattle.std.specs.Prelude.{◌≡◌, IsTrue};
-ghost use Rattle.p416_ast.specs.Grammar.Spelt.{is_spelt16};
+ghost use Rattle.p416_ast.specs.Spelt.{is_spelt16};
 ghost use Rattle.p416_types.specs.Answers.{IsAccepted, IsJudged};
 
 use crate::fault::Check16;
 use crate::judge::judge;
-use p416_ast::grammar::Syntax16;
+use p416_ast::Syntax16;
 use std::alloc::Global;
 use std::marker::Model;
 
@@ -18,9 +18,9 @@ pub struct Program16 {
 impl Model for Program16 {
     ghost use Rattle.std.specs.Prelude.{IsTrue};
     ghost use Rattle.std.specs.Coded.{codes};
-    ghost use Rattle.p416_ast.specs.declared.grammar.program.Syntax16.{Syntax16 as Syntax};
-    ghost use Rattle.p416_ast.specs.contracts.grammar.program.Syntax16 as declaration;
-    ghost use Rattle.p416_ast.specs.Grammar.Spelt.{is_spelt16};
+    ghost use Rattle.p416_ast.specs.declared.program.Syntax16.{Syntax16 as Syntax};
+    ghost use Rattle.p416_ast.specs.contracts.program.Syntax16 as declaration;
+    ghost use Rattle.p416_ast.specs.Spelt.{is_spelt16};
     ghost use Rattle.p416_types.specs.Answers.{IsAccepted};
 
     ghost Value = { Syntax };

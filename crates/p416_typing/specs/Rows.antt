@@ -1,7 +1,7 @@
 -- What is known of an expression: what it is, what its parts are, what it calls, and whether it can be written (P4_16 1.2,
 -- "Expressions").
 use Rattle.std.specs.Prelude.{ℕ, Bool, List, Option, None}
-use Rattle.p416_ast.specs.Grammar.Tree.{Exp16, member, index, slice, call, lookahead, unary, binary, choice, no_arguments}
+use Rattle.p416_ast.specs.Tree.{Exp16, member, index, slice, call, lookahead, unary, binary, choice, no_arguments}
 use Rattle.p416_rules.specs.Kinds.{Kind, unknown}
 use Rattle.p416_rules.specs.Scopes.{Scope}
 use Rattle.p416_rules.specs.Calls.{Signature}

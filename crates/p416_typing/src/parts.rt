@@ -1,7 +1,7 @@
 // What is known of an expression by what is known of its parts.
 ghost use Rattle.std.specs.Prelude.{◌≡◌, ◌+◌, ℕ, List, [], ◌∷◌, map, option_to_list, IfOk};
 ghost use Rattle.std.specs.Option.{option_map};
-ghost use Rattle.p416_ast.specs.Grammar.Tree.{literal, name};
+ghost use Rattle.p416_ast.specs.Tree.{literal, name};
 ghost use Rattle.p416_rules.specs.Scopes.{Known, Scope as RuleScope, sort_of};
 ghost use Rattle.p416_rules.specs.Calls.{method_signature};
 ghost use Rattle.p416_rules.specs.Declarations.{top_names, layouts_of};
@@ -16,7 +16,7 @@ ghost use Rattle.p416_typing.specs.internal.Steps as steps;
 
 use crate::row::Row;
 use p4x_bits::OutOfMemory;
-use p416_ast::grammar::Literal16;
+use p416_ast::Literal16;
 use p416_calls::{Callee, function_named, method_named};
 use p416_kinds::{Kind, has_member, is_among, is_error_name};
 use p416_names::{Sort, Top};

@@ -1,7 +1,7 @@
 // Each expression takes the rows of its parts off the stack.
 ghost use Rattle.std.specs.Prelude.{◌≡◌, ◌∷◌, List, map, IfOk};
-ghost use Rattle.p416_ast.specs.declared.grammar.parts.Type16.{Type16 as TypeTree};
-ghost use Rattle.p416_ast.specs.Grammar.Tree.{Exp16, member, index, slice, call, lookahead, cast, unary, binary, choice, argument, listed};
+ghost use Rattle.p416_ast.specs.declared.parts.Type16.{Type16 as TypeTree};
+ghost use Rattle.p416_ast.specs.Tree.{Exp16, member, index, slice, call, lookahead, cast, unary, binary, choice, argument, listed};
 ghost use Rattle.p416_rules.specs.Scopes.{Known, Scope as RuleScope};
 ghost use Rattle.p416_rules.specs.Declarations.{top_names};
 ghost use Rattle.p416_scopes.specs.Seen.{seen_scope};
@@ -13,7 +13,7 @@ use crate::parts::{
 };
 use crate::row::Row;
 use p4x_bits::OutOfMemory;
-use p416_ast::grammar::{BinaryOperator, CastType, Literal16, Type16, UnaryOperator};
+use p416_ast::{BinaryOperator, CastType, Literal16, Type16, UnaryOperator};
 use p416_kinds::{Kind, binary_kind, cast_kind, choice_kind, element_kind, slice_kind, unary_kind};
 use p416_scopes::Scope;
 use work_stack::Stack;

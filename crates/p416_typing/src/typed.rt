@@ -1,7 +1,7 @@
 // The rows of an expression, from the innermost expression outwards.
 ghost use Rattle.std.specs.Prelude.{◌≡◌, ◌∷◌, map, IfOk};
-ghost use Rattle.p416_ast.specs.Grammar.Heads.{of_exp_head};
-ghost use Rattle.p416_ast.specs.Grammar.Subtrees.{subexpressions};
+ghost use Rattle.p416_ast.specs.Heads.{of_exp_head};
+ghost use Rattle.p416_ast.specs.Subtrees.{subexpressions};
 ghost use Rattle.p416_rules.specs.Declarations.{top_names};
 ghost use Rattle.p416_scopes.specs.Seen.{seen_scope};
 ghost use Rattle.p416_typing.specs.Rows.{row_of};
@@ -15,7 +15,7 @@ use crate::steps::{
     lookahead_step, member_step, slice_step, unary_step,
 };
 use p4x_bits::OutOfMemory;
-use p416_ast::grammar::{ExpHead, ExpView, all_expressions};
+use p416_ast::{ExpHead, ExpView, all_expressions};
 use p416_kinds::Kind;
 use p416_scopes::Scope;
 use std::alloc::Global;

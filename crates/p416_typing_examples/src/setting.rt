@@ -1,5 +1,5 @@
 // A program with an expression in a control, and what is known of the expression.
-use p416_ast::grammar::{Control16, Decl16, Exp, Local, Syntax16};
+use p416_ast::{Control16, Decl16, Exp, Local, Syntax16};
 use p416_names::Top;
 use p416_reader::read16;
 use p416_scopes::Scope;

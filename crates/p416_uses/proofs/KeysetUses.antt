@@ -3,7 +3,7 @@ use Rattle.std.proofs.Common.{◌≡◌, ℕ, zero, suc, ◌+◌, ◌≤◌, Boo
 use Rattle.std.specs.List.{list_any}
 use Rattle.std.proofs.lemmas.Bool.Decides.{nat_tests}
 use Rattle.std.proofs.lemmas.List.{append-nil}
-use Rattle.p416_ast.specs.declared.grammar.parsers.Simple.{Simple}
+use Rattle.p416_ast.specs.declared.parsers.Simple.{Simple}
 use Rattle.p416_rules.specs.Kinds.{Kind, unknown}
 use Rattle.p416_kinds.specs.declared.kind.Kind.{Kind as CodeKind}
 use Rattle.p416_kinds.specs.Seen.{seen_kind}

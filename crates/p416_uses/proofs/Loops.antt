@@ -1,10 +1,10 @@
 -- Turns of loops that judge one item after another.
 use Rattle.std.proofs.Common.{◌≡◌, ℕ, ◌+◌, ◌<◌, List, [], ◌∷◌, ◌++◌, length, drop, map, flat_map, get_or, sym, ap, ◌∙◌}
 use Rattle.std.proofs.lemmas.List.{append_assoc, map-append}
-use Rattle.p416_ast.specs.declared.grammar.parts.Note.{Note}
-use Rattle.p416_ast.specs.declared.grammar.parsers.Simple.{Simple}
+use Rattle.p416_ast.specs.declared.parts.Note.{Note}
+use Rattle.p416_ast.specs.declared.parsers.Simple.{Simple}
 use Rattle.p416_rules.specs.Kinds.{Kind}
-use Rattle.p416_ast.specs.Grammar.Tree.{Exp16}
+use Rattle.p416_ast.specs.Tree.{Exp16}
 use Rattle.p416_rules.specs.Expressions.{kind_of}
 use Rattle.p416_kinds.specs.declared.kind.Kind.{Kind as CodeKind}
 use Rattle.p416_kinds.specs.Seen.{seen_kind}

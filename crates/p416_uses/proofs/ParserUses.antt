@@ -1,12 +1,12 @@
 -- Parsers and their states.
 use Rattle.std.proofs.Common.{◌≡◌, ℕ, List, [], ◌∷◌, ◌++◌, map, flat_map, refl, sym, ap, ◌∙◌}
 use Rattle.std.proofs.lemmas.List.{map-append}
-use Rattle.p416_ast.specs.declared.grammar.parts.Param.{Param}
-use Rattle.p416_ast.specs.declared.grammar.parsers.Var.{Var}
-use Rattle.p416_ast.specs.declared.grammar.parsers.SelectCase.{SelectCase}
-use Rattle.p416_ast.specs.declared.grammar.parsers.State.{State}
-use Rattle.p416_ast.specs.declared.grammar.parsers.Parser16.{Parser16}
-use Rattle.p416_ast.specs.Grammar.Tree.{Exp16}
+use Rattle.p416_ast.specs.declared.parts.Param.{Param}
+use Rattle.p416_ast.specs.declared.parsers.Var.{Var}
+use Rattle.p416_ast.specs.declared.parsers.SelectCase.{SelectCase}
+use Rattle.p416_ast.specs.declared.parsers.State.{State}
+use Rattle.p416_ast.specs.declared.parsers.Parser16.{Parser16}
+use Rattle.p416_ast.specs.Tree.{Exp16}
 use Rattle.p416_rules.specs.Names.{Name}
 use Rattle.p416_rules.specs.Kinds.{Kind}
 use Rattle.p416_rules.specs.Scopes.{Scope, Known, called_of, known_parameter}

@@ -1,9 +1,9 @@
 -- Tables.
 use Rattle.std.proofs.Common.{◌≡◌, ℕ, List, [], ◌∷◌, ◌++◌, length, map, flat_map, option_to_list, refl, sym, ap, ◌∙◌}
 use Rattle.std.proofs.lemmas.List.{append_assoc}
-use Rattle.p416_ast.specs.declared.grammar.controls.Table16.{Table16}
-use Rattle.p416_ast.specs.Grammar.Properties.{keys_of, actions_of, size_of, counters_of, default_action_of, default_arguments_of}
-use Rattle.p416_ast.specs.Grammar.Tree.{Exp16}
+use Rattle.p416_ast.specs.declared.controls.Table16.{Table16}
+use Rattle.p416_ast.specs.Properties.{keys_of, actions_of, size_of, counters_of, default_action_of, default_arguments_of}
+use Rattle.p416_ast.specs.Tree.{Exp16}
 use Rattle.p416_rules.specs.Scopes.{Scope, Handed}
 use Rattle.p416_rules.specs.Calls.{any_literal}
 use Rattle.p416_rules.specs.Expressions.{argument_count}

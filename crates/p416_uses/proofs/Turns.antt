@@ -2,8 +2,8 @@
 use Rattle.std.proofs.Common.{◌≡◌, List, [], ◌∷◌, ◌++◌, map, flat_map, refl, sym, ap, ◌∙◌}
 use Rattle.std.proofs.lemmas.List.{map-append}
 use Rattle.p416_lexemes.specs.declared.lexeme.Literal16.{Literal16}
-use Rattle.p416_ast.specs.declared.grammar.parts.Type16.{Type16}
-use Rattle.p416_ast.specs.Grammar.Tree.{Exp16, Stmt16}
+use Rattle.p416_ast.specs.declared.parts.Type16.{Type16}
+use Rattle.p416_ast.specs.Tree.{Exp16, Stmt16}
 use Rattle.p416_rules.specs.Kinds.{Kind}
 use Rattle.p416_rules.specs.Scopes.{Scope, kind_of_type}
 use Rattle.p416_rules.specs.Calls.{Place, value, target}

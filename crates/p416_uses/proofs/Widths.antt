@@ -1,7 +1,7 @@
 -- The bits of a header.
 use Rattle.std.proofs.Common.{◌≡◌, ℕ, Bool, true, false, not, ◌&&◌, if◌then◌else◌, Option, Some, None, List, sum_by, refl, ap, ◌∙◌}
 use Rattle.std.specs.List.{list_any}
-use Rattle.p416_ast.specs.declared.grammar.parts.Header16.{Header16}
+use Rattle.p416_ast.specs.declared.parts.Header16.{Header16}
 use Rattle.p416_rules.specs.declared.rule.ProgramRule.{ProgramRule}
 use Rattle.p416_rules.specs.declared.rule.ProgramRule.TheVariants.{T2}
 use Rattle.p416_rules.specs.Sizes.{has_bad_width, bits_of_field, is_no_octets}

@@ -11,7 +11,7 @@ ghost use Rattle.p416_expression_uses.specs.Found.{after_all};
 use crate::statements::{see_at, see_statements};
 use crate::variables::see_scope;
 use p4x_bits::OutOfMemory;
-use p416_ast::grammar::{StmtView, Var};
+use p416_ast::{StmtView, Var};
 use p416_calls::Place;
 use p416_expression_uses::{Findings, TypePlace, see_type};
 use p416_scopes::Scope;

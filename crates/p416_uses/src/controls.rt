@@ -18,7 +18,7 @@ use crate::objects::see_object;
 use crate::tables::see_table;
 use crate::types::{push_parameters, see_parameters};
 use p4x_bits::{OutOfMemory, Text};
-use p416_ast::grammar::{Action16, Control16, Local, Param};
+use p416_ast::{Action16, Control16, Local, Param};
 use p416_expression_uses::{Findings, TypePlace};
 use p416_name_set::is_repeated;
 use p416_names::{Top, instance_name};

@@ -8,7 +8,7 @@ use crate::objects::see_object;
 use crate::parsers::see_parser;
 use crate::types::{see_header, see_struct};
 use p4x_bits::OutOfMemory;
-use p416_ast::grammar::Decl16;
+use p416_ast::Decl16;
 use p416_expression_uses::Findings;
 use p416_names::Top;
 use p416_scopes::{Part, Scope};

@@ -9,12 +9,12 @@ ghost use Rattle.p416_kinds.specs.Seen.{seen_kind};
 ghost use Rattle.p416_scopes.specs.Seen.{seen_scope};
 ghost use Rattle.p416_expression_check.specs.Judged.{first_broken};
 ghost use Rattle.p416_expression_uses.specs.Found.{after, after_all};
-ghost use Rattle.p416_ast.specs.declared.grammar.parsers.Keyset.TheVariants.{One};
+ghost use Rattle.p416_ast.specs.declared.parsers.Keyset.TheVariants.{One};
 ghost use Rattle.p416_uses.specs.Parts.{key_at, paired};
 
 use crate::statements::see_at;
 use p4x_bits::OutOfMemory;
-use p416_ast::grammar::{Exp, Keyset, Simple};
+use p416_ast::{Exp, Keyset, Simple};
 use p416_calls::Place;
 use p416_expression_uses::Findings;
 use p416_kinds::Kind;

@@ -4,7 +4,7 @@ ghost use Rattle.p416_rules.specs.Declarations.{list_numbers, note_uses};
 ghost use Rattle.p416_rules.specs.Uses.{a_number};
 ghost use Rattle.p416_expression_uses.specs.Found.{after, after_all};
 
-use p416_ast::grammar::{Literal16, Note};
+use p416_ast::{Literal16, Note};
 use p416_expression_uses::{Findings, see_number};
 
 /// Judges one of these numbers.

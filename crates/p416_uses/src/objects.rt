@@ -13,7 +13,7 @@ ghost use Rattle.p416_expression_uses.specs.Found.{after, after_all};
 use crate::notes::see_notes;
 use crate::statements::see_at;
 use p4x_bits::OutOfMemory;
-use p416_ast::grammar::{Exp, Instance, Member, Note};
+use p416_ast::{Exp, Instance, Member, Note};
 use p416_calls::Place;
 use p416_expression_uses::{Findings, see_width};
 use p416_kinds::{Enumeration, Kind};

@@ -17,7 +17,7 @@ use crate::names::{Wanted, see_name, see_names};
 use crate::types::{push_parameters, see_parameters};
 use crate::variables::declare_body;
 use p4x_bits::OutOfMemory;
-use p416_ast::grammar::{Exp, Parser16, SelectCase, State, Target, Transition, Var};
+use p416_ast::{Exp, Parser16, SelectCase, State, Target, Transition, Var};
 use p416_calls::Place;
 use p416_expression_uses::{Findings, Places, TypePlace, see_expression};
 use p416_kinds::Kind;

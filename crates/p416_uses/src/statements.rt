@@ -14,7 +14,7 @@ ghost use Rattle.p416_uses.specs.Parts.{switch_rule};
 use crate::names::{Wanted, see_name};
 use crate::variables::see_scope;
 use p4x_bits::{OutOfMemory, Text};
-use p416_ast::grammar::{CaseLabel, ExpView, StmtHead, StmtView, Type16};
+use p416_ast::{CaseLabel, ExpView, StmtHead, StmtView, Type16};
 use p416_calls::Place;
 use p416_expression_check::applies_nothing;
 use p416_expression_uses::{Findings, Places, TypePlace, see_expression, see_type};

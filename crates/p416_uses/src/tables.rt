@@ -17,7 +17,7 @@ use crate::names::{Wanted, see_name};
 use crate::notes::see_notes;
 use crate::statements::see_at;
 use p4x_bits::{OutOfMemory, Text};
-use p416_ast::grammar::{ActionName, Exp, ExpHead, ExpView, Literal16, Table16, TableKey};
+use p416_ast::{ActionName, Exp, ExpHead, ExpView, Literal16, Table16, TableKey};
 use p416_calls::Place;
 use p416_expression_uses::{Arguments, Findings, Places, see_expression, see_number};
 use p416_listed_check::is_bad_table;

@@ -13,7 +13,7 @@ ghost use Rattle.p416_uses.specs.Parts.{bits_rule};
 use crate::names::see_names;
 use crate::notes::see_notes;
 use p4x_bits::OutOfMemory;
-use p416_ast::grammar::{BitField, Header16, Param, Struct16, StructField};
+use p416_ast::{BitField, Header16, Param, Struct16, StructField};
 use p416_expression_uses::{Findings, TypePlace, see_type, see_width};
 use p416_rules::ProgramRule;
 use p416_scopes::Scope;

@@ -1,6 +1,6 @@
 // The variables of a list of statements (P4_16 1.2, "Variable declarations").
 ghost use Rattle.std.specs.Prelude.{◌≡◌, ◌<◌, ◌+◌, ◌++◌, map, flat_map, IfOk, OnOk, sum_by};
-ghost use Rattle.p416_ast.specs.Grammar.Heads.{of_head};
+ghost use Rattle.p416_ast.specs.Heads.{of_head};
 ghost use Rattle.p416_rules.specs.Statements.{behind, declared_in};
 ghost use Rattle.p416_rules.specs.Uses.{names_of_scope};
 ghost use Rattle.p416_scopes.specs.Seen.{seen_scope};
@@ -9,7 +9,7 @@ ghost use Rattle.p416_uses.specs.Variables.{declared_name, seen_variable, variab
 
 use crate::names::see_names;
 use p4x_bits::{OutOfMemory, Text};
-use p416_ast::grammar::{StmtHead, StmtView, Type16};
+use p416_ast::{StmtHead, StmtView, Type16};
 use p416_expression_uses::Findings;
 use p416_scopes::Scope;
 use p416_visits::declare_variable;

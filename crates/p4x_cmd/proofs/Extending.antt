@@ -1,8 +1,8 @@
 -- What is written in the syntax of the whole language is the program that meaning and types are told of.
 use Rattle.std.proofs.Common.{◌≡◌, ◌∷◌, [], List, ℕ, drop, map, codes, refl, sym, subst, ap}
-use Rattle.p416_ast.specs.declared.grammar.parts.BitField.{BitField}
-use Rattle.p416_ast.specs.declared.grammar.program.Decl16.TheVariants.{Header}
-use Rattle.p416_ast.specs.declared.grammar.program.Syntax16.{Syntax16 as Grammar16}
+use Rattle.p416_ast.specs.declared.parts.BitField.{BitField}
+use Rattle.p416_ast.specs.declared.program.Decl16.TheVariants.{Header}
+use Rattle.p416_ast.specs.declared.program.Syntax16.{Syntax16 as Grammar16}
 use Rattle.p416_reader.specs.Reading.{Reads16}
 use Rattle.p414_one_table.specs.declared.program.Field.{Field}
 use Rattle.one_table_text.specs.declared.one_table.OneTable16.{OneTable16}

@@ -6,7 +6,7 @@ use Rattle.std.specs.Str.{bytes_eq}
 use Rattle.std.proofs.lemmas.Bool.{and_parts, and_from}
 use Rattle.std.proofs.lemmas.List.{length-map}
 use Rattle.state_store.specs.Ports.{drop_port}
-use Rattle.p416_ast.specs.declared.grammar.program.Syntax16.{Syntax16 as Grammar16}
+use Rattle.p416_ast.specs.declared.program.Syntax16.{Syntax16 as Grammar16}
 use Rattle.p416_rules.specs.Breaks.{BreaksNone, program_rules}
 use Rattle.p414_one_table.specs.declared.program.Field.{Field}
 use Rattle.p414_one_table.specs.declared.program.OneTable14.{OneTable14}

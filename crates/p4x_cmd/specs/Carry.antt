@@ -1,7 +1,7 @@
 -- The command `carry`: what is due for what its input files hold (this project's own).
 use Rattle.std.specs.Prelude.{◌≡◌, ◌⊎◌, ℕ, nat_lt, if◌then◌else◌, true, List, [], ◌∷◌, length, Option, Some, None, option_to_list, Result, Ok, Err}
-use Rattle.p416_ast.specs.declared.syntax.Syntax16.{Syntax16}
-use Rattle.p416_ast.specs.declared.grammar.program.Syntax16.{Syntax16 as Grammar16}
+use Rattle.p4x_cmd.specs.Trees16.{Syntax16}
+use Rattle.p416_ast.specs.declared.program.Syntax16.{Syntax16 as Grammar16}
 use Rattle.p416_reader.specs.Reading.{Reads16}
 use Rattle.p416_rules.specs.Breaks.{BreaksNone, program_rules}
 use Rattle.p4x_fault.specs.declared.Fault.{Fault as Refusal}

@@ -4,15 +4,7 @@
 use Rattle.std.specs.Prelude.{Bool, true, false, ◌==◌, ◌&&◌, ◌||◌, List, [], ◌∷◌, length, codes}
 use Rattle.std.specs.List.{list_all}
 use Rattle.std.specs.Str.{bytes_eq}
-use Rattle.p416_ast.specs.Tree.{Exp16, literal, name, error, member, binary, call, no_arguments, Stmt16, no_statements, then, block, assign, expression, if_else}
-use Rattle.p416_ast.specs.Blocks.{StateTree, PropertyTree, actions, default_action, LocalTree, action_local, table_local}
-use Rattle.p416_ast.specs.declared.syntax.Syntax16.{Syntax16}
-use Rattle.p416_ast.specs.declared.syntax.Decl16.{Decl16}
-use Rattle.p416_ast.specs.declared.syntax.Decl16.TheVariants.{Header, Struct, Parser, Control}
-use Rattle.p416_ast.specs.declared.node.Operator.TheVariants.{Equal}
-use Rattle.p416_ast.specs.declared.parser.Target.TheVariants.{Accept}
-use Rattle.p416_ast.specs.declared.parser.Transition.{Transition}
-use Rattle.p416_ast.specs.declared.parser.Transition.TheVariants.{Go}
+use Rattle.p4x_cmd.specs.Trees16.{Exp16, literal, name, error, member, binary, call, no_arguments, Stmt16, no_statements, then, block, assign, expression, if_else, StateTree, PropertyTree, actions, default_action, LocalTree, action_local, table_local, Syntax16, Decl16, Header, Struct, Parser, Control, Equal, Accept, Transition, Go}
 use Rattle.p4x_cmd.specs.Meaning16.{Scope, parser_scope, control_scope, tables_of}
 
 -- a field of the standard metadata, or of a header of H

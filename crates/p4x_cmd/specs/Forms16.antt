@@ -3,21 +3,7 @@
 -- told of it; `Extended16` says what it is in the syntax of the whole language. P4_16 1.2, "P4 data types", "Packet
 -- parsing", "Control blocks", "Deparsing" and "P4 grammar"; v1model.p4.
 use Rattle.std.specs.Prelude.{ℕ, Some, List, [], ◌∷◌, map, codes}
-use Rattle.p416_ast.specs.declared.decl.BitField.{BitField}
-use Rattle.p416_ast.specs.declared.decl.Note.TheVariants.{Name}
-use Rattle.p416_ast.specs.declared.decl.Type16.TheVariants.{Named}
-use Rattle.p416_ast.specs.declared.decl.Direction.{Direction}
-use Rattle.p416_ast.specs.declared.decl.Direction.TheVariants.{Plain, In, Out, InOut}
-use Rattle.p416_ast.specs.declared.decl.Param.{Param}
-use Rattle.p416_ast.specs.declared.node.Operator.TheVariants.{Equal}
-use Rattle.p416_ast.specs.declared.parser.Target.TheVariants.{Accept}
-use Rattle.p416_ast.specs.declared.parser.Transition.TheVariants.{Go}
-use Rattle.p416_ast.specs.declared.control.ActionName.TheVariants.{Declared}
-use Rattle.p416_ast.specs.declared.syntax.Decl16.{Decl16}
-use Rattle.p416_ast.specs.declared.syntax.Decl16.TheVariants.{Header, Struct, Parser, Control}
-use Rattle.p416_ast.specs.declared.syntax.Syntax16.{Syntax16}
-use Rattle.p416_ast.specs.Tree.{Exp16, literal, name, error, member, binary, call, no_arguments, argument, Stmt16, no_statements, then, block, assign, expression, if_else}
-use Rattle.p416_ast.specs.Blocks.{actions, default_action, LocalTree, action_local, table_local}
+use Rattle.p4x_cmd.specs.Trees16.{BitField, Name, Named, Direction, Plain, In, Out, InOut, Param, Equal, Accept, Go, Declared, Decl16, Header, Struct, Parser, Control, Syntax16, Exp16, literal, name, error, member, binary, call, no_arguments, argument, Stmt16, no_statements, then, block, assign, expression, if_else, actions, default_action, LocalTree, action_local, table_local}
 use Rattle.p414_one_table.specs.declared.program.Field.{Field}
 use Rattle.one_table_text.specs.declared.one_table.OneTable16.{OneTable16}
 

@@ -15,6 +15,7 @@
 --   FirstCut   the programs on which that is the whole meaning
 --   Entries    what stands in the tables
 --   Headers    the bits of a header's fields
+--   Trees16    the part of the syntax that this meaning is told of
 --   Forms16    the syntax of the programs that are written
 --   Extended16 the same in the syntax of the whole language (`Reads16` of `p416_reader` says which text reads as it, and
 --              `BreaksNone` of `p416_rules` that it is well-typed)
@@ -34,3 +35,4 @@ pub mod Meaning16
 pub mod Passes
 pub mod Reports
 pub mod Runs
+pub mod Trees16

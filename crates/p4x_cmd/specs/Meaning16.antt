@@ -11,21 +11,7 @@ use Rattle.match_core.specs.declared.signatures.Signature.{Signature}
 use Rattle.match_core.specs.declared.entries.DefaultCall.{DefaultCall}
 use Rattle.match_core.specs.declared.entries.Entries.{Entries}
 use Rattle.match_core.specs.Stores.{first_store}
-use Rattle.p416_ast.specs.Tree.{Exp16, literal, name, error, member, binary, call, no_arguments, argument, Stmt16, no_statements, then, block, assign, expression, if_else}
-use Rattle.p416_ast.specs.Blocks.{StateTree, ParserTree, ActionTree, PropertyTree, actions, default_action, TableTree, LocalTree, action_local, table_local, ControlTree}
-use Rattle.p416_ast.specs.declared.syntax.Syntax16.{Syntax16}
-use Rattle.p416_ast.specs.declared.syntax.Decl16.{Decl16}
-use Rattle.p416_ast.specs.declared.syntax.Decl16.TheVariants.{Header, Struct, Parser, Control}
-use Rattle.p416_ast.specs.declared.decl.StructField.{StructField}
-use Rattle.p416_ast.specs.declared.decl.BitField.{BitField}
-use Rattle.p416_ast.specs.declared.decl.Param.{Param}
-use Rattle.p416_ast.specs.declared.decl.Note.{Note}
-use Rattle.p416_ast.specs.declared.decl.Note.TheVariants.{Name}
-use Rattle.p416_ast.specs.declared.decl.Type16.{Type16}
-use Rattle.p416_ast.specs.declared.decl.Type16.TheVariants.{Bit, Named}
-use Rattle.p416_ast.specs.declared.node.Operator.TheVariants.{Equal}
-use Rattle.p416_ast.specs.declared.control.ActionName.{ActionName}
-use Rattle.p416_ast.specs.declared.control.ActionName.TheVariants.{Declared, NoAction}
+use Rattle.p4x_cmd.specs.Trees16.{Exp16, literal, name, error, member, binary, call, no_arguments, argument, Stmt16, no_statements, then, block, assign, expression, if_else, StateTree, ParserTree, ActionTree, PropertyTree, actions, default_action, TableTree, LocalTree, action_local, table_local, ControlTree, Syntax16, Decl16, Header, Struct, Parser, Control, StructField, BitField, Param, Note, Name, Type16, Bit, Named, Equal, ActionName, Declared, NoAction}
 use Rattle.fabric.specs.declared.packets.Arrival.{Arrival}
 use Rattle.p4x_cmd.specs.Headers.{numbers_in, bits_in, octets_in, zeros}
 use Rattle.run_stream.specs.Runs.{Ran}

@@ -1,7 +1,7 @@
 -- What the wrong programs send of one packet, beside what the sample sends.
 use Rattle.std.proofs.Common.{◌≡◌, ◌<◌, ℕ, zero, suc, All, List, [], ◌∷◌, ◌++◌, length, drop, Some, refl, sym, ◌∙◌, ap, arith}
 use Rattle.std.proofs.lemmas.List.Elements.{All-cons}
-use Rattle.p416_ast.specs.declared.syntax.Syntax16.{Syntax16}
+use Rattle.p4x_cmd.specs.Trees16.{Syntax16}
 use Rattle.fabric.specs.Numbers.{IsArrival}
 use Rattle.fabric.specs.declared.packets.Arrival.{Arrival}
 use Rattle.fabric.specs.declared.packets.Sent.{Sent}

@@ -1,13 +1,6 @@
 -- The first sample program, and programs of P4_16 that are each wrong in one place (this project's own).
 use Rattle.std.specs.Prelude.{ℕ, List, [], ◌∷◌, Option, Some, None, codes}
-use Rattle.p416_ast.specs.Tree.{name, member, call, no_arguments, Stmt16, no_statements, then, expression}
-use Rattle.p416_ast.specs.Blocks.{LocalTree, action_local}
-use Rattle.p416_ast.specs.declared.decl.BitField.{BitField}
-use Rattle.p416_ast.specs.declared.decl.Direction.TheVariants.{Plain, In}
-use Rattle.p416_ast.specs.declared.decl.Note.TheVariants.{Name}
-use Rattle.p416_ast.specs.declared.syntax.Decl16.{Decl16}
-use Rattle.p416_ast.specs.declared.syntax.Decl16.TheVariants.{Header, Control}
-use Rattle.p416_ast.specs.declared.syntax.Syntax16.{Syntax16}
+use Rattle.p4x_cmd.specs.Trees16.{name, member, call, no_arguments, Stmt16, no_statements, then, expression, LocalTree, action_local, BitField, Plain, In, Name, Decl16, Header, Control, Syntax16}
 use Rattle.p414_ast.specs.declared.parts.Inst.{Inst}
 use Rattle.p414_ast.specs.declared.headers.Field.{Field as DeclaredField}
 use Rattle.p414_ast.specs.declared.headers.FieldWidth.TheVariants.{Bits}

@@ -1,7 +1,7 @@
 -- A new frame is the blank one.
 use Rattle.std.proofs.Common.{◌≡◌, ℕ, zero, suc, Bool, false, cond, not, List, [], ◌∷◌, length, map, replicate, get_or, refl, ap, ◌∙◌}
 use Rattle.std.specs.Prelude.{◌==◌}
-use Rattle.p416_ast.specs.declared.grammar.program.Syntax16.{Syntax16}
+use Rattle.p416_ast.specs.declared.program.Syntax16.{Syntax16}
 use Rattle.p416_rules.specs.Kinds.{Kind, bits, unsized, boolean, error_code, header, stack, struct, packet_in, packet_out, errors, enumeration, one_of, table, applied, object, items, nothing, unknown}
 use Rattle.p416_rules.specs.Scopes.{Layout as TypeLayout, FieldKind, fields_in}
 use Rattle.p416_rules.specs.Totals.{bits_in}

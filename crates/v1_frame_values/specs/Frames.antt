@@ -1,6 +1,6 @@
 -- A packed frame of a program.
 use Rattle.std.specs.Prelude.{◌≡◌}
-use Rattle.p416_ast.specs.declared.grammar.program.Syntax16.{Syntax16}
+use Rattle.p416_ast.specs.declared.program.Syntax16.{Syntax16}
 use Rattle.v1_frames.specs.Cells.{Cells, AreWhole}
 use Rattle.v1_frame_values.specs.Programs.{layout16}
 

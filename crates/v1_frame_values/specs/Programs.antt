@@ -1,6 +1,6 @@
 -- The parts of the frames of a program, and the values of a packed frame of it (this project's own).
 use Rattle.std.specs.Prelude.{ℕ, zero, suc, List, [], ◌∷◌, length, map, min, drop, slice_index_or, Option, Some, None}
-use Rattle.p416_ast.specs.declared.grammar.program.Syntax16.{Syntax16}
+use Rattle.p416_ast.specs.declared.program.Syntax16.{Syntax16}
 use Rattle.p416_rules.specs.Kinds.{Kind}
 use Rattle.p416_rules.specs.Scopes.{Layout as TypeLayout, FieldKind, fields_in}
 use Rattle.p416_rules.specs.Totals.{bits_in}

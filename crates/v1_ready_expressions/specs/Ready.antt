@@ -3,8 +3,8 @@
 -- and the first error ends that.
 use Rattle.std.specs.Prelude.{ℕ, ◌+◌, ◌-◌, ◌*◌, ◌==◌, Bool, not, nat_lt, if◌then◌else◌, List, length, take, slice_index}
 use Rattle.p4x_bits.specs.BitLists.{num, octet_bits}
-use Rattle.p416_ast.specs.declared.grammar.node.UnaryOperator.{UnaryOperator}
-use Rattle.p416_ast.specs.declared.grammar.node.BinaryOperator.{BinaryOperator}
+use Rattle.p416_ast.specs.declared.node.UnaryOperator.{UnaryOperator}
+use Rattle.p416_ast.specs.declared.node.BinaryOperator.{BinaryOperator}
 use Rattle.v1_sem.specs.declared.parser_error.ParserError.{ParserError}
 use Rattle.v1_sem.specs.declared.parser_error.ParserError.TheVariants.{PacketTooShort, StackOutOfBounds}
 use Rattle.v1_sem.specs.Values.{Value, a_number, a_truth, an_error, number_in, is_true, Slice, sliced}

@@ -3,8 +3,8 @@
 -- that the rules on types allow; else nothing comes out, which no program that keeps the rules asks for.
 use Rattle.std.specs.Prelude.{ℕ, ◌+◌, ◌*◌, ◌%◌, ◌^◌, ◌<◌, ◌≤◌, Bool, true, false, not, ◌==◌, nat_eq, nat_le, if◌then◌else◌}
 use Rattle.p4x_bits.specs.BitLists.{bit}
-use Rattle.p416_ast.specs.declared.grammar.node.BinaryOperator.{BinaryOperator}
-use Rattle.p416_ast.specs.declared.grammar.node.BinaryOperator.TheVariants.{Multiply, Add, Subtract, SaturatingAdd, SaturatingSubtract, Concatenate, ShiftLeft, ShiftRight, BitAnd, BitXor, BitOr, Less, LessEqual, Greater, GreaterEqual, Equal, NotEqual}
+use Rattle.p416_ast.specs.declared.node.BinaryOperator.{BinaryOperator}
+use Rattle.p416_ast.specs.declared.node.BinaryOperator.TheVariants.{Multiply, Add, Subtract, SaturatingAdd, SaturatingSubtract, Concatenate, ShiftLeft, ShiftRight, BitAnd, BitXor, BitOr, Less, LessEqual, Greater, GreaterEqual, Equal, NotEqual}
 use Rattle.v1_sem.specs.Values.{Value, a_number, a_truth, an_error, no_value}
 use Rattle.v1_sem.specs.Numbers.{of_numbers, of_truths, of_errors}
 use Rattle.v1_ready_expressions.specs.declared.scalar.Scalar.{Scalar}

@@ -1,5 +1,5 @@
 // The nodes of ready expressions.
-use p416_ast::grammar::{BinaryOperator, UnaryOperator};
+use p416_ast::{BinaryOperator, UnaryOperator};
 
 /// What stands in a slot.
 #[derive(Clone, Copy, Debug, PartialEq, Eq, Drop)]

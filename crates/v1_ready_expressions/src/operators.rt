@@ -10,7 +10,7 @@ use crate::numbers::{
     shifted_left, shifted_right, sum_of,
 };
 use crate::scalar::Scalar;
-use p416_ast::grammar::{BinaryOperator, UnaryOperator};
+use p416_ast::{BinaryOperator, UnaryOperator};
 
 /// Whether an operator wants operands of one width.
 fn is_joint(operator: BinaryOperator) -> bool

@@ -4,11 +4,11 @@
 use Rattle.std.specs.Prelude.{ℕ, Bool, ◌&&◌, if◌then◌else◌, List, [], ◌∷◌, ◌++◌, map, slice_index_or, Option, Some, None, codes}
 use Rattle.std.specs.Str.{bytes_eq}
 use Rattle.p4x_bits.specs.BitLists.{bits as bit_list}
-use Rattle.p416_ast.specs.declared.grammar.parts.Direction.{Direction}
-use Rattle.p416_ast.specs.declared.grammar.parts.Direction.TheVariants.{Out, InOut}
-use Rattle.p416_ast.specs.declared.grammar.parts.Param.{Param}
-use Rattle.p416_ast.specs.declared.grammar.controls.Action16.{Action16}
-use Rattle.p416_ast.specs.Grammar.Tree.{Exp16, name, member, call, argument, listed}
+use Rattle.p416_ast.specs.declared.parts.Direction.{Direction}
+use Rattle.p416_ast.specs.declared.parts.Direction.TheVariants.{Out, InOut}
+use Rattle.p416_ast.specs.declared.parts.Param.{Param}
+use Rattle.p416_ast.specs.declared.controls.Action16.{Action16}
+use Rattle.p416_ast.specs.Tree.{Exp16, name, member, call, argument, listed}
 use Rattle.p416_rules.specs.Names.{Name}
 use Rattle.p416_rules.specs.Kinds.{ObjectKind, counter, direct_counter, register, meter, Kind, header, stack, packet_in, packet_out, table, object, is_stack}
 use Rattle.p416_rules.specs.Scopes.{Handed, Sort, an_action, a_function, Scope, sort_of, kind_of_type}

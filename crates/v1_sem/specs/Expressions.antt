@@ -7,8 +7,8 @@ use Rattle.std.specs.Prelude.{ℕ, suc, ◌+◌, ◌-◌, ◌*◌, ◌%◌, ◌^
 use Rattle.std.specs.Str.{bytes_eq}
 use Rattle.p4x_bits.specs.BitLists.{num, octet_bits}
 use Rattle.p416_lexemes.specs.declared.lexeme.Literal16.{Literal16}
-use Rattle.p416_ast.specs.declared.grammar.node.BinaryOperator.TheVariants.{And, Or}
-use Rattle.p416_ast.specs.Grammar.Tree.{Exp16, literal, truth, name, member, index, slice, call, lookahead, cast, unary, binary, choice}
+use Rattle.p416_ast.specs.declared.node.BinaryOperator.TheVariants.{And, Or}
+use Rattle.p416_ast.specs.Tree.{Exp16, literal, truth, name, member, index, slice, call, lookahead, cast, unary, binary, choice}
 use Rattle.p416_rules.specs.Names.{Name}
 use Rattle.p416_rules.specs.Kinds.{Kind, bits, boolean, header, stack, errors, enumeration, table}
 use Rattle.p416_rules.specs.Scopes.{Scope, kind_of_type}

@@ -9,7 +9,7 @@ use Rattle.match_core.specs.Fits.{Fits}
 use Rattle.match_core.specs.Stores.{IsStoreOf}
 use Rattle.fabric.specs.declared.items.Event.{Event}
 use Rattle.fabric.specs.declared.items.Item.{Item}
-use Rattle.p416_ast.specs.declared.grammar.program.Syntax16.{Syntax16}
+use Rattle.p416_ast.specs.declared.program.Syntax16.{Syntax16}
 use Rattle.p416_rules.specs.Kinds.{Kind, bits, boolean, error_code, header, stack, struct}
 use Rattle.p416_rules.specs.Scopes.{Layout, FieldKind, fields_in}
 use Rattle.p416_rules.specs.BuiltIn.{standard}

@@ -5,8 +5,8 @@ use Rattle.match_core.specs.declared.signatures.Signature.{Signature}
 use Rattle.fabric.specs.declared.items.Item.{Item}
 use Rattle.fabric.specs.declared.items.IngressEnd.{IngressEnd}
 use Rattle.fabric.specs.declared.items.EgressEnd.{EgressEnd}
-use Rattle.p416_ast.specs.declared.grammar.program.Syntax16.{Syntax16}
-use Rattle.p416_ast.specs.Grammar.Tree.{Exp16, Stmt16}
+use Rattle.p416_ast.specs.declared.program.Syntax16.{Syntax16}
+use Rattle.p416_ast.specs.Tree.{Exp16, Stmt16}
 use Rattle.p416_rules.specs.Names.{Name}
 use Rattle.p416_rules.specs.Scopes.{Scope}
 use Rattle.p416_rules.specs.Calls.{Place}

@@ -4,7 +4,7 @@
 use Rattle.std.specs.Prelude.{ℕ, ◌^◌, Bool, not, ◌==◌, if◌then◌else◌, List, [], ◌∷◌, length, map, slice_index_or, slice_set, Option, Some, None}
 use Rattle.std.specs.Str.{bytes_eq}
 use Rattle.fabric.specs.declared.items.Event.{Event}
-use Rattle.p416_ast.specs.declared.grammar.program.Syntax16.{Syntax16}
+use Rattle.p416_ast.specs.declared.program.Syntax16.{Syntax16}
 use Rattle.p416_rules.specs.Names.{Name}
 use Rattle.p416_rules.specs.BuiltIn.{standard}
 use Rattle.p416_rules.specs.Declarations.{layouts_of}

@@ -3,21 +3,21 @@
 -- ends with `accept`, with `reject` or with an error.
 use Rattle.std.specs.Prelude.{ℕ, zero, suc, ◌+◌, ◌*◌, Bool, true, false, ◌&&◌, ◌==◌, nat_le, if◌then◌else◌, bit_and, List, [], ◌∷◌, length, map, slice_index_or, Option, Some, None, codes, unwrap_or}
 use Rattle.std.specs.Str.{bytes_eq}
-use Rattle.p416_ast.specs.declared.grammar.parsers.Target.{Target}
-use Rattle.p416_ast.specs.declared.grammar.parsers.Target.TheVariants as target
-use Rattle.p416_ast.specs.declared.grammar.parsers.Simple.{Simple}
-use Rattle.p416_ast.specs.declared.grammar.parsers.Simple.TheVariants as simple
-use Rattle.p416_ast.specs.declared.grammar.parsers.Keyset.{Keyset}
-use Rattle.p416_ast.specs.declared.grammar.parsers.Keyset.TheVariants as keyset
-use Rattle.p416_ast.specs.declared.grammar.parsers.SelectCase.{SelectCase}
-use Rattle.p416_ast.specs.declared.grammar.parsers.Transition.{Transition}
-use Rattle.p416_ast.specs.declared.grammar.parsers.Transition.TheVariants as transition
-use Rattle.p416_ast.specs.declared.grammar.parsers.State.{State}
-use Rattle.p416_ast.specs.declared.grammar.parsers.Parser16.{Parser16}
-use Rattle.p416_ast.specs.declared.grammar.program.Decl16.{Decl16}
-use Rattle.p416_ast.specs.declared.grammar.program.Decl16.TheVariants as decl
-use Rattle.p416_ast.specs.declared.grammar.program.Syntax16.{Syntax16}
-use Rattle.p416_ast.specs.Grammar.Tree.{Exp16, literal, truth}
+use Rattle.p416_ast.specs.declared.parsers.Target.{Target}
+use Rattle.p416_ast.specs.declared.parsers.Target.TheVariants as target
+use Rattle.p416_ast.specs.declared.parsers.Simple.{Simple}
+use Rattle.p416_ast.specs.declared.parsers.Simple.TheVariants as simple
+use Rattle.p416_ast.specs.declared.parsers.Keyset.{Keyset}
+use Rattle.p416_ast.specs.declared.parsers.Keyset.TheVariants as keyset
+use Rattle.p416_ast.specs.declared.parsers.SelectCase.{SelectCase}
+use Rattle.p416_ast.specs.declared.parsers.Transition.{Transition}
+use Rattle.p416_ast.specs.declared.parsers.Transition.TheVariants as transition
+use Rattle.p416_ast.specs.declared.parsers.State.{State}
+use Rattle.p416_ast.specs.declared.parsers.Parser16.{Parser16}
+use Rattle.p416_ast.specs.declared.program.Decl16.{Decl16}
+use Rattle.p416_ast.specs.declared.program.Decl16.TheVariants as decl
+use Rattle.p416_ast.specs.declared.program.Syntax16.{Syntax16}
+use Rattle.p416_ast.specs.Tree.{Exp16, literal, truth}
 use Rattle.p416_rules.specs.Names.{Name}
 use Rattle.p416_rules.specs.Kinds.{Kind}
 use Rattle.p416_rules.specs.Scopes.{Scope}

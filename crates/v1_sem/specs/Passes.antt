@@ -14,12 +14,12 @@ use Rattle.fabric.specs.declared.items.EgressEnd.{EgressEnd}
 use Rattle.fabric.specs.declared.items.EgressNext.{EgressNext}
 use Rattle.fabric.specs.declared.items.EgressNext.TheVariants as after_egress
 use Rattle.p416_lexemes.specs.declared.lexeme.Literal16.{Literal16}
-use Rattle.p416_ast.specs.declared.grammar.parts.Type16.{Type16}
-use Rattle.p416_ast.specs.declared.grammar.parts.Type16.TheVariants as type_of
-use Rattle.p416_ast.specs.declared.grammar.parts.StructField.{StructField}
-use Rattle.p416_ast.specs.declared.grammar.program.Decl16.{Decl16}
-use Rattle.p416_ast.specs.declared.grammar.program.Decl16.TheVariants as decl
-use Rattle.p416_ast.specs.declared.grammar.program.Syntax16.{Syntax16}
+use Rattle.p416_ast.specs.declared.parts.Type16.{Type16}
+use Rattle.p416_ast.specs.declared.parts.Type16.TheVariants as type_of
+use Rattle.p416_ast.specs.declared.parts.StructField.{StructField}
+use Rattle.p416_ast.specs.declared.program.Decl16.{Decl16}
+use Rattle.p416_ast.specs.declared.program.Decl16.TheVariants as decl
+use Rattle.p416_ast.specs.declared.program.Syntax16.{Syntax16}
 use Rattle.p416_rules.specs.Names.{Name}
 use Rattle.p416_rules.specs.Kinds.{Kind, struct}
 use Rattle.p416_rules.specs.BuiltIn.{standard}

@@ -4,17 +4,17 @@
 -- the order of the text.
 use Rattle.std.specs.Prelude.{ℕ, zero, suc, Bool, true, false, ◌&&◌, nat_eq, List, [], ◌∷◌, ◌++◌, length, map, flat_map, filter_map, Option, Some, None, position}
 use Rattle.std.specs.Str.{bytes_eq}
-use Rattle.p416_ast.specs.declared.grammar.parts.Param.{Param}
-use Rattle.p416_ast.specs.declared.grammar.parsers.Var.{Var}
-use Rattle.p416_ast.specs.declared.grammar.parsers.State.{State}
-use Rattle.p416_ast.specs.declared.grammar.parsers.Parser16.{Parser16}
-use Rattle.p416_ast.specs.declared.grammar.controls.Local.{Local}
-use Rattle.p416_ast.specs.declared.grammar.controls.Local.TheVariants as local
-use Rattle.p416_ast.specs.declared.grammar.controls.Control16.{Control16}
-use Rattle.p416_ast.specs.declared.grammar.program.Decl16.{Decl16}
-use Rattle.p416_ast.specs.declared.grammar.program.Decl16.TheVariants as decl
-use Rattle.p416_ast.specs.declared.grammar.program.Syntax16.{Syntax16}
-use Rattle.p416_ast.specs.Grammar.Tree.{Stmt16, var, var_is}
+use Rattle.p416_ast.specs.declared.parts.Param.{Param}
+use Rattle.p416_ast.specs.declared.parsers.Var.{Var}
+use Rattle.p416_ast.specs.declared.parsers.State.{State}
+use Rattle.p416_ast.specs.declared.parsers.Parser16.{Parser16}
+use Rattle.p416_ast.specs.declared.controls.Local.{Local}
+use Rattle.p416_ast.specs.declared.controls.Local.TheVariants as local
+use Rattle.p416_ast.specs.declared.controls.Control16.{Control16}
+use Rattle.p416_ast.specs.declared.program.Decl16.{Decl16}
+use Rattle.p416_ast.specs.declared.program.Decl16.TheVariants as decl
+use Rattle.p416_ast.specs.declared.program.Syntax16.{Syntax16}
+use Rattle.p416_ast.specs.Tree.{Stmt16, var, var_is}
 use Rattle.p416_rules.specs.Names.{Name}
 use Rattle.p416_rules.specs.Kinds.{Kind, bits, boolean, error_code, header, stack, struct}
 use Rattle.p416_rules.specs.Scopes.{Scope, Layout, FieldKind, fields_in, kind_of_type}

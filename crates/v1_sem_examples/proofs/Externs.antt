@@ -4,16 +4,16 @@ use Rattle.std.specs.Prelude.{codes, true, false}
 use Rattle.p4x_bits.specs.BitLists.{num, bits}
 use Rattle.state_store.specs.declared.cells.Cells.TheVariants.{Counts, Numbers, Colours}
 use Rattle.fabric.specs.Queue.{run}
-use Rattle.p416_ast.specs.declared.grammar.parts.Member.TheVariants as member_of
-use Rattle.p416_ast.specs.declared.grammar.parts.CounterType.TheVariants.{PacketsAndBytes}
-use Rattle.p416_ast.specs.declared.grammar.parts.MeterType.TheVariants as meter_type
-use Rattle.p416_ast.specs.declared.grammar.controls.Instance.TheVariants as instance
-use Rattle.p416_ast.specs.declared.grammar.controls.Local.{Local}
-use Rattle.p416_ast.specs.declared.grammar.controls.Local.TheVariants as local
-use Rattle.p416_ast.specs.declared.grammar.node.BinaryOperator.TheVariants.{Equal}
-use Rattle.p416_ast.specs.declared.grammar.node.CastType.TheVariants.{Bit}
-use Rattle.p416_ast.specs.declared.grammar.program.Syntax16.{Syntax16}
-use Rattle.p416_ast.specs.Grammar.Tree.{Exp16, truth, name, member, slice, cast, binary, listed, Stmt16, assign, block, if_then}
+use Rattle.p416_ast.specs.declared.parts.Member.TheVariants as member_of
+use Rattle.p416_ast.specs.declared.parts.CounterType.TheVariants.{PacketsAndBytes}
+use Rattle.p416_ast.specs.declared.parts.MeterType.TheVariants as meter_type
+use Rattle.p416_ast.specs.declared.controls.Instance.TheVariants as instance
+use Rattle.p416_ast.specs.declared.controls.Local.{Local}
+use Rattle.p416_ast.specs.declared.controls.Local.TheVariants as local
+use Rattle.p416_ast.specs.declared.node.BinaryOperator.TheVariants.{Equal}
+use Rattle.p416_ast.specs.declared.node.CastType.TheVariants.{Bit}
+use Rattle.p416_ast.specs.declared.program.Syntax16.{Syntax16}
+use Rattle.p416_ast.specs.Tree.{Exp16, truth, name, member, slice, cast, binary, listed, Stmt16, assign, block, if_then}
 use Rattle.v1_sem.specs.Surroundings.{Setting}
 use Rattle.v1_sem.specs.Signatures.{signature16}
 use Rattle.v1_sem.specs.Blocks.{control16}

@@ -7,21 +7,21 @@ use Rattle.state_store.specs.declared.cells.Cells.TheVariants.{Counts}
 use Rattle.match_core.specs.declared.entries.KeyMatch.TheVariants as key_match
 use Rattle.match_core.specs.declared.entries.TableFill.{TableFill}
 use Rattle.fabric.specs.Queue.{run}
-use Rattle.p416_ast.specs.declared.grammar.parts.Type16.TheVariants.{Bool as BoolType}
-use Rattle.p416_ast.specs.declared.grammar.parts.Member.TheVariants as member_of
-use Rattle.p416_ast.specs.declared.grammar.parts.CounterType.TheVariants.{Packets}
-use Rattle.p416_ast.specs.declared.grammar.parsers.Target.TheVariants as target
-use Rattle.p416_ast.specs.declared.grammar.parsers.Transition.TheVariants as transition
-use Rattle.p416_ast.specs.declared.grammar.controls.Instance.TheVariants as instance
-use Rattle.p416_ast.specs.declared.grammar.controls.Local.{Local}
-use Rattle.p416_ast.specs.declared.grammar.controls.Local.TheVariants as local
-use Rattle.p416_ast.specs.declared.grammar.controls.Property.TheVariants as property
-use Rattle.p416_ast.specs.declared.grammar.node.BinaryOperator.TheVariants.{Add, Equal, Concatenate, And, Or}
-use Rattle.p416_ast.specs.declared.grammar.node.CastType.TheVariants.{Bit}
-use Rattle.p416_ast.specs.declared.grammar.program.Decl16.TheVariants as decl
-use Rattle.p416_ast.specs.declared.grammar.program.Syntax16.{Syntax16}
-use Rattle.p416_ast.specs.Grammar.Tree.{Exp16, truth, name, member, index, slice, cast, binary, choice, Stmt16, assign, if_then, var, var_is}
-use Rattle.p416_ast.specs.Grammar.Tree as tree
+use Rattle.p416_ast.specs.declared.parts.Type16.TheVariants.{Bool as BoolType}
+use Rattle.p416_ast.specs.declared.parts.Member.TheVariants as member_of
+use Rattle.p416_ast.specs.declared.parts.CounterType.TheVariants.{Packets}
+use Rattle.p416_ast.specs.declared.parsers.Target.TheVariants as target
+use Rattle.p416_ast.specs.declared.parsers.Transition.TheVariants as transition
+use Rattle.p416_ast.specs.declared.controls.Instance.TheVariants as instance
+use Rattle.p416_ast.specs.declared.controls.Local.{Local}
+use Rattle.p416_ast.specs.declared.controls.Local.TheVariants as local
+use Rattle.p416_ast.specs.declared.controls.Property.TheVariants as property
+use Rattle.p416_ast.specs.declared.node.BinaryOperator.TheVariants.{Add, Equal, Concatenate, And, Or}
+use Rattle.p416_ast.specs.declared.node.CastType.TheVariants.{Bit}
+use Rattle.p416_ast.specs.declared.program.Decl16.TheVariants as decl
+use Rattle.p416_ast.specs.declared.program.Syntax16.{Syntax16}
+use Rattle.p416_ast.specs.Tree.{Exp16, truth, name, member, index, slice, cast, binary, choice, Stmt16, assign, if_then, var, var_is}
+use Rattle.p416_ast.specs.Tree as tree
 use Rattle.v1_sem.specs.Signatures.{signature16}
 use Rattle.v1_sem.specs.Blocks.{control16}
 use Rattle.v1_sem.specs.Parsing.{parse16}

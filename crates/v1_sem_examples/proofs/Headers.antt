@@ -4,12 +4,12 @@ use Rattle.std.proofs.Common.{◌≡◌, ℕ, List, [], ◌∷◌, refl}
 use Rattle.std.specs.Prelude.{codes, Some}
 use Rattle.p4x_bits.specs.BitLists.{num, bits}
 use Rattle.fabric.specs.Queue.{run}
-use Rattle.p416_ast.specs.declared.grammar.parts.Type16.TheVariants.{Named}
-use Rattle.p416_ast.specs.declared.grammar.parts.Direction.TheVariants.{In, Out, InOut}
-use Rattle.p416_ast.specs.declared.grammar.controls.Local.{Local}
-use Rattle.p416_ast.specs.declared.grammar.node.BinaryOperator.TheVariants.{Add, SaturatingAdd, ShiftRight}
-use Rattle.p416_ast.specs.declared.grammar.node.CastType.TheVariants.{Bit}
-use Rattle.p416_ast.specs.Grammar.Tree.{Exp16, member, index, slice, cast, binary, choice, Stmt16, assign, block, empty, if_then, if_else, var, var_is}
+use Rattle.p416_ast.specs.declared.parts.Type16.TheVariants.{Named}
+use Rattle.p416_ast.specs.declared.parts.Direction.TheVariants.{In, Out, InOut}
+use Rattle.p416_ast.specs.declared.controls.Local.{Local}
+use Rattle.p416_ast.specs.declared.node.BinaryOperator.TheVariants.{Add, SaturatingAdd, ShiftRight}
+use Rattle.p416_ast.specs.declared.node.CastType.TheVariants.{Bit}
+use Rattle.p416_ast.specs.Tree.{Exp16, member, index, slice, cast, binary, choice, Stmt16, assign, block, empty, if_then, if_else, var, var_is}
 use Rattle.v1_sem.specs.Signatures.{signature16}
 use Rattle.v1_sem.specs.Blocks.{control16}
 use Rattle.v1_sem.specs.Parsing.{parse16}

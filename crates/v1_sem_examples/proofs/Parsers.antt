@@ -3,19 +3,19 @@ use Rattle.std.proofs.Common.{◌≡◌, ℕ, List, [], ◌∷◌, refl}
 use Rattle.std.specs.Prelude.{codes}
 use Rattle.p4x_bits.specs.BitLists.{num, bits}
 use Rattle.fabric.specs.Queue.{run}
-use Rattle.p416_ast.specs.declared.grammar.parsers.Target.{Target}
-use Rattle.p416_ast.specs.declared.grammar.parsers.Target.TheVariants as target
-use Rattle.p416_ast.specs.declared.grammar.parsers.Transition.{Transition}
-use Rattle.p416_ast.specs.declared.grammar.parsers.Transition.TheVariants as transition
-use Rattle.p416_ast.specs.declared.grammar.parsers.Keyset.{Keyset}
-use Rattle.p416_ast.specs.declared.grammar.parsers.Keyset.TheVariants as keyset
-use Rattle.p416_ast.specs.declared.grammar.parsers.Simple.{Simple}
-use Rattle.p416_ast.specs.declared.grammar.parsers.Simple.TheVariants as simple
-use Rattle.p416_ast.specs.declared.grammar.parsers.SelectCase.{SelectCase}
-use Rattle.p416_ast.specs.declared.grammar.program.Syntax16.{Syntax16}
-use Rattle.p416_ast.specs.Grammar.Tree.{Exp16, name, member, lookahead, no_arguments, Stmt16, assign, empty, block, if_then, binary}
-use Rattle.p416_ast.specs.declared.grammar.node.BinaryOperator.TheVariants.{Equal}
-use Rattle.p416_ast.specs.Grammar.Tree as tree
+use Rattle.p416_ast.specs.declared.parsers.Target.{Target}
+use Rattle.p416_ast.specs.declared.parsers.Target.TheVariants as target
+use Rattle.p416_ast.specs.declared.parsers.Transition.{Transition}
+use Rattle.p416_ast.specs.declared.parsers.Transition.TheVariants as transition
+use Rattle.p416_ast.specs.declared.parsers.Keyset.{Keyset}
+use Rattle.p416_ast.specs.declared.parsers.Keyset.TheVariants as keyset
+use Rattle.p416_ast.specs.declared.parsers.Simple.{Simple}
+use Rattle.p416_ast.specs.declared.parsers.Simple.TheVariants as simple
+use Rattle.p416_ast.specs.declared.parsers.SelectCase.{SelectCase}
+use Rattle.p416_ast.specs.declared.program.Syntax16.{Syntax16}
+use Rattle.p416_ast.specs.Tree.{Exp16, name, member, lookahead, no_arguments, Stmt16, assign, empty, block, if_then, binary}
+use Rattle.p416_ast.specs.declared.node.BinaryOperator.TheVariants.{Equal}
+use Rattle.p416_ast.specs.Tree as tree
 use Rattle.v1_sem.specs.declared.parser_error.ParserError.TheVariants.{NoError, PacketTooShort, StackOutOfBounds, NoMatch}
 use Rattle.v1_sem.specs.Signatures.{signature16}
 use Rattle.v1_sem.specs.Blocks.{control16}

@@ -11,18 +11,18 @@ use Rattle.match_core.specs.declared.entries.Entry.{Entry}
 use Rattle.match_core.specs.declared.entries.TableFill.{TableFill}
 use Rattle.match_core.specs.declared.entries.DefaultCall.{DefaultCall}
 use Rattle.fabric.specs.Queue.{run}
-use Rattle.p416_ast.specs.declared.grammar.parts.Note.TheVariants as note
-use Rattle.p416_ast.specs.declared.grammar.parts.Member.TheVariants as member_of
-use Rattle.p416_ast.specs.declared.grammar.parts.CounterType.TheVariants.{PacketsAndBytes}
-use Rattle.p416_ast.specs.declared.grammar.controls.ActionName.TheVariants as action_name
-use Rattle.p416_ast.specs.declared.grammar.controls.Instance.TheVariants as instance
-use Rattle.p416_ast.specs.declared.grammar.controls.Local.{Local}
-use Rattle.p416_ast.specs.declared.grammar.controls.Local.TheVariants as local
-use Rattle.p416_ast.specs.declared.grammar.controls.Property.TheVariants as property
-use Rattle.p416_ast.specs.declared.grammar.node.BinaryOperator.TheVariants.{And, Or}
-use Rattle.p416_ast.specs.declared.grammar.node.CaseLabel.TheVariants as label
-use Rattle.p416_ast.specs.declared.grammar.program.Syntax16.{Syntax16}
-use Rattle.p416_ast.specs.Grammar.Tree.{Exp16, truth, member, binary, Stmt16, assign, if_then, if_else, switch, no_cases, case_of}
+use Rattle.p416_ast.specs.declared.parts.Note.TheVariants as note
+use Rattle.p416_ast.specs.declared.parts.Member.TheVariants as member_of
+use Rattle.p416_ast.specs.declared.parts.CounterType.TheVariants.{PacketsAndBytes}
+use Rattle.p416_ast.specs.declared.controls.ActionName.TheVariants as action_name
+use Rattle.p416_ast.specs.declared.controls.Instance.TheVariants as instance
+use Rattle.p416_ast.specs.declared.controls.Local.{Local}
+use Rattle.p416_ast.specs.declared.controls.Local.TheVariants as local
+use Rattle.p416_ast.specs.declared.controls.Property.TheVariants as property
+use Rattle.p416_ast.specs.declared.node.BinaryOperator.TheVariants.{And, Or}
+use Rattle.p416_ast.specs.declared.node.CaseLabel.TheVariants as label
+use Rattle.p416_ast.specs.declared.program.Syntax16.{Syntax16}
+use Rattle.p416_ast.specs.Tree.{Exp16, truth, member, binary, Stmt16, assign, if_then, if_else, switch, no_cases, case_of}
 use Rattle.v1_sem.specs.Signatures.{signature16}
 use Rattle.v1_sem.specs.Blocks.{control16}
 use Rattle.v1_sem.specs.Parsing.{parse16}

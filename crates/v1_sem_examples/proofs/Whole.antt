@@ -3,8 +3,8 @@ use Rattle.std.proofs.Common.{◌≡◌, ℕ, List, [], ◌∷◌, refl}
 use Rattle.std.specs.Prelude.{take, codes}
 use Rattle.p4x_bits.specs.BitLists.{num, bits}
 use Rattle.fabric.specs.Queue.{run}
-use Rattle.p416_ast.specs.declared.grammar.node.BinaryOperator.TheVariants.{ShiftLeft}
-use Rattle.p416_ast.specs.Grammar.Tree.{binary, assign}
+use Rattle.p416_ast.specs.declared.node.BinaryOperator.TheVariants.{ShiftLeft}
+use Rattle.p416_ast.specs.Tree.{binary, assign}
 use Rattle.v1_sem.specs.Signatures.{signature16}
 use Rattle.v1_sem.specs.Blocks.{control16}
 use Rattle.v1_sem.specs.Parsing.{parse16}

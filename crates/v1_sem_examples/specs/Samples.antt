@@ -1,15 +1,15 @@
 -- The program of the examples, of which each changes a part.
 use Rattle.std.specs.Prelude.{List, [], ◌∷◌, ◌++◌, Some, None, codes}
-use Rattle.p416_ast.specs.declared.grammar.parts.Type16.TheVariants.{Named}
-use Rattle.p416_ast.specs.declared.grammar.parts.Direction.{Direction}
-use Rattle.p416_ast.specs.declared.grammar.parts.Direction.TheVariants.{In, Out, InOut}
-use Rattle.p416_ast.specs.declared.grammar.parts.Param.{Param}
-use Rattle.p416_ast.specs.declared.grammar.parsers.State.{State}
-use Rattle.p416_ast.specs.declared.grammar.controls.Local.{Local}
-use Rattle.p416_ast.specs.declared.grammar.program.Decl16.{Decl16}
-use Rattle.p416_ast.specs.declared.grammar.program.Decl16.TheVariants as decl
-use Rattle.p416_ast.specs.declared.grammar.program.Syntax16.{Syntax16}
-use Rattle.p416_ast.specs.Grammar.Tree.{Stmt16, assign}
+use Rattle.p416_ast.specs.declared.parts.Type16.TheVariants.{Named}
+use Rattle.p416_ast.specs.declared.parts.Direction.{Direction}
+use Rattle.p416_ast.specs.declared.parts.Direction.TheVariants.{In, Out, InOut}
+use Rattle.p416_ast.specs.declared.parts.Param.{Param}
+use Rattle.p416_ast.specs.declared.parsers.State.{State}
+use Rattle.p416_ast.specs.declared.controls.Local.{Local}
+use Rattle.p416_ast.specs.declared.program.Decl16.{Decl16}
+use Rattle.p416_ast.specs.declared.program.Decl16.TheVariants as decl
+use Rattle.p416_ast.specs.declared.program.Syntax16.{Syntax16}
+use Rattle.p416_ast.specs.Tree.{Stmt16, assign}
 use Rattle.p416_rules.specs.Names.{Name}
 use Rattle.v1_sem_examples.specs.Parts.{n, number, bit_field, named, bits_type, struct_field, listed_field, param, hdr, sm, statements, extract, emit, state, accept}
 

@@ -1,7 +1,7 @@
 -- An action of a control with the actions that it calls, by their names.
 use Rattle.std.specs.Prelude.{List, filter_map, map}
 use Rattle.name_cycles.specs.Named.{NamedNode}
-use Rattle.p416_ast.specs.declared.grammar.controls.Action16.{Action16}
+use Rattle.p416_ast.specs.declared.controls.Action16.{Action16}
 use Rattle.p416_rules.specs.Scopes.{Scope}
 use Rattle.p416_rules.specs.Declarations.{action_uses}
 use Rattle.p416_rules.specs.Applications.{called_action}

@@ -3,10 +3,10 @@ use Rattle.std.specs.Prelude.{Bool, false, not, ◌&&◌, List, Option, Some, No
 use Rattle.std.specs.Borrow.{Bor}
 use Rattle.std.specs.List.{list_any}
 use Rattle.std.specs.Str.{bytes_eq}
-use Rattle.p416_ast.specs.declared.grammar.controls.ActionName.{ActionName}
-use Rattle.p416_ast.specs.declared.grammar.controls.ActionName.TheVariants as action_name
-use Rattle.p416_ast.specs.declared.grammar.controls.Table16.{Table16}
-use Rattle.p416_ast.specs.Grammar.Properties.{actions_of, counters_of}
+use Rattle.p416_ast.specs.declared.controls.ActionName.{ActionName}
+use Rattle.p416_ast.specs.declared.controls.ActionName.TheVariants as action_name
+use Rattle.p416_ast.specs.declared.controls.Table16.{Table16}
+use Rattle.p416_ast.specs.Properties.{actions_of, counters_of}
 use Rattle.p416_rules.specs.Names.{Name}
 use Rattle.p416_expression_uses.specs.Found.{CountedIn}
 

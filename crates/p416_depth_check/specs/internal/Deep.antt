@@ -2,27 +2,27 @@
 use Rattle.std.specs.Prelude.{ℕ, ◌+◌, Bool, false, ◌||◌, nat_lt, flat_map, Option, Some, None}
 use Rattle.std.specs.List.{list_any}
 use Rattle.std.specs.Option.{option_map_or}
-use Rattle.p416_ast.specs.declared.grammar.parsers.Var.{Var}
-use Rattle.p416_ast.specs.declared.grammar.parsers.Simple.{Simple}
-use Rattle.p416_ast.specs.declared.grammar.parsers.Simple.TheVariants as simple
-use Rattle.p416_ast.specs.declared.grammar.parsers.SelectCase.{SelectCase}
-use Rattle.p416_ast.specs.declared.grammar.parsers.Transition.{Transition}
-use Rattle.p416_ast.specs.declared.grammar.parsers.Transition.TheVariants as transition
-use Rattle.p416_ast.specs.declared.grammar.parsers.State.{State}
-use Rattle.p416_ast.specs.declared.grammar.parsers.Parser16.{Parser16}
-use Rattle.p416_ast.specs.declared.grammar.controls.Instance.{Instance}
-use Rattle.p416_ast.specs.declared.grammar.controls.Instance.TheVariants as instance
-use Rattle.p416_ast.specs.declared.grammar.controls.ActionName.{ActionName}
-use Rattle.p416_ast.specs.declared.grammar.controls.TableKey.{TableKey}
-use Rattle.p416_ast.specs.declared.grammar.controls.Table16.{Table16}
-use Rattle.p416_ast.specs.declared.grammar.controls.Local.{Local}
-use Rattle.p416_ast.specs.declared.grammar.controls.Local.TheVariants as local
-use Rattle.p416_ast.specs.declared.grammar.controls.Control16.{Control16}
-use Rattle.p416_ast.specs.declared.grammar.program.Decl16.{Decl16}
-use Rattle.p416_ast.specs.declared.grammar.program.Decl16.TheVariants as decl
-use Rattle.p416_ast.specs.Grammar.Properties.{keys_of, default_action_of, default_arguments_of}
-use Rattle.p416_ast.specs.Grammar.Subtrees.{own_expressions, subtrees}
-use Rattle.p416_ast.specs.Grammar.Tree.{Exp16, argument, Stmt16}
+use Rattle.p416_ast.specs.declared.parsers.Var.{Var}
+use Rattle.p416_ast.specs.declared.parsers.Simple.{Simple}
+use Rattle.p416_ast.specs.declared.parsers.Simple.TheVariants as simple
+use Rattle.p416_ast.specs.declared.parsers.SelectCase.{SelectCase}
+use Rattle.p416_ast.specs.declared.parsers.Transition.{Transition}
+use Rattle.p416_ast.specs.declared.parsers.Transition.TheVariants as transition
+use Rattle.p416_ast.specs.declared.parsers.State.{State}
+use Rattle.p416_ast.specs.declared.parsers.Parser16.{Parser16}
+use Rattle.p416_ast.specs.declared.controls.Instance.{Instance}
+use Rattle.p416_ast.specs.declared.controls.Instance.TheVariants as instance
+use Rattle.p416_ast.specs.declared.controls.ActionName.{ActionName}
+use Rattle.p416_ast.specs.declared.controls.TableKey.{TableKey}
+use Rattle.p416_ast.specs.declared.controls.Table16.{Table16}
+use Rattle.p416_ast.specs.declared.controls.Local.{Local}
+use Rattle.p416_ast.specs.declared.controls.Local.TheVariants as local
+use Rattle.p416_ast.specs.declared.controls.Control16.{Control16}
+use Rattle.p416_ast.specs.declared.program.Decl16.{Decl16}
+use Rattle.p416_ast.specs.declared.program.Decl16.TheVariants as decl
+use Rattle.p416_ast.specs.Properties.{keys_of, default_action_of, default_arguments_of}
+use Rattle.p416_ast.specs.Subtrees.{own_expressions, subtrees}
+use Rattle.p416_ast.specs.Tree.{Exp16, argument, Stmt16}
 use Rattle.p416_rules.specs.Statements.{nesting}
 use Rattle.p416_rules.specs.Declarations.{keyset_parts}
 use Rattle.p416_rules.specs.Totals.{depth}

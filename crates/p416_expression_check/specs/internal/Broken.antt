@@ -2,7 +2,7 @@
 use Rattle.std.specs.Prelude.{ℕ, Bool, true, false, not, ◌&&◌, nat_eq, is_none, if◌then◌else◌, List, [], ◌∷◌, Option, Some, None}
 use Rattle.std.specs.List.{list_all}
 use Rattle.std.specs.Option.{option_map_or}
-use Rattle.p416_ast.specs.Grammar.Tree.{Exp16, name, member, index, slice, call, lookahead, binary}
+use Rattle.p416_ast.specs.Tree.{Exp16, name, member, index, slice, call, lookahead, binary}
 use Rattle.p416_rules.specs.declared.rule.ProgramRule.{ProgramRule}
 use Rattle.p416_rules.specs.declared.rule.ProgramRule.TheVariants.{T1, T2, T3, T4, T5, T6, T8, T10}
 use Rattle.p416_rules.specs.Names.{Name}

@@ -1,8 +1,8 @@
 -- Labels that name none of some actions.
 use Rattle.std.specs.Prelude.{ℕ, ◌+◌, Bool, false, List}
-use Rattle.p416_ast.specs.declared.grammar.node.CaseLabel.{CaseLabel}
-use Rattle.p416_ast.specs.declared.grammar.node.CaseLabel.TheVariants as label
-use Rattle.p416_ast.specs.Grammar.Tree.{Stmt16, case_of}
+use Rattle.p416_ast.specs.declared.node.CaseLabel.{CaseLabel}
+use Rattle.p416_ast.specs.declared.node.CaseLabel.TheVariants as label
+use Rattle.p416_ast.specs.Tree.{Stmt16, case_of}
 use Rattle.p416_rules.specs.Names.{Name}
 use Rattle.p416_rules.specs.Tables.{is_not_among}
 

@@ -1,8 +1,8 @@
 -- What a block of code is among those of the rules, and the names of structs that were looked through.
 use Rattle.std.specs.Prelude.{◌≡◌, true, List, [], ◌∷◌, map, Some, None}
-use Rattle.p416_ast.specs.declared.grammar.parts.Direction.TheVariants.{In, Out, InOut}
-use Rattle.p416_ast.specs.declared.grammar.parts.Param.{Param}
-use Rattle.p416_ast.specs.declared.grammar.program.Decl16.{Decl16}
+use Rattle.p416_ast.specs.declared.parts.Direction.TheVariants.{In, Out, InOut}
+use Rattle.p416_ast.specs.declared.parts.Param.{Param}
+use Rattle.p416_ast.specs.declared.program.Decl16.{Decl16}
 use Rattle.p416_rules.specs.Names.{Name, has_name}
 use Rattle.p416_rules.specs.Kinds.{Kind, struct, packet_in, packet_out}
 use Rattle.p416_rules.specs.BuiltIn.{standard}

@@ -2,31 +2,31 @@
 use Rattle.std.specs.Prelude.{ℕ, Bool, true, false, List, [], ◌∷◌, ◌++◌, Some, None}
 use Rattle.predictive_parser.specs.Values.{newest, older, extended}
 use Rattle.p416_lexemes.specs.declared.lexeme.Literal16.{Literal16}
-use Rattle.p416_ast.specs.declared.grammar.parts.Note.{Note}
-use Rattle.p416_ast.specs.declared.grammar.parts.Note.TheVariants as note
-use Rattle.p416_ast.specs.declared.grammar.parts.Type16.{Type16}
-use Rattle.p416_ast.specs.declared.grammar.parts.Type16.TheVariants as kind
-use Rattle.p416_ast.specs.declared.grammar.parts.Member.{Member}
-use Rattle.p416_ast.specs.declared.grammar.parts.Member.TheVariants as member
-use Rattle.p416_ast.specs.declared.grammar.parts.HashAlgorithm.TheVariants as hash
-use Rattle.p416_ast.specs.declared.grammar.node.CastType.TheVariants as cast_to
-use Rattle.p416_ast.specs.declared.grammar.node.CaseLabel.TheVariants as label
-use Rattle.p416_ast.specs.declared.grammar.parsers.Target.TheVariants as target
-use Rattle.p416_ast.specs.declared.grammar.parsers.Simple.TheVariants as simple
-use Rattle.p416_ast.specs.declared.grammar.parsers.Keyset.TheVariants as keyset
-use Rattle.p416_ast.specs.declared.grammar.parsers.Transition.TheVariants as transition
-use Rattle.p416_ast.specs.declared.grammar.controls.Instance.{Instance}
-use Rattle.p416_ast.specs.declared.grammar.controls.Instance.TheVariants as instance
-use Rattle.p416_ast.specs.declared.grammar.controls.ActionName.TheVariants as action_name
-use Rattle.p416_ast.specs.declared.grammar.controls.Property.{Property}
-use Rattle.p416_ast.specs.declared.grammar.controls.Property.TheVariants as property
-use Rattle.p416_ast.specs.declared.grammar.controls.Local.{Local}
-use Rattle.p416_ast.specs.declared.grammar.controls.Local.TheVariants as local
-use Rattle.p416_ast.specs.declared.grammar.program.Decl16.{Decl16}
-use Rattle.p416_ast.specs.declared.grammar.program.Decl16.TheVariants as decl
-use Rattle.p416_ast.specs.Grammar.Tree.{Exp16, literal, truth, error, name, member, index, slice, call, lookahead, cast, unary, binary, choice, no_arguments, argument, listed, Stmt16, no_statements, then, block, empty, var, var_is, assign, expression, if_then, if_else, switch, no_cases, case_of}
-use Rattle.p416_ast.specs.Grammar.Tree as tree
-use Rattle.p416_ast.specs.Grammar.Tokens.{lookahead_text}
+use Rattle.p416_ast.specs.declared.parts.Note.{Note}
+use Rattle.p416_ast.specs.declared.parts.Note.TheVariants as note
+use Rattle.p416_ast.specs.declared.parts.Type16.{Type16}
+use Rattle.p416_ast.specs.declared.parts.Type16.TheVariants as kind
+use Rattle.p416_ast.specs.declared.parts.Member.{Member}
+use Rattle.p416_ast.specs.declared.parts.Member.TheVariants as member
+use Rattle.p416_ast.specs.declared.parts.HashAlgorithm.TheVariants as hash
+use Rattle.p416_ast.specs.declared.node.CastType.TheVariants as cast_to
+use Rattle.p416_ast.specs.declared.node.CaseLabel.TheVariants as label
+use Rattle.p416_ast.specs.declared.parsers.Target.TheVariants as target
+use Rattle.p416_ast.specs.declared.parsers.Simple.TheVariants as simple
+use Rattle.p416_ast.specs.declared.parsers.Keyset.TheVariants as keyset
+use Rattle.p416_ast.specs.declared.parsers.Transition.TheVariants as transition
+use Rattle.p416_ast.specs.declared.controls.Instance.{Instance}
+use Rattle.p416_ast.specs.declared.controls.Instance.TheVariants as instance
+use Rattle.p416_ast.specs.declared.controls.ActionName.TheVariants as action_name
+use Rattle.p416_ast.specs.declared.controls.Property.{Property}
+use Rattle.p416_ast.specs.declared.controls.Property.TheVariants as property
+use Rattle.p416_ast.specs.declared.controls.Local.{Local}
+use Rattle.p416_ast.specs.declared.controls.Local.TheVariants as local
+use Rattle.p416_ast.specs.declared.program.Decl16.{Decl16}
+use Rattle.p416_ast.specs.declared.program.Decl16.TheVariants as decl
+use Rattle.p416_ast.specs.Tree.{Exp16, literal, truth, error, name, member, index, slice, call, lookahead, cast, unary, binary, choice, no_arguments, argument, listed, Stmt16, no_statements, then, block, empty, var, var_is, assign, expression, if_then, if_else, switch, no_cases, case_of}
+use Rattle.p416_ast.specs.Tree as tree
+use Rattle.p416_ast.specs.Tokens.{lookahead_text}
 use Rattle.p416_reader.specs.declared.symbols.PartAction.{PartAction}
 use Rattle.p416_reader.specs.declared.symbols.PartAction.TheVariants as part
 use Rattle.p416_reader.specs.declared.symbols.BodyAction.{BodyAction}

@@ -14,12 +14,12 @@ use Rattle.p416_lexemes.specs.declared.lexeme.Literal16.{Literal16}
 use Rattle.p416_lexemes.specs.declared.mark.Mark16.{Mark16}
 use Rattle.p416_lexemes.specs.declared.mark.Mark16.TheVariants as mark_of
 use Rattle.p416_lexemes.specs.Keywords.{keyword_text16, is_reserved16}
-use Rattle.p416_ast.specs.declared.grammar.node.BinaryOperator.{BinaryOperator}
-use Rattle.p416_ast.specs.declared.grammar.node.BinaryOperator.TheVariants as binary
-use Rattle.p416_ast.specs.Grammar.Operators.{binary_power}
-use Rattle.p416_ast.specs.Grammar.Tokens.{Seen16, id, quoted, number, mark, string, annotation, include_line, joined, opens}
-use Rattle.p416_ast.specs.Grammar.Tree.{Exp16, name, index, no_arguments}
-use Rattle.p416_ast.specs.Grammar.Conditions.{is_name_note, is_call, is_among, property_texts}
+use Rattle.p416_ast.specs.declared.node.BinaryOperator.{BinaryOperator}
+use Rattle.p416_ast.specs.declared.node.BinaryOperator.TheVariants as binary
+use Rattle.p416_ast.specs.Operators.{binary_power}
+use Rattle.p416_ast.specs.Tokens.{Seen16, id, quoted, number, mark, string, annotation, include_line, joined, opens}
+use Rattle.p416_ast.specs.Tree.{Exp16, name, index, no_arguments}
+use Rattle.p416_ast.specs.Conditions.{is_name_note, is_call, is_among, property_texts}
 use Rattle.p416_reader.specs.declared.symbols.Known.{Known}
 use Rattle.p416_reader.specs.declared.symbols.Known.TheVariants as known
 use Rattle.p416_reader.specs.declared.symbols.Class.{Class}

@@ -1,5 +1,5 @@
 -- A token as it lies in the text, as the grammar sees it.
-use Rattle.p416_ast.specs.Grammar.Tokens.{Seen16, id, quoted, number, mark, string, annotation, include_line, joined, opens}
+use Rattle.p416_ast.specs.Tokens.{Seen16, id, quoted, number, mark, string, annotation, include_line, joined, opens}
 use Rattle.p416_reader.specs.declared.token.TokenView.{TokenView}
 use Rattle.p416_reader.specs.declared.token.TokenView.TheVariants as view
 

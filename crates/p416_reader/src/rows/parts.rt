@@ -8,7 +8,7 @@ use crate::rows::{
     Told,
 };
 use crate::symbols::{Action, Class, Known, PartAction, PartWord, Word};
-use p416_ast::grammar::{CloneType, CounterType, Direction, HashAlgorithm, Member, MeterType};
+use p416_ast::{CloneType, CounterType, Direction, HashAlgorithm, Member, MeterType};
 use p416_lexemes::{Annotation16, Keyword16, Mark16};
 use predictive_parser::{Otherwise, Row, Symbol, WordRows};
 

@@ -1,6 +1,6 @@
 -- Names that are those of no block, by the names at the top.
 use Rattle.std.specs.Prelude.{Bool, not, List}
-use Rattle.p416_ast.specs.declared.grammar.program.Decl16.{Decl16}
+use Rattle.p416_ast.specs.declared.program.Decl16.{Decl16}
 use Rattle.p416_rules.specs.Names.{Name}
 use Rattle.p416_rules.specs.Scopes.{sort_in}
 use Rattle.p416_rules.specs.Declarations.{top_names}

@@ -1,7 +1,7 @@
 -- What the values of types count by a measure: their fields, or the octets of their headers.
 use Rattle.std.specs.Prelude.{ℕ, ◌*◌, ◌/◌, List, [], ◌∷◌, map, length, sum_by, slice_index, slice_get}
 use Rattle.std.specs.Option.{option_map_or}
-use Rattle.p416_ast.specs.declared.grammar.program.Decl16.{Decl16}
+use Rattle.p416_ast.specs.declared.program.Decl16.{Decl16}
 use Rattle.p416_rules.specs.Names.{Name}
 use Rattle.p416_rules.specs.Kinds.{Kind, header, stack, struct}
 use Rattle.p416_rules.specs.Scopes.{FieldKind, Layout, fields_in}

@@ -2,8 +2,8 @@
 use Rattle.std.specs.Prelude.{◌≡◌, Bool, true, false, not, ◌&&◌, ◌||◌, nat_eq, List, [], ◌∷◌, flat_map, Option, Some, None}
 use Rattle.std.specs.List.{list_any}
 use Rattle.digraph.specs.Expansions.{HasCycle}
-use Rattle.p416_ast.specs.declared.grammar.program.Decl16.{Decl16}
-use Rattle.p416_ast.specs.declared.grammar.program.Syntax16.{Syntax16}
+use Rattle.p416_ast.specs.declared.program.Decl16.{Decl16}
+use Rattle.p416_ast.specs.declared.program.Syntax16.{Syntax16}
 use Rattle.p416_rules.specs.declared.rule.ProgramRule.{ProgramRule}
 use Rattle.p416_rules.specs.Names.{Name}
 use Rattle.p416_rules.specs.Uses.{Use}

@@ -1,7 +1,7 @@
 -- The rows of an expression from the innermost outwards: each takes those of its parts off a stack, and puts its own there.
 use Rattle.std.specs.Prelude.{ℕ, ◌+◌, false, nat_eq, if◌then◌else◌, List, [], ◌∷◌, None, codes}
 use Rattle.std.specs.Str.{bytes_eq}
-use Rattle.p416_ast.specs.Grammar.Tree.{Exp16, member, index, slice, call, lookahead, cast, unary, binary, choice, parenthesized, no_arguments, argument, listed}
+use Rattle.p416_ast.specs.Tree.{Exp16, member, index, slice, call, lookahead, cast, unary, binary, choice, parenthesized, no_arguments, argument, listed}
 use Rattle.p416_rules.specs.Names.{Name}
 use Rattle.p416_rules.specs.Kinds.{Kind, unknown}
 use Rattle.p416_rules.specs.Scopes.{Scope, kind_of_type}

@@ -1,7 +1,7 @@
 -- What the phases of `carry` answer.
 use Rattle.std.specs.Prelude.{◌≡◌, ◌⊎◌, ℕ, List, Option, Result, Ok, Err}
-use Rattle.p416_ast.specs.declared.syntax.Syntax16.{Syntax16}
-use Rattle.p416_ast.specs.declared.grammar.program.Syntax16.{Syntax16 as Grammar16}
+use Rattle.p4x_cmd.specs.Trees16.{Syntax16}
+use Rattle.p416_ast.specs.declared.program.Syntax16.{Syntax16 as Grammar16}
 use Rattle.p416_reader.specs.Reading.{Reads16}
 use Rattle.p4x_io.specs.Desk.{grown}
 use Rattle.p4x_fault.specs.declared.Fault.{Fault as Refusal}

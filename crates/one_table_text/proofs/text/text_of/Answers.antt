@@ -1,6 +1,6 @@
 use Rattle.std.proofs.Common.{◌≡◌, ◌∙◌, ap, subst}
-use Rattle.p416_ast.specs.declared.grammar.program.Syntax16.{Syntax16}
-use Rattle.p416_ast.specs.Grammar.Spelt.{is_spelt16}
+use Rattle.p416_ast.specs.declared.program.Syntax16.{Syntax16}
+use Rattle.p416_ast.specs.Spelt.{is_spelt16}
 use Rattle.p416_reader.specs.Reading.{Reads16}
 use Rattle.one_table_text.proofs.Spelt.{spelt_is}
 use Rattle.one_table_text.proofs.text.text_of.Goals as goal

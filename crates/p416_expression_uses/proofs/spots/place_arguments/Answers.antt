@@ -1,6 +1,6 @@
 use Rattle.std.proofs.Common.{rules}
 use Rattle.std.proofs.lemmas.Result.{on_ok_weaker}
-use Rattle.p416_ast.specs.Grammar.Heads.{of_exp_head}
+use Rattle.p416_ast.specs.Heads.{of_exp_head}
 use Rattle.p416_rules.specs.Declarations.{top_names}
 use Rattle.p416_calls.specs.Seen.{seen_place}
 use Rattle.p416_expression_uses.specs.Seen.{wanted_in, otherwise_in}

@@ -1,5 +1,5 @@
 use Rattle.std.proofs.Common.{◌≡◌, drop}
-use Rattle.p416_ast.specs.Grammar.Tokens.{keyword_among}
+use Rattle.p416_ast.specs.Tokens.{keyword_among}
 use Rattle.p416_reader.proofs.token.keyword_among.Given as goal
 
 abbrev pub invariant-loop-word : goal.invariant-loop-word

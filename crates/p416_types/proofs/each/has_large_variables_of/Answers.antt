@@ -1,5 +1,5 @@
 use Rattle.std.proofs.Common.{List, sym, ap, ◌∙◌}
-use Rattle.p416_ast.specs.declared.grammar.program.Decl16.{Decl16}
+use Rattle.p416_ast.specs.declared.program.Decl16.{Decl16}
 use Rattle.p416_rules.specs.Declarations.{layouts_of}
 use Rattle.p416_rules.specs.Totals.{has_large_variables}
 use Rattle.p416_rules.specs.Breaks.{program_uses}

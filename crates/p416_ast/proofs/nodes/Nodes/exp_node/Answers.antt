@@ -1,5 +1,5 @@
 use Rattle.std.proofs.Common.{◌<◌, length, ap, sym, subst, arith}
-use Rattle.p416_ast.proofs.Grow.{node_tree, exps_count}
+use Rattle.p416_ast.proofs.NodeTrees.{node_tree, exps_count}
 use Rattle.p416_ast.proofs.nodes.Nodes.exp_node.Goals as goal
 
 pub index-requires : goal.index-requires

@@ -1,5 +1,5 @@
 use Rattle.std.proofs.Common.{length, ap, arith}
-use Rattle.p416_ast.proofs.Grow.{exps_count}
+use Rattle.p416_ast.proofs.NodeTrees.{exps_count}
 use Rattle.p416_ast.proofs.nodes.Nodes.exps_len.Goals as goal
 
 pub returns : goal.returns

@@ -1,6 +1,6 @@
 use Rattle.std.proofs.Common.{sym, subst, length, arith}
 use Rattle.p416_ast.specs.Tree.{StmtInOrder}
-use Rattle.p416_ast.proofs.Grow.{stmt_in_order, adds_stmt}
+use Rattle.p416_ast.proofs.NodeTrees.{stmt_in_order, adds_stmt}
 use Rattle.p416_ast.proofs.nodes.Nodes.statement.Goals as goal
 
 pub invariant_of-self-2 : goal.invariant_of-self-2

@@ -1,5 +1,5 @@
 use Rattle.std.proofs.Common.{◌<◌, length, ap, sym, subst, arith}
-use Rattle.p416_ast.proofs.Grow.{stmt_node_tree, stmts_count}
+use Rattle.p416_ast.proofs.NodeTrees.{stmt_node_tree, stmts_count}
 use Rattle.p416_ast.proofs.nodes.Nodes.statement_node.Goals as goal
 
 pub index-requires : goal.index-requires

@@ -1,5 +1,5 @@
 use Rattle.std.proofs.Common.{length, ap, arith}
-use Rattle.p416_ast.proofs.Grow.{stmts_count}
+use Rattle.p416_ast.proofs.NodeTrees.{stmts_count}
 use Rattle.p416_ast.proofs.nodes.Nodes.statements_len.Goals as goal
 
 pub returns : goal.returns

@@ -1,0 +1,181 @@
+// Controls with their objects, variables, actions and tables (P4_16 1.2, "Control blocks").
+ghost use Rattle.std.specs.Prelude.{◌≡◌, option_copied};
+ghost use Rattle.p416_ast.specs.Properties.{keys_of, actions_of, size_of, counters_of, default_action_of, default_arguments_of};
+
+use crate::blocks::{Block16, Exp};
+use crate::parsers::Var;
+use crate::parts::{Member, Note, Param};
+use p4x_bits::{Rows, Text};
+use p416_lexemes::Literal16;
+
+/// A stateful object of `v1model.p4`.
+#[derive(Drop)]
+pub enum Instance {
+    /// `counter(SIZE, MEMBER) NAME`.
+    Counter(Exp, Member, Text),
+    /// `direct_counter(MEMBER) NAME`.
+    DirectCounter(Member, Text),
+    /// `register<bit<WIDTH>>(SIZE) NAME`, with its width first.
+    Register(Literal16, Exp, Text),
+    /// `meter(SIZE, MEMBER) NAME`.
+    Meter(Exp, Member, Text),
+}
+
+/// `action NAME(PARAMETER, ..) { STATEMENT .. }`, maybe with annotations in front (P4_16 1.2, "Actions").
+#[derive(Drop)]
+pub struct Action16 {
+    /// The annotations in front.
+    pub notes: Rows<Note>,
+    /// The name.
+    pub name: Text,
+    /// The parameters in order.
+    pub parameters: Rows<Param>,
+    /// The statements.
+    pub body: Block16,
+}
+
+/// An action that a table names.
+#[derive(Drop)]
+pub enum ActionName {
+    /// An action of the control, by its name.
+    Declared(Text),
+    /// `NoAction`.
+    NoAction,
+}
+
+/// A key of a table: `EXPRESSION : KIND;`, maybe with annotations in front of the `;`.
+#[derive(Drop)]
+pub struct TableKey {
+    /// What is matched.
+    pub exp: Exp,
+    /// The name of the match kind.
+    pub kind: Text,
+    /// The annotations.
+    pub notes: Rows<Note>,
+}
+
+/// A property of a table. Each stands at most once in a table (P4_16 1.2, "Tables").
+#[derive(Drop)]
+pub enum Property {
+    /// `key = { KEY .. }`.
+    Key(Rows<TableKey>),
+    /// `actions = { NAME; .. }`, with at least one name.
+    Actions(Rows<ActionName>),
+    /// `size = NUMBER;`.
+    Size(Literal16),
+    /// `counters = NAME;`.
+    Counters(Text),
+    /// `default_action = NAME(..);`, with its argument list, in which no lists stand.
+    DefaultAction(ActionName, Exp),
+}
+
+/// `table NAME { PROPERTY .. }`, with `actions` among the properties, and maybe with annotations in front.
+#[derive(Drop)]
+pub struct Table16 {
+    /// The annotations in front.
+    pub notes: Rows<Note>,
+    /// The name.
+    pub name: Text,
+    /// The properties in order.
+    pub properties: Rows<Property>,
+}
+
+impl Table16 {
+    /// The keys, in order; none where there is no `key`. The first such property counts.
+    pub fn keys(&self) -> &[TableKey]
+        ensures { result.now ≡ keys_of self.now.properties }
+    {
+        for property in self.properties.as_slice() {
+            if let Property::Key(keys) = property {
+                return keys.as_slice();
+            }
+        }
+        &[]
+    }
+
+    /// The actions that the table names, in order; none where there is no `actions`. The first such property counts.
+    pub fn actions(&self) -> &[ActionName]
+        ensures { result.now ≡ actions_of self.now.properties }
+    {
+        for property in self.properties.as_slice() {
+            if let Property::Actions(names) = property {
+                return names.as_slice();
+            }
+        }
+        &[]
+    }
+
+    /// The number behind `size`. The first such property counts.
+    pub fn size(&self) -> Option<Literal16>
+        ensures { result ≡ size_of self.now.properties }
+    {
+        for property in self.properties.as_slice() {
+            if let Property::Size(size) = property {
+                return Some(*size);
+            }
+        }
+        None
+    }
+
+    /// The name of the direct counter. The first such property counts.
+    pub fn counters(&self) -> Option<&Text>
+        ensures { option_copied result ≡ counters_of self.now.properties }
+    {
+        for property in self.properties.as_slice() {
+            if let Property::Counters(name) = property {
+                return Some(name);
+            }
+        }
+        None
+    }
+
+    /// The default action. The first such property counts.
+    pub fn default_action(&self) -> Option<&ActionName>
+        ensures { option_copied result ≡ default_action_of self.now.properties }
+    {
+        for property in self.properties.as_slice() {
+            if let Property::DefaultAction(action, _) = property {
+                return Some(action);
+            }
+        }
+        None
+    }
+
+    /// The argument list of the default action. The first such property counts.
+    pub fn default_arguments(&self) -> Option<&Exp>
+        ensures { option_copied result ≡ default_arguments_of self.now.properties }
+    {
+        for property in self.properties.as_slice() {
+            if let Property::DefaultAction(_, arguments) = property {
+                return Some(arguments);
+            }
+        }
+        None
+    }
+}
+
+/// What is declared in a control.
+#[derive(Drop)]
+pub enum Local {
+    /// A stateful object, with the annotations in front.
+    Instance(Rows<Note>, Instance),
+    /// A variable.
+    Var(Var),
+    /// An action.
+    Action(Action16),
+    /// A table.
+    Table(Table16),
+}
+
+/// `control NAME(PARAMETER, ..) { LOCAL .. apply { STATEMENT .. } }`, with at least one parameter.
+#[derive(Drop)]
+pub struct Control16 {
+    /// The name.
+    pub name: Text,
+    /// The parameters in order.
+    pub parameters: Rows<Param>,
+    /// What is declared in it, in order.
+    pub locals: Rows<Local>,
+    /// The statements behind `apply`.
+    pub body: Block16,
+}
