@@ -2,8 +2,10 @@
 #![tactic(auto)]
 
 #[cfg(test)]
-mod ast14;
-#[cfg(test)]
 mod declared14;
 #[cfg(test)]
-mod walk14;
+mod nodes14;
+#[cfg(test)]
+mod sorts14;
+#[cfg(test)]
+mod walks14;

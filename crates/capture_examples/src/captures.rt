@@ -1,73 +1,83 @@
 // Captures that are read whole, and what is written.
 use crate::setting::{
     BIG_HEADER, BIG_RECORD, FRAME, LITTLE_HEADER, LITTLE_RECORD, LONG_RECORD, NANO_HEADER,
-    OLD_HEADER, holds_the_frame, joined, refusal_of, refused,
+    OLD_HEADER, Told, come_to, joined,
 };
-use pcap_io::{file_header, read_capture, read_ports, record_header};
+use pcap_io::{file_header, record_header};
+use std::alloc::Global;
+use std::process::Abort;
 use std::test::Fail;
 
-#[test]
-fn a_capture_of_one_frame_is_read_whole(rt: HostRuntime) -> Result<(), Fail> {
-    let octets = joined(rt.alloc(), &[LITTLE_HEADER, LITTLE_RECORD, FRAME])?;
-    assert!(rt; holds_the_frame(rt.alloc(), &octets, false)?);
-    Ok(())
-}
+/// The record header of the frame, which was captured of a packet of 1,500 octets.
+const LONGER: &[u8] = b"\x01\x00\x00\x00\x02\x00\x00\x00\x0e\x00\x00\x00\xdc\x05\x00\x00";
 
-#[test]
-fn both_orders_of_octets_and_both_units_are_read(rt: HostRuntime) -> Result<(), Fail> {
-    let big = joined(rt.alloc(), &[BIG_HEADER, BIG_RECORD, FRAME])?;
-    assert!(rt; holds_the_frame(rt.alloc(), &big, false)?);
-    let nano = joined(rt.alloc(), &[NANO_HEADER, LITTLE_RECORD, FRAME])?;
-    assert!(rt; holds_the_frame(rt.alloc(), &nano, true)?);
-    Ok(())
-}
-
-#[test]
-fn a_file_header_alone_is_a_capture_of_no_packets(rt: HostRuntime) -> Result<(), Fail> {
-    let ports = read_ports(rt.alloc(), b"")?;
-    let capture = read_capture(rt.alloc(), LITTLE_HEADER, &ports)?;
-    assert_eq!(rt; capture.link, 1);
-    assert!(rt; capture.arrivals.is_empty());
-    Ok(())
-}
-
-#[test]
-fn the_packet_is_what_was_captured_of_a_longer_one(rt: HostRuntime) -> Result<(), Fail> {
-    let longer = b"\x01\x00\x00\x00\x02\x00\x00\x00\x0e\x00\x00\x00\xdc\x05\x00\x00";
-    let octets = joined(rt.alloc(), &[LITTLE_HEADER, longer, FRAME])?;
-    assert!(rt; holds_the_frame(rt.alloc(), &octets, false)?);
-    Ok(())
-}
-
-#[test]
-fn the_first_broken_rule_is_told(rt: HostRuntime) -> Result<(), Fail> {
+/// The pieces of a file, and what it comes to as a whole capture.
+static CAPTURES: [(&[&[u8]], Told); 14] = [
+    (&[LITTLE_HEADER, LITTLE_RECORD, FRAME], Told::Frame(false)),
+    (&[BIG_HEADER, BIG_RECORD, FRAME], Told::Frame(false)),
+    (&[NANO_HEADER, LITTLE_RECORD, FRAME], Told::Frame(true)),
+    (&[LITTLE_HEADER], Told::Nothing),
+    (&[LITTLE_HEADER, LONGER, FRAME], Told::Frame(false)),
     // fewer than 24 octets, whatever they are
-    assert_eq!(rt; refusal_of(rt.alloc(), b"")?, Some(refused(1)));
-    assert_eq!(rt;
-        refusal_of(rt.alloc(), b"no capture at all, 23 o")?,
-        Some(refused(1))
-    );
-    assert_eq!(rt;
-        refusal_of(rt.alloc(), b"no capture, 24 octets !!")?,
-        Some(refused(2))
-    );
-    assert_eq!(rt; refusal_of(rt.alloc(), OLD_HEADER)?, Some(refused(3)));
-    // a record header without its last octet, and a record without its last octet
-    let (short, _) = LITTLE_RECORD.split_at(15);
-    let octets = joined(rt.alloc(), &[LITTLE_HEADER, short])?;
-    assert_eq!(rt; refusal_of(rt.alloc(), &octets)?, Some(refused(4)));
-    let (cut, _) = FRAME.split_at(13);
-    let octets = joined(rt.alloc(), &[LITTLE_HEADER, LITTLE_RECORD, cut])?;
-    assert_eq!(rt; refusal_of(rt.alloc(), &octets)?, Some(refused(4)));
+    (&[], Told::Refused(1)),
+    (&[b"no capture at all, 23 o"], Told::Refused(1)),
+    (&[b"no capture, 24 octets !!"], Told::Refused(2)),
+    (&[OLD_HEADER], Told::Refused(3)),
+    // a record header without its last octet, a record without its last octet, and octets behind the last record
+    (
+        &[
+            LITTLE_HEADER,
+            b"\x01\x00\x00\x00\x02\x00\x00\x00\x0e\x00\x00\x00\x0e\x00\x00",
+        ],
+        Told::Refused(4),
+    ),
+    (
+        &[
+            LITTLE_HEADER,
+            LITTLE_RECORD,
+            b"\x01\x02\x03\x04\x05\x06\x07\x08\x09\x0a\x0b\x0c\x0d",
+        ],
+        Told::Refused(4),
+    ),
+    (
+        &[LITTLE_HEADER, LITTLE_RECORD, FRAME, b"\0\0\0\0\0\0\0"],
+        Told::Refused(4),
+    ),
+    // a record that is too long, though its octets are missing
+    (&[LITTLE_HEADER, LONG_RECORD], Told::Refused(5)),
+    (
+        &[LITTLE_HEADER, LITTLE_RECORD, FRAME, LONG_RECORD],
+        Told::Refused(5),
+    ),
+];
+
+fn captures() -> &'static [(&'static [&'static [u8]], Told)] {
+    &CAPTURES
+}
+
+/// What the file of these pieces comes to.
+fn joined_to(alloc: Global, pieces: &[&[u8]]) -> Result<Told, Fail> {
+    let octets = joined(alloc, pieces)?;
+    come_to(alloc, &octets)
+}
+
+/// The file of these pieces comes to this; the place of its row is told where it doesn't.
+fn expect(
+    rt: &(impl Abort + AllocGlobal),
+    row: usize,
+    pieces: &[&[u8]],
+    wanted: Told,
+) -> Result<(), Fail> {
+    let found = joined_to(rt.alloc(), pieces)?;
+    assert_eq!(rt; found, wanted, "row {row}");
     Ok(())
 }
 
 #[test]
-fn a_record_that_is_too_long_is_k5_though_its_octets_are_missing(
-    rt: HostRuntime,
-) -> Result<(), Fail> {
-    let octets = joined(rt.alloc(), &[LITTLE_HEADER, LONG_RECORD])?;
-    assert_eq!(rt; refusal_of(rt.alloc(), &octets)?, Some(refused(5)));
+fn each_capture_holds_the_frame_or_breaks_its_first_rule(rt: HostRuntime) -> Result<(), Fail> {
+    for (row, (pieces, wanted)) in captures().iter().enumerate() {
+        expect(&rt, row, pieces, *wanted)?;
+    }
     Ok(())
 }
 
@@ -80,9 +90,11 @@ fn what_is_written_is_read_again(rt: HostRuntime) -> Result<(), Fail> {
         b"\xd4\xc3\xb2\xa1\x02\x00\x04\x00\x00\x00\x00\x00\x00\x00\x00\x00\x00\x00\x04\x00\x01\x00\x00\x00".as_slice()
     );
     assert_eq!(rt; one.as_slice(), LITTLE_RECORD);
-    let octets = joined(rt.alloc(), &[&header, &one, FRAME])?;
-    assert!(rt; holds_the_frame(rt.alloc(), &octets, false)?);
-    let octets = joined(rt.alloc(), &[&file_header(1, true), &one, FRAME])?;
-    assert!(rt; holds_the_frame(rt.alloc(), &octets, true)?);
-    Ok(())
+    expect(&rt, 0, &[&header, &one, FRAME], Told::Frame(false))?;
+    expect(
+        &rt,
+        1,
+        &[&file_header(1, true), &one, FRAME],
+        Told::Frame(true),
+    )
 }

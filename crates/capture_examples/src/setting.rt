@@ -2,7 +2,7 @@
 use fabric::Arrival;
 use p4x_bits::OutOfMemory;
 use p4x_fault::{Fault, Rule};
-use pcap_io::{CaptureFault, Record, read_capture, read_ports};
+use pcap_io::{Capture, CaptureFault, Record, read_capture, read_ports};
 use std::alloc::Global;
 use std::test::Fail;
 
@@ -64,21 +64,36 @@ pub fn is_the_record(found: Option<Record>) -> bool {
     }
 }
 
-// Whether the octets are a capture of the frame alone, of link type 1.
-pub fn holds_the_frame(alloc: Global, octets: &[u8], nano: bool) -> Result<bool, Fail> {
-    let ports = read_ports(alloc, b"")?;
-    let capture = read_capture(alloc, octets, &ports)?;
-    Ok(match capture.arrivals.as_slice() {
-        [arrival] => capture.link == 1 && capture.nano == nano && is_the_frame(arrival, 0),
-        _ => false,
-    })
+/// What a whole capture comes to.
+#[derive(Clone, Copy, Debug, PartialEq, Drop)]
+pub enum Told {
+    /// The frame alone, of link type 1; whether in nanoseconds.
+    Frame(bool),
+    /// No packet, of link type 1.
+    Nothing,
+    /// It breaks this rule.
+    Refused(u8),
+    /// Another end.
+    Other,
 }
 
-// The refusal of the octets as a whole capture.
-pub fn refusal_of(alloc: Global, octets: &[u8]) -> Result<Option<CaptureFault>, Fail> {
+fn told_of(capture: &Capture) -> Told {
+    match capture.arrivals.as_slice() {
+        [arrival] if capture.link == 1 && is_the_frame(arrival, 0) => Told::Frame(capture.nano),
+        [] if capture.link == 1 => Told::Nothing,
+        _ => Told::Other,
+    }
+}
+
+/// What the octets come to as a whole capture.
+pub fn come_to(alloc: Global, octets: &[u8]) -> Result<Told, Fail> {
     let ports = read_ports(alloc, b"")?;
     match read_capture(alloc, octets, &ports) {
-        Ok(_) => Ok(None),
-        Err(fault) => Ok(Some(fault)),
+        Ok(capture) => Ok(told_of(&capture)),
+        Err(CaptureFault::Refused(fault)) => Ok(match (fault.rule, fault.place) {
+            (Rule::K(rule), None) => Told::Refused(rule),
+            _ => Told::Other,
+        }),
+        Err(CaptureFault::Memory) => Ok(Told::Other),
     }
 }

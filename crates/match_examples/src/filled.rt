@@ -200,19 +200,38 @@ fn found(
     }
 }
 
+/// A table, a value, and the entry that is found.
+static FOUND: [(usize, u128, Option<u32>); 4] = [
+    (0, 9, Some(1)),
+    (0, 8, None),
+    (1, 0x12ff, Some(0)),
+    (1, 9, None),
+];
+
+fn all_found() -> &'static [(usize, u128, Option<u32>)] {
+    &FOUND
+}
+
+fn are_found(alloc: Global, tables: &[Table]) -> Result<bool, OutOfMemory> {
+    for (number, value, wanted) in all_found() {
+        if found(alloc, tables, *number, *value)? != *wanted {
+            return Ok(false);
+        }
+    }
+    Ok(tables.len() == 2)
+}
+
+fn are_filled(alloc: Global) -> Result<bool, OutOfMemory> {
+    match built(alloc)? {
+        Some(tables) => are_found(alloc, tables.as_slice()),
+        None => Ok(false),
+    }
+}
+
 #[test]
 fn each_table_is_filled_with_its_own_entries(rt: HostRuntime) -> Result<(), Fail> {
-    let alloc = rt.alloc();
-    let made = built(alloc)?;
-    let Some(made) = made else {
-        panic!(rt; "not well formed");
-    };
-    let tables = made.as_slice();
-    assert_eq!(rt; tables.len(), 2);
-    assert_eq!(rt; found(alloc, tables, 0, 9)?, Some(1));
-    assert_eq!(rt; found(alloc, tables, 0, 8)?, None);
-    assert_eq!(rt; found(alloc, tables, 1, 0x12ff)?, Some(0));
-    assert_eq!(rt; found(alloc, tables, 1, 9)?, None);
+    let filled = are_filled(rt.alloc())?;
+    assert!(rt; filled);
     Ok(())
 }
 
@@ -281,23 +300,39 @@ fn next_colour(store: &mut Store, object: u32) -> Option<u8> {
     Some(store.colour(object, 0))
 }
 
+/// Whether the cells of the counters are blank, and those alone are there.
+fn are_blank(store: &mut Store) -> bool {
+    counts(store, 0, 3) == Some([(0, 0), (1, 0)])
+        && counts(store, 0, 4) == Some([(0, 0), (0, 0)])
+        && counts(store, 1, 1) == Some([(0, 0), (1, 10)])
+        && counts(store, 1, 2) == Some([(0, 0), (0, 0)])
+}
+
+/// Whether the meter has the colours 2 and 1.
+fn has_colours(store: &mut Store) -> bool {
+    next_colour(store, 2) == Some(2)
+        && next_colour(store, 2) == Some(1)
+        && next_colour(store, 2) == Some(0)
+}
+
+fn begins(alloc: Global) -> Result<bool, OutOfMemory> {
+    match first(alloc)? {
+        Some(mut store) => Ok(
+            store.shapes().len() == 4
+                && are_blank(&mut store)
+                && has_colours(&mut store)
+                && reads(&store, 3, 2) == Some(0),
+        ),
+        None => Ok(false),
+    }
+}
+
 #[test]
 fn a_run_begins_with_blank_cells_one_for_each_entry_and_the_colours(
     rt: HostRuntime,
 ) -> Result<(), Fail> {
-    let made = first(rt.alloc())?;
-    let Some(mut store) = made else {
-        panic!(rt; "not well formed");
-    };
-    assert_eq!(rt; store.shapes().len(), 4);
-    assert_eq!(rt; counts(&mut store, 0, 3), Some([(0, 0), (1, 0)]));
-    assert_eq!(rt; counts(&mut store, 0, 4), Some([(0, 0), (0, 0)]));
-    assert_eq!(rt; counts(&mut store, 1, 1), Some([(0, 0), (1, 10)]));
-    assert_eq!(rt; counts(&mut store, 1, 2), Some([(0, 0), (0, 0)]));
-    assert_eq!(rt; next_colour(&mut store, 2), Some(2));
-    assert_eq!(rt; next_colour(&mut store, 2), Some(1));
-    assert_eq!(rt; next_colour(&mut store, 2), Some(0));
-    assert_eq!(rt; reads(&store, 3, 2), Some(0));
+    let begun = begins(rt.alloc())?;
+    assert!(rt; begun);
     Ok(())
 }
 
@@ -364,12 +399,16 @@ fn are_entries(entries: &Entries) -> bool {
         && are_colours(entries.colours.as_slice())
 }
 
+fn is_copied(alloc: Global) -> Result<bool, OutOfMemory> {
+    let (_, entries) = filled(alloc)?;
+    let copied = entries.copy(alloc)?;
+    Ok(are_entries(&copied) && are_entries(&entries))
+}
+
 #[test]
 fn a_copy_shows_what_it_was_copied_from(rt: HostRuntime) -> Result<(), Fail> {
-    let (_, entries) = filled(rt.alloc())?;
-    let copied = entries.copy(rt.alloc())?;
-    assert!(rt; are_entries(&copied));
-    assert!(rt; are_entries(&entries));
+    let copied = is_copied(rt.alloc())?;
+    assert!(rt; copied);
     Ok(())
 }
 

@@ -1,5 +1,5 @@
 //! Examples of `p414_body_check`: small programs that break a rule of bodies, each in one way, programs that break two, and
-//! programs at the edge of a rule that break none.
+//! programs at the edge of a rule that break none. They are rows of tables, which one function of each kind goes through.
 #![tactic(auto)]
 
 #[cfg(test)]
@@ -19,9 +19,13 @@ mod objects;
 #[cfg(test)]
 mod pairs;
 #[cfg(test)]
+mod rows;
+#[cfg(test)]
 mod samples;
 #[cfg(test)]
 mod setting;
+#[cfg(test)]
+mod sizes;
 #[cfg(test)]
 mod tables;
 #[cfg(test)]

@@ -6,7 +6,7 @@ use std::alloc::Global;
 use std::process::Abort;
 use std::test::Fail;
 
-const SORTS: [Sort; 8] = [
+static SORTS: [Sort; 8] = [
     Sort::HeaderType,
     Sort::Instance,
     Sort::Parse,
@@ -67,23 +67,79 @@ fn program_of(alloc: Global, text: &[u8]) -> Result<Program14, Fail> {
     Ok(check14(alloc, syntax)?)
 }
 
+/// The names of each sort of those declarations, in their order.
+static SORTED: [(Sort, &[&[u8]]); 8] = [
+    (Sort::HeaderType, &[b"h_t", b"m_t"]),
+    (Sort::Instance, &[b"m", b"h", b"s"]),
+    (Sort::Parse, &[b"start", b"ingress", b"behind", b"aside"]),
+    (Sort::Action, &[b"act", b"other"]),
+    (Sort::Table, &[b"t", b"u"]),
+    (Sort::List, &[b"l", b"k"]),
+    (Sort::Calculation, &[b"c", b"d"]),
+    (Sort::Object, &[b"kept", b"seen", b"rate"]),
+];
+
+/// Names that none of those declarations has.
+static ABSENT: [&[u8]; 9] = [
+    b"",
+    b"absent",
+    b"h_",
+    b"h_t_t",
+    b"H_T",
+    b"a",
+    b"egress",
+    b"standard_metadata",
+    b"no_op",
+];
+
+/// The numbers of the name `x` in the sorts, in their order.
+static OF_ONE_NAME: [Option<u32>; 8] = [
+    Some(0),
+    Some(1),
+    Some(2),
+    Some(3),
+    Some(1),
+    Some(0),
+    Some(0),
+    Some(2),
+];
+
+fn sorted() -> &'static [(Sort, &'static [&'static [u8]])] {
+    &SORTED
+}
+
+fn absent() -> &'static [&'static [u8]] {
+    &ABSENT
+}
+
+fn of_one_name() -> &'static [Option<u32>; 8] {
+    &OF_ONE_NAME
+}
+
+fn sorts() -> &'static [Sort; 8] {
+    &SORTS
+}
+
 /// The name has these numbers in the sorts, in their order.
-fn expect_numbers(rt: &impl Abort, program: &Program14, name: &[u8], numbers: [Option<u32>; 8]) {
-    for (place, sort) in SORTS.iter().enumerate() {
-        assert_eq!(rt; program.number_of(*sort, name), numbers[place]);
+fn expect_numbers(rt: &impl Abort, program: &Program14, name: &[u8], numbers: &[Option<u32>; 8]) {
+    for (place, sort) in sorts().iter().enumerate() {
+        assert_eq!(rt;
+            program.number_of(*sort, name),
+            numbers[place],
+            "{name:?} in sort {place}"
+        );
     }
 }
 
 /// The name has this number in this sort, and none in the others.
 fn expect_in_sort(rt: &impl Abort, program: &Program14, wanted: Sort, name: &[u8], number: usize) {
-    for sort in SORTS {
-        let expected = if sort == wanted {
-            u32::try_from(number).ok()
-        } else {
-            None
-        };
-        assert_eq!(rt; program.number_of(sort, name), expected);
+    let mut numbers = [None; 8];
+    for (place, sort) in sorts().iter().enumerate() {
+        if *sort == wanted {
+            numbers[place] = u32::try_from(number).ok();
+        }
     }
+    expect_numbers(rt, program, name, &numbers);
 }
 
 /// Each of these names has its place as its number in this sort, and none in the others.
@@ -94,59 +150,20 @@ fn expect_sort(rt: &impl Abort, program: &Program14, sort: Sort, names: &[&[u8]]
 }
 
 #[test]
-fn the_declarations_of_a_sort_have_numbers_in_the_order_of_the_text(
-    rt: HostRuntime,
-) -> Result<(), Fail> {
+fn names_have_numbers_sort_by_sort_in_the_order_of_the_text(rt: HostRuntime) -> Result<(), Fail> {
     let program = program_of(rt.alloc(), EACH_SORT)?;
-    expect_sort(&rt, &program, Sort::HeaderType, &[b"h_t", b"m_t"]);
-    expect_sort(&rt, &program, Sort::Instance, &[b"m", b"h", b"s"]);
-    expect_sort(
-        &rt,
-        &program,
-        Sort::Parse,
-        &[b"start", b"ingress", b"behind", b"aside"],
-    );
-    expect_sort(&rt, &program, Sort::Action, &[b"act", b"other"]);
-    expect_sort(&rt, &program, Sort::Table, &[b"t", b"u"]);
-    expect_sort(&rt, &program, Sort::List, &[b"l", b"k"]);
-    expect_sort(&rt, &program, Sort::Calculation, &[b"c", b"d"]);
-    expect_sort(&rt, &program, Sort::Object, &[b"kept", b"seen", b"rate"]);
+    for (sort, names) in sorted() {
+        expect_sort(&rt, &program, *sort, names);
+    }
+    for name in absent() {
+        expect_numbers(&rt, &program, name, &[None; 8]);
+    }
     Ok(())
 }
 
 #[test]
 fn a_name_has_a_number_in_each_sort_by_itself(rt: HostRuntime) -> Result<(), Fail> {
     let program = program_of(rt.alloc(), ONE_NAME)?;
-    let numbers = [
-        Some(0),
-        Some(1),
-        Some(2),
-        Some(3),
-        Some(1),
-        Some(0),
-        Some(0),
-        Some(2),
-    ];
-    expect_numbers(&rt, &program, b"x", numbers);
-    Ok(())
-}
-
-#[test]
-fn what_is_not_declared_has_no_number(rt: HostRuntime) -> Result<(), Fail> {
-    let program = program_of(rt.alloc(), EACH_SORT)?;
-    let absent: [&[u8]; 9] = [
-        b"",
-        b"absent",
-        b"h_",
-        b"h_t_t",
-        b"H_T",
-        b"a",
-        b"egress",
-        b"standard_metadata",
-        b"no_op",
-    ];
-    for name in absent {
-        expect_numbers(&rt, &program, name, [None; 8]);
-    }
+    expect_numbers(&rt, &program, b"x", of_one_name());
     Ok(())
 }

@@ -1,4 +1,4 @@
-// What the examples have in common: a program that breaks no rule, with places to put something in, and what is expected.
+// A program that breaks no rule, with places to put something in, and what is told of a program.
 use p4x_fault::{Fault, Rule};
 use p414_body_check::{Check14, check14};
 use p414_reader::read14;
@@ -19,6 +19,8 @@ pub enum Slot {
     Ingress,
     /// Behind all declarations.
     Behind,
+    /// In place of the program.
+    Alone,
 }
 
 const HEAD: &[u8] = b"header_type h_t { fields { a : 8; b : 8; } }
@@ -40,35 +42,12 @@ control ingress { ";
 const TAIL: &[u8] = b" }
 ";
 
-/// The text of this slot: what is put there, or what stands there where nothing is.
-fn chosen<'a>(slot: u8, given: Slot, text: &'a [u8], usual: &'a [u8]) -> &'a [u8] {
-    let here = match given {
-        Slot::Start => 0,
-        Slot::Body => 1,
-        Slot::Reads => 2,
-        Slot::Ingress => 3,
-        Slot::Behind => 4,
-    };
-    if slot == here { text } else { usual }
-}
+/// What stands in the state, the body and the control where nothing else is put there.
+const EXTRACT: &[u8] = b"extract(h);";
 
-/// The text breaks this rule, and no lower one; or none.
-pub fn expect_rule(
-    rt: &(impl Abort + AllocGlobal),
-    text: &[u8],
-    rule: Option<u8>,
-) -> Result<(), Fail> {
-    let syntax = read14(rt.alloc(), text)?;
-    let expected = match rule {
-        Some(number) => Some(Check14::Refused(Fault {
-            rule: Rule::C(number),
-            place: None,
-        })),
-        None => None,
-    };
-    assert_eq!(rt; check14(rt.alloc(), syntax).err(), expected);
-    Ok(())
-}
+const NO_OP: &[u8] = b"no_op();";
+
+const APPLY: &[u8] = b"apply(t);";
 
 /// These texts, one behind the other.
 fn joined(alloc: Global, texts: &[&[u8]]) -> Result<Vec<u8>, Fail> {
@@ -79,113 +58,83 @@ fn joined(alloc: Global, texts: &[&[u8]]) -> Result<Vec<u8>, Fail> {
     Ok(found)
 }
 
+/// What stands in the state, the body, the table, the control and behind them, where this text is put in this place.
+fn filled<'a>(slot: Slot, text: &'a [u8]) -> [&'a [u8]; 5] {
+    match slot {
+        Slot::Start => [text, NO_OP, b"", APPLY, b""],
+        Slot::Body => [EXTRACT, text, b"", APPLY, b""],
+        Slot::Reads => [EXTRACT, NO_OP, text, APPLY, b""],
+        Slot::Ingress => [EXTRACT, NO_OP, b"", text, b""],
+        Slot::Behind | Slot::Alone => [EXTRACT, NO_OP, b"", APPLY, text],
+    }
+}
+
 /// The program with this text in this place, and these declarations behind it.
-fn program(alloc: Global, slot: Slot, text: &[u8], behind: &[u8]) -> Result<Vec<u8>, Fail> {
-    joined(
-        alloc,
-        &[
-            HEAD,
-            chosen(0, slot, text, b"extract(h);"),
-            ACTION,
-            chosen(1, slot, text, b"no_op();"),
-            TABLE,
-            chosen(2, slot, text, b""),
-            CONTROL,
-            chosen(3, slot, text, b"apply(t);"),
-            TAIL,
-            chosen(4, slot, text, b""),
-            behind,
-        ],
-    )
-}
-
-/// The program with this text in this place, and these declarations behind it, breaks this rule, and no lower one; or none.
-pub fn expect_in(
-    rt: &(impl Abort + AllocGlobal),
+pub fn program(
+    alloc: Global,
     slot: Slot,
     text: &[u8],
+    objects: &[u8],
     behind: &[u8],
-    rule: Option<u8>,
-) -> Result<(), Fail> {
-    let text = program(rt.alloc(), slot, text, behind)?;
-    expect_rule(rt, &text, rule)
-}
-
-/// The same of each of these texts.
-pub fn expect_each(
-    rt: &(impl Abort + AllocGlobal),
-    slot: Slot,
-    rule: Option<u8>,
-    behind: &[u8],
-    cases: &[&[u8]],
-) -> Result<(), Fail> {
-    for case in cases {
-        expect_in(rt, slot, case, behind, rule)?;
+) -> Result<Vec<u8>, Fail> {
+    if matches!(slot, Slot::Alone) {
+        return joined(alloc, &[text, objects, behind]);
     }
-    Ok(())
+    let [start, body, reads, ingress, last] = filled(slot, text);
+    let front = [HEAD, start, ACTION, body, TABLE, reads, CONTROL, ingress];
+    let mut found = joined(alloc, &front)?;
+    found.extend_from_slice(&joined(alloc, &[TAIL, last, objects, behind])?)?;
+    Ok(found)
 }
 
-/// The same of this text with each of these declarations behind the program.
-pub fn expect_behind(
+/// What stands before the first of these marks in a text, and what behind it.
+pub fn cut(text: &[u8], mark: u8) -> (&[u8], &[u8]) {
+    let at = text.iter().position(|octet| *octet == mark);
+    let (before, behind) = text.split_at(at.unwrap_or(text.len()).min(text.len()));
+    match behind {
+        [_, after @ ..] => (before, after),
+        [] => (before, b""),
+    }
+}
+
+/// The number that these digits write; what else stands there counts for nothing.
+pub fn number_of(word: &[u8]) -> u32 {
+    let mut number = 0u32;
+    for octet in word {
+        if octet.is_ascii_digit() {
+            let digit = u32::from(octet.saturating_sub(b'0'));
+            number = number.saturating_mul(10).saturating_add(digit);
+        }
+    }
+    number
+}
+
+/// What is told of a program that breaks this rule; nothing of one that breaks none.
+fn fault_of(rule: Option<u8>) -> Option<Check14> {
+    match rule {
+        Some(number) => Some(Check14::Refused(Fault {
+            rule: Rule::C(number),
+            place: None,
+        })),
+        None => None,
+    }
+}
+
+/// What is told of a text that is read.
+fn told(alloc: Global, text: &[u8]) -> Result<Option<Check14>, Fail> {
+    let syntax = read14(alloc, text)?;
+    Ok(check14(alloc, syntax).err())
+}
+
+/// The text breaks this rule, and no lower one; or none. It is told by the name of its table and its place there.
+pub fn expect_rule(
     rt: &(impl Abort + AllocGlobal),
-    slot: Slot,
+    name: &str,
+    row: usize,
     text: &[u8],
     rule: Option<u8>,
-    cases: &[&[u8]],
 ) -> Result<(), Fail> {
-    for case in cases {
-        expect_in(rt, slot, text, case, rule)?;
-    }
+    let found = told(rt.alloc(), text)?;
+    assert_eq!(rt; found, fault_of(rule), "{name}, row {row}");
     Ok(())
-}
-
-/// Puts a piece so many times behind a text.
-fn repeat(text: &mut Vec<u8>, piece: &[u8], times: u32) -> Result<(), Fail> {
-    for _ in 0..times {
-        text.extend_from_slice(piece)?;
-    }
-    Ok(())
-}
-
-/// These pieces, each so many times, one behind the other.
-pub fn repeated(alloc: Global, pieces: &[(&[u8], u32)]) -> Result<Vec<u8>, Fail> {
-    let mut text = Vec::new(alloc);
-    for (piece, times) in pieces {
-        repeat(&mut text, piece, *times)?;
-    }
-    Ok(text)
-}
-
-/// The program with these pieces, each so many times, in this place breaks this rule, and no lower one; or none.
-pub fn expect_repeated(
-    rt: &(impl Abort + AllocGlobal),
-    slot: Slot,
-    pieces: &[(&[u8], u32)],
-    behind: &[u8],
-    rule: Option<u8>,
-) -> Result<(), Fail> {
-    let text = repeated(rt.alloc(), pieces)?;
-    expect_in(rt, slot, &text, behind, rule)
-}
-
-/// Puts a text, a number and a further text behind a text.
-pub fn add_numbered(
-    text: &mut Vec<u8>,
-    before: &[u8],
-    number: u32,
-    after: &[u8],
-) -> Result<(), Fail> {
-    text.extend_from_slice(before)?;
-    text.extend_from_slice(itoa::Buffer::new().format(number).as_bytes())?;
-    text.extend_from_slice(after)?;
-    Ok(())
-}
-
-/// A text, a number and a further text, for each of the numbers from 0 below this one.
-pub fn numbered(alloc: Global, before: &[u8], count: u32, after: &[u8]) -> Result<Vec<u8>, Fail> {
-    let mut text = Vec::new(alloc);
-    for number in 0..count {
-        add_numbered(&mut text, before, number, after)?;
-    }
-    Ok(text)
 }

@@ -1,111 +1,121 @@
 // C11, C12 and C24: keys and default actions of tables.
-use crate::setting::{Slot, expect_each, expect_in, expect_repeated};
-use std::test::Fail;
+use crate::rows::{Built, Group};
+use crate::setting::Slot;
 
-const BAD_KEYS: [&[u8]; 10] = [
-    b"reads { m : valid; }",
-    b"reads { standard_metadata : valid; }",
-    b"reads { h.a : valid; }",
-    b"reads { h mask 1 : valid; }",
-    b"reads { h : exact; }",
-    b"reads { m : ternary; }",
-    b"reads { s[0] : lpm; }",
-    b"reads { h : range; }",
-    b"reads { h.a : index; }",
-    b"reads { h : index; }",
+static GROUPS: [Group; 9] = [
+    Group {
+        name: "a key is no header, or no field, or of no kind",
+        slot: Slot::Reads,
+        rule: Some(11),
+        behind: b"",
+        cases: b"reads { m : valid; }
+reads { standard_metadata : valid; }
+reads { h.a : valid; }
+reads { h mask 1 : valid; }
+reads { h : exact; }
+reads { m : ternary; }
+reads { s[0] : lpm; }
+reads { h : range; }
+reads { h.a : index; }
+reads { h : index; }",
+    },
+    Group {
+        name: "a key of each kind",
+        slot: Slot::Reads,
+        rule: None,
+        behind: b"",
+        cases: b"reads { h : valid; s[1] : valid; h.a mask 0x0f : ternary; h.b : range; m.f : lpm; standard_metadata.ingress_port : exact; }
+reads { }
+reads { h.a : lpm; h.b : ternary; }",
+    },
+    Group {
+        name: "a stack without an index is judged before its kind",
+        slot: Slot::Reads,
+        rule: Some(4),
+        behind: b"",
+        cases: b"reads { s : valid; }
+reads { s : exact; }",
+    },
+    Group {
+        name: "a name that is unknown is judged before its kind",
+        slot: Slot::Reads,
+        rule: Some(2),
+        behind: b"",
+        cases: b"reads { x : valid; }",
+    },
+    Group {
+        name: "a table has one lpm key at most",
+        slot: Slot::Reads,
+        rule: Some(12),
+        behind: b"",
+        cases: b"reads { h.a : lpm; h.b : lpm; }
+reads { h.a : lpm; h.b : exact; h.a : lpm; }",
+    },
+    Group {
+        name: "a default or a label is the name of no action",
+        slot: Slot::Behind,
+        rule: Some(2),
+        behind: b"",
+        cases: b"table u { actions { act; } default_action : other_name(); }
+control c { apply(t) { other_name { } } }",
+    },
+    Group {
+        name: "a default or a label is the name of an action",
+        slot: Slot::Behind,
+        rule: None,
+        behind: b"",
+        cases: b"control c { apply(t) { no_op { } } }
+action g() { } control c { apply(t) { g { } act { } default { } } }",
+    },
+    Group {
+        name: "a default is none of the actions, or has other arguments",
+        slot: Slot::Behind,
+        rule: Some(24),
+        behind: b"",
+        cases: b"action g() { } table u { actions { act; } default_action : g(); }
+table u { actions { act; } default_action : no_op(); }
+table u { actions { act; } default_action : truncate(); }
+table u { actions { act; } default_action : act(1); }
+action g(p) { modify_field(h.a, p); } table u { actions { g; } default_action : g(); }
+action g(p) { modify_field(h.a, p); } table u { actions { g; } default_action : g; }
+action g(p) { modify_field(h.a, p); } table u { actions { g; } default_action : g(1, 2); }
+table u { action_profile : x; default_action : act(); }",
+    },
+    Group {
+        name: "a default is one of the actions with its arguments",
+        slot: Slot::Behind,
+        rule: None,
+        behind: b"",
+        cases: b"action g(p) { modify_field(h.a, p); } table u { actions { g; } default_action : g(1); }
+action g(p) { modify_field(h.a, p); } table u { actions { g; } default_action : g(-1); }
+table u { actions { act; } default_action : act; }
+table u { actions { act; } }",
+    },
 ];
 
-const GOOD_KEYS: [&[u8]; 3] = [
-    b"reads { h : valid; s[1] : valid; h.a mask 0x0f : ternary; h.b : range; m.f : lpm; standard_metadata.ingress_port : exact; }",
-    b"reads { }",
-    b"reads { h.a : lpm; h.b : ternary; }",
+/// The texts of this file that are put into a place of the program.
+pub fn groups() -> &'static [Group] {
+    &GROUPS
+}
+
+static BUILT: [Built; 2] = [
+    Built {
+        name: "a table has 64 keys",
+        slot: Slot::Reads,
+        rule: None,
+        text: b"1`reads { `64`h.a : exact; `1`}`",
+        behind: b"",
+    },
+    Built {
+        name: "a table has 65 keys",
+        slot: Slot::Reads,
+        rule: Some(11),
+        text: b"1`reads { `65`h.a : exact; `1`}`",
+        behind: b"",
+    },
 ];
 
-const TWO_PREFIXES: [&[u8]; 2] = [
-    b"reads { h.a : lpm; h.b : lpm; }",
-    b"reads { h.a : lpm; h.b : exact; h.a : lpm; }",
-];
-
-const BAD_DEFAULTS: [&[u8]; 8] = [
-    b"action g() { } table u { actions { act; } default_action : g(); }",
-    b"table u { actions { act; } default_action : no_op(); }",
-    b"table u { actions { act; } default_action : truncate(); }",
-    b"table u { actions { act; } default_action : act(1); }",
-    b"action g(p) { modify_field(h.a, p); } table u { actions { g; } default_action : g(); }",
-    b"action g(p) { modify_field(h.a, p); } table u { actions { g; } default_action : g; }",
-    b"action g(p) { modify_field(h.a, p); } table u { actions { g; } default_action : g(1, 2); }",
-    b"table u { action_profile : x; default_action : act(); }",
-];
-
-const GOOD_DEFAULTS: [&[u8]; 4] = [
-    b"action g(p) { modify_field(h.a, p); } table u { actions { g; } default_action : g(1); }",
-    b"action g(p) { modify_field(h.a, p); } table u { actions { g; } default_action : g(-1); }",
-    b"table u { actions { act; } default_action : act; }",
-    b"table u { actions { act; } }",
-];
-
-#[test]
-fn a_key_is_no_header_or_no_field_or_of_no_kind(rt: HostRuntime) -> Result<(), Fail> {
-    expect_each(&rt, Slot::Reads, Some(11), b"", &BAD_KEYS)?;
-    expect_each(&rt, Slot::Reads, None, b"", &GOOD_KEYS)
-}
-
-#[test]
-fn a_stack_without_an_index_is_judged_before_its_kind(rt: HostRuntime) -> Result<(), Fail> {
-    expect_in(&rt, Slot::Reads, b"reads { s : valid; }", b"", Some(4))?;
-    expect_in(&rt, Slot::Reads, b"reads { s : exact; }", b"", Some(4))?;
-    expect_in(&rt, Slot::Reads, b"reads { x : valid; }", b"", Some(2))
-}
-
-#[test]
-fn a_table_has_at_most_64_keys(rt: HostRuntime) -> Result<(), Fail> {
-    expect_repeated(
-        &rt,
-        Slot::Reads,
-        &[(b"reads { ", 1), (b"h.a : exact; ", 64), (b"}", 1)],
-        b"",
-        None,
-    )?;
-    expect_repeated(
-        &rt,
-        Slot::Reads,
-        &[(b"reads { ", 1), (b"h.a : exact; ", 65), (b"}", 1)],
-        b"",
-        Some(11),
-    )
-}
-
-#[test]
-fn a_table_has_one_lpm_key_at_most(rt: HostRuntime) -> Result<(), Fail> {
-    expect_each(&rt, Slot::Reads, Some(12), b"", &TWO_PREFIXES)
-}
-
-#[test]
-fn a_default_or_a_label_is_the_name_of_an_action(rt: HostRuntime) -> Result<(), Fail> {
-    expect_each(
-        &rt,
-        Slot::Behind,
-        Some(2),
-        b"",
-        &[
-            b"table u { actions { act; } default_action : other_name(); }",
-            b"control c { apply(t) { other_name { } } }",
-        ],
-    )?;
-    expect_each(
-        &rt,
-        Slot::Behind,
-        None,
-        b"",
-        &[
-            b"control c { apply(t) { no_op { } } }",
-            b"action g() { } control c { apply(t) { g { } act { } default { } } }",
-        ],
-    )
-}
-
-#[test]
-fn a_default_is_one_of_the_actions_with_its_arguments(rt: HostRuntime) -> Result<(), Fail> {
-    expect_each(&rt, Slot::Behind, Some(24), b"", &BAD_DEFAULTS)?;
-    expect_each(&rt, Slot::Behind, None, b"", &GOOD_DEFAULTS)
+/// The long and deep programs of this file.
+pub fn built() -> &'static [Built] {
+    &BUILT
 }

@@ -62,66 +62,137 @@ fn both_ended(
     Ok((end, parse_ready(&parser, &mut state)?))
 }
 
-#[test]
-fn a_case_leads_to_ingress(rt: HostRuntime) -> Result<(), Fail> {
-    let (end, state) = parsed(&rt, &[2, 0x23, 0x45])?;
-    assert!(&rt; end == Parsed::Accepted);
-    assert!(&rt; state.valid(0, 0) && state.number(0, 0, 0) == 2);
-    assert!(&rt; state.number(2, 0, 1) == 0x34);
-    assert!(&rt; state.unparsed() == [0x23, 0x45].as_slice());
-    Ok(())
+/// A packet, how its parsing ends, and what the state tells then.
+struct Row {
+    name: &'static str,
+    packet: &'static [u8],
+    end: Parsed,
+    /// Instances, and whether their first element is valid.
+    valid: &'static [(u32, bool)],
+    /// Instances, elements and fields, and the numbers there.
+    numbers: &'static [(u32, u32, u32, u128)],
+    /// Stacks, and how many of their elements were taken.
+    places: &'static [(u32, u32)],
+    unparsed: &'static [u8],
+}
+
+static ROWS: [Row; 7] = [
+    Row {
+        name: "a case leads to ingress",
+        packet: &[2, 0x23, 0x45],
+        end: Parsed::Accepted,
+        valid: &[(0, true)],
+        numbers: &[(0, 0, 0, 2), (2, 0, 1, 0x34)],
+        places: &[],
+        unparsed: &[0x23, 0x45],
+    },
+    Row {
+        name: "initial values are kept modulo the width",
+        packet: &[],
+        end: Parsed::OutOfPacket,
+        valid: &[(0, false)],
+        numbers: &[(2, 0, 0, 4)],
+        places: &[],
+        unparsed: &[],
+    },
+    Row {
+        name: "a mask hides bits",
+        packet: &[0x91, 0, 0],
+        end: Parsed::Accepted,
+        valid: &[(0, true)],
+        numbers: &[(0, 0, 0, 0x91)],
+        places: &[],
+        unparsed: &[0, 0],
+    },
+    Row {
+        name: "a value of no case is unhandled",
+        packet: &[5, 0, 0],
+        end: Parsed::UnhandledSelect,
+        valid: &[(0, true)],
+        numbers: &[],
+        places: &[],
+        unparsed: &[0, 0],
+    },
+    Row {
+        name: "current may go past the end",
+        packet: &[2, 0],
+        end: Parsed::OutOfPacket,
+        valid: &[(0, true)],
+        numbers: &[],
+        places: &[],
+        unparsed: &[0],
+    },
+    Row {
+        name: "next moves along a stack",
+        packet: &[1, 0, 7, 9],
+        end: Parsed::Accepted,
+        valid: &[],
+        numbers: &[(1, 0, 0, 0), (1, 1, 0, 7)],
+        places: &[(1, 2)],
+        unparsed: &[9],
+    },
+    Row {
+        name: "a full stack is told before missing octets",
+        packet: &[1, 0, 0],
+        end: Parsed::OutOfBounds,
+        valid: &[],
+        numbers: &[],
+        places: &[(1, 2)],
+        unparsed: &[],
+    },
+];
+
+fn rows() -> &'static [Row] {
+    &ROWS
+}
+
+fn are_valid(state: &State14, valid: &[(u32, bool)]) -> bool {
+    for (instance, on) in valid {
+        if state.valid(*instance, 0) != *on {
+            return false;
+        }
+    }
+    true
+}
+
+fn are_numbers(state: &State14, numbers: &[(u32, u32, u32, u128)]) -> bool {
+    for (instance, element, field, value) in numbers {
+        if state.number(*instance, *element, *field) != *value {
+            return false;
+        }
+    }
+    true
+}
+
+fn are_places(state: &State14, places: &[(u32, u32)]) -> bool {
+    for (instance, place) in places {
+        if state.place(*instance) != *place {
+            return false;
+        }
+    }
+    true
+}
+
+/// Whether parsing that ended so leaves what the row has.
+fn is_told(end: Parsed, state: &State14, row: &Row) -> bool {
+    end == row.end
+        && are_valid(state, row.valid)
+        && are_numbers(state, row.numbers)
+        && are_places(state, row.places)
+        && state.unparsed() == row.unparsed
+}
+
+fn is_parsed(rt: &(impl Abort + AllocGlobal), row: &Row) -> Result<bool, Fail> {
+    let (end, state) = parsed(rt, row.packet)?;
+    Ok(is_told(end, &state, row))
 }
 
 #[test]
-fn initial_values_are_kept_modulo_the_width(rt: HostRuntime) -> Result<(), Fail> {
-    let (end, state) = parsed(&rt, &[])?;
-    assert!(&rt; end == Parsed::OutOfPacket);
-    assert!(&rt; state.number(2, 0, 0) == 4);
-    assert!(&rt; !state.valid(0, 0));
-    Ok(())
-}
-
-#[test]
-fn a_mask_hides_bits(rt: HostRuntime) -> Result<(), Fail> {
-    let (end, state) = parsed(&rt, &[0x91, 0, 0])?;
-    assert!(&rt; end == Parsed::Accepted);
-    assert!(&rt; state.number(0, 0, 0) == 0x91);
-    Ok(())
-}
-
-#[test]
-fn a_value_of_no_case_is_unhandled(rt: HostRuntime) -> Result<(), Fail> {
-    let (end, state) = parsed(&rt, &[5, 0, 0])?;
-    assert!(&rt; end == Parsed::UnhandledSelect);
-    assert!(&rt; state.valid(0, 0));
-    Ok(())
-}
-
-#[test]
-fn current_may_go_past_the_end(rt: HostRuntime) -> Result<(), Fail> {
-    let (end, state) = parsed(&rt, &[2, 0])?;
-    assert!(&rt; end == Parsed::OutOfPacket);
-    assert!(&rt; state.valid(0, 0));
-    assert!(&rt; state.unparsed() == [0].as_slice());
-    Ok(())
-}
-
-#[test]
-fn next_moves_along_a_stack(rt: HostRuntime) -> Result<(), Fail> {
-    let (end, state) = parsed(&rt, &[1, 0, 7, 9])?;
-    assert!(&rt; end == Parsed::Accepted);
-    assert!(&rt; state.number(1, 0, 0) == 0 && state.number(1, 1, 0) == 7);
-    assert!(&rt; state.place(1) == 2);
-    assert!(&rt; state.unparsed() == [9].as_slice());
-    Ok(())
-}
-
-#[test]
-fn a_full_stack_is_told_before_missing_octets(rt: HostRuntime) -> Result<(), Fail> {
-    let (end, state) = parsed(&rt, &[1, 0, 0])?;
-    assert!(&rt; end == Parsed::OutOfBounds);
-    assert!(&rt; state.place(1) == 2);
-    assert!(&rt; state.unparsed().is_empty());
+fn each_packet_ends_parsing_with_this_state(rt: HostRuntime) -> Result<(), Fail> {
+    for row in rows() {
+        let told = is_parsed(&rt, row)?;
+        assert!(&rt; told, "{}", row.name);
+    }
     Ok(())
 }
 

@@ -1,5 +1,5 @@
 // Keysets: a value in parentheses is a tuple of one, and where an expression goes on they are parentheses.
-use crate::setting::{behind_mark, with_case};
+use crate::setting::{behind_mark, line_of, told, with_case};
 use p416_ast::{Decl16, Keyset, SelectCase, Simple, Syntax16, Transition};
 use p416_reader::read16;
 use std::alloc::Global;
@@ -65,57 +65,50 @@ fn letters_of(alloc: Global, text: &[u8]) -> Result<Vec<u8>, Fail> {
 /// What stands before the `$` of the row is one case, with the letters behind the `$`.
 fn expect_keyset(rt: &(impl Abort + AllocGlobal), row: &[u8]) -> Result<(), Fail> {
     let text = with_case(rt.alloc(), row)?;
-    assert_eq!(rt; letters_of(rt.alloc(), &text)?.as_slice(), behind_mark(row));
+    let found = letters_of(rt.alloc(), &text)?;
+    assert_eq!(rt; found.as_slice(), behind_mark(row), "{}", told(row));
     Ok(())
 }
 
 /// What stands before the `$` of each row is one case, with the letters behind the `$`.
-fn expect_keysets(rt: &(impl Abort + AllocGlobal), rows: &[&[u8]]) -> Result<(), Fail> {
-    for row in rows {
+fn expect_keysets(rt: &(impl Abort + AllocGlobal), rows: &[u8]) -> Result<(), Fail> {
+    let mut left = rows;
+    for _ in 0..rows.len() {
+        let (row, more) = line_of(left);
         expect_keyset(rt, row)?;
+        left = more;
+        if left.is_empty() {
+            break;
+        }
     }
     Ok(())
 }
 
-const ONE: [&[u8]; 6] = [
-    b"default : accept;$d",
-    b"_ : s;$_",
-    b"1 : reject;$v",
-    b"0x10 &&& 0xf0 : s;$m",
-    b"1 .. 8w3 : s;$r",
-    b"a ? b : c : s;$v",
-];
+const ONE: &[u8] = b"default : accept;$d
+_ : s;$_
+1 : reject;$v
+0x10 &&& 0xf0 : s;$m
+1 .. 8w3 : s;$r
+a ? b : c : s;$v";
 
-const TUPLES: [&[u8]; 6] = [
-    b"(1) : s;$(v)",
-    b"((1)) : s;$(v)",
-    b"(default) : s;$(d)",
-    b"(1, _, default, 2 .. 3, 4 &&& 5) : s;$(v_drm)",
-    b"(1 &&& 2) : s;$(m)",
-    b"((1) + 2, (bit<8>) 3) : s;$(vv)",
-];
+const TUPLES: &[u8] = b"(1) : s;$(v)
+((1)) : s;$(v)
+(default) : s;$(d)
+(1, _, default, 2 .. 3, 4 &&& 5) : s;$(v_drm)
+(1 &&& 2) : s;$(m)
+((1) + 2, (bit<8>) 3) : s;$(vv)";
 
-const PARENTHESES: [&[u8]; 7] = [
-    b"(a) &&& b : s;$m",
-    b"(a) .. b : s;$r",
-    b"(a) + b : s;$v",
-    b"(a).b &&& c : s;$m",
-    b"(a) ? b : c : s;$v",
-    b"(bit<8>) 3 : s;$v",
-    b"(bool) a &&& b : s;$m",
-];
+const PARENTHESES: &[u8] = b"(a) &&& b : s;$m
+(a) .. b : s;$r
+(a) + b : s;$v
+(a).b &&& c : s;$m
+(a) ? b : c : s;$v
+(bit<8>) 3 : s;$v
+(bool) a &&& b : s;$m";
 
 #[test]
-fn a_part_without_parentheses_is_one(rt: HostRuntime) -> Result<(), Fail> {
-    expect_keysets(&rt, &ONE)
-}
-
-#[test]
-fn parts_in_parentheses_are_a_tuple(rt: HostRuntime) -> Result<(), Fail> {
-    expect_keysets(&rt, &TUPLES)
-}
-
-#[test]
-fn parentheses_of_an_expression_that_goes_on_are_its_own(rt: HostRuntime) -> Result<(), Fail> {
-    expect_keysets(&rt, &PARENTHESES)
+fn keysets_are_one_part_or_a_tuple(rt: HostRuntime) -> Result<(), Fail> {
+    expect_keysets(&rt, ONE)?;
+    expect_keysets(&rt, TUPLES)?;
+    expect_keysets(&rt, PARENTHESES)
 }

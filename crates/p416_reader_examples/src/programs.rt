@@ -1,5 +1,7 @@
 // Whole programs, and where one that is cut is refused.
-use crate::setting::{DECLS, TEXTS, expect_count, expect_read, expect_refused};
+use crate::setting::{
+    DECLS, TEXTS, expect_count, expect_read, expect_refused, expect_texts_refused,
+};
 use p4x_fault::Rule;
 use std::test::Fail;
 
@@ -47,23 +49,19 @@ struct ms { }
 ];
 
 /// What breaks a rule of tokens is refused by it, though no program begins with a brace.
-const UNCLOSED: [&[u8]; 1] = [b"} $/*"];
+const UNCLOSED: &[u8] = b"} $/*";
 
-const NO_TOKENS: [&[u8]; 7] = [
-    b"} $16s5",
-    b"} $@names",
-    b"} $@x",
-    b"} $\"a b\"",
-    b"} $\"a",
-    b"} a $\" \"",
-    b"/* c */ $#include <core.p4>",
-];
+const NO_TOKENS: &[u8] = b"} $16s5
+} $@names
+} $@x
+} $\"a b\"
+} $\"a
+} a $\" \"
+/* c */ $#include <core.p4>";
 
-const BAD_NUMBERS: [&[u8]; 3] = [
-    b"} $129w1",
-    b"} $0w1",
-    b"} $340282366920938463463374607431768211456",
-];
+const BAD_NUMBERS: &[u8] = b"} $129w1
+} $0w1
+} $340282366920938463463374607431768211456";
 
 const NO_INCLUDE_LINES: [&[u8]; 3] = [
     b"$#define X\n#include <core.p4>\n",
@@ -97,31 +95,33 @@ const NO_DECLS: [&[u8]; 3] = [
 #[test]
 fn a_whole_program_is_read(rt: HostRuntime) -> Result<(), Fail> {
     expect_count(&rt, TO_PORT_3, 9)?;
-    expect_read(&rt, TEXTS, 0, &NO_DECLS)?;
+    for text in NO_DECLS {
+        expect_count(&rt, text, 0)?;
+    }
     expect_read(
         &rt,
         DECLS,
         1,
-        &[b"header h_t { bit<129> a; bit<48> b; bit<16> c; }"],
+        b"header h_t { bit<129> a; bit<48> b; bit<16> c; }",
     )
 }
 
 #[test]
 fn a_program_that_is_cut_is_refused_where_it_breaks(rt: HostRuntime) -> Result<(), Fail> {
-    expect_refused(&rt, Rule::S(1), TEXTS, &CUT)
+    expect_texts_refused(&rt, Rule::S(1), TEXTS, &CUT)
 }
 
 #[test]
 fn rules_of_tokens_come_first(rt: HostRuntime) -> Result<(), Fail> {
-    expect_refused(&rt, Rule::L(1), TEXTS, &NO_TOKENS)?;
-    expect_refused(&rt, Rule::L(2), TEXTS, &UNCLOSED)?;
-    expect_refused(&rt, Rule::L(3), TEXTS, &BAD_NUMBERS)?;
-    expect_refused(&rt, Rule::L(4), TEXTS, &NO_INCLUDE_LINES)
+    expect_refused(&rt, Rule::L(1), TEXTS, NO_TOKENS)?;
+    expect_refused(&rt, Rule::L(2), TEXTS, UNCLOSED)?;
+    expect_refused(&rt, Rule::L(3), TEXTS, BAD_NUMBERS)?;
+    expect_texts_refused(&rt, Rule::L(4), TEXTS, &NO_INCLUDE_LINES)
 }
 
 #[test]
 fn a_program_begins_with_include_lines_and_ends_with_its_blocks(
     rt: HostRuntime,
 ) -> Result<(), Fail> {
-    expect_refused(&rt, Rule::S(1), TEXTS, &BAD_ENDS)
+    expect_texts_refused(&rt, Rule::S(1), TEXTS, &BAD_ENDS)
 }

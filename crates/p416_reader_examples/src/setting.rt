@@ -5,6 +5,7 @@ use p416_ast::{Decl16, StmtHead, StmtView, Syntax16};
 use p416_reader::{ReadError, read16};
 use std::alloc::Global;
 use std::process::Abort;
+use std::str;
 use std::test::Fail;
 
 /// Where a row stands: what is in front of it, and what behind it.
@@ -54,6 +55,21 @@ fn cut(row: &[u8]) -> (&[u8], &[u8]) {
     }
 }
 
+/// The first line of a text, and what stands behind it.
+pub fn line_of(text: &[u8]) -> (&[u8], &[u8]) {
+    let at = text.iter().position(|octet| *octet == b'\n');
+    let (line, behind) = text.split_at(at.unwrap_or(text.len()).min(text.len()));
+    match behind {
+        [_, after @ ..] => (line, after),
+        [] => (line, b""),
+    }
+}
+
+/// A row, as it is told where it fails.
+pub fn told(row: &[u8]) -> &str {
+    str::from_utf8(row).unwrap_or("?")
+}
+
 /// The place behind these octets, where they begin at this one.
 fn behind(text: &[u8], from: Place) -> Place {
     let mut place = from;
@@ -101,10 +117,8 @@ pub fn expect_fault(rt: &(impl Abort + AllocGlobal), text: &[u8], rule: Rule, pl
         rule,
         place: Some(place),
     };
-    assert_eq!(rt;
-        read16(rt.alloc(), text).err(),
-        Some(ReadError::Refused(fault))
-    );
+    let found = read16(rt.alloc(), text).err();
+    assert_eq!(rt; found, Some(ReadError::Refused(fault)));
 }
 
 /// Without its `$` the row breaks this rule where the `$` stands.
@@ -121,8 +135,27 @@ fn expect_row_refused(
     Ok(())
 }
 
-/// Without its `$` each of these rows breaks this rule where the `$` stands.
+/// Without its `$` each of these lines breaks this rule where the `$` stands.
 pub fn expect_refused(
+    rt: &(impl Abort + AllocGlobal),
+    rule: Rule,
+    setting: Setting,
+    rows: &[u8],
+) -> Result<(), Fail> {
+    let mut left = rows;
+    for _ in 0..rows.len() {
+        let (row, more) = line_of(left);
+        expect_row_refused(rt, rule, setting, row)?;
+        left = more;
+        if left.is_empty() {
+            break;
+        }
+    }
+    Ok(())
+}
+
+/// Without its `$` each of these texts breaks this rule where the `$` stands.
+pub fn expect_texts_refused(
     rt: &(impl Abort + AllocGlobal),
     rule: Rule,
     setting: Setting,
@@ -146,7 +179,8 @@ pub fn expect_count(
     text: &[u8],
     decls: usize,
 ) -> Result<(), Fail> {
-    assert_eq!(rt; count_of(rt.alloc(), text)?, decls);
+    let found = count_of(rt.alloc(), text)?;
+    assert_eq!(rt; found, decls);
     Ok(())
 }
 
@@ -161,15 +195,21 @@ fn expect_row_read(
     expect_count(rt, &text, decls)
 }
 
-/// Each of these rows is read, with so many declarations in all.
+/// Each of these lines is read, with so many declarations in all; an empty text is one line.
 pub fn expect_read(
     rt: &(impl Abort + AllocGlobal),
     setting: Setting,
     decls: usize,
-    rows: &[&[u8]],
+    rows: &[u8],
 ) -> Result<(), Fail> {
-    for row in rows {
+    let mut left = rows;
+    for _ in 0..rows.len().max(1) {
+        let (row, more) = line_of(left);
         expect_row_read(rt, setting, decls, row)?;
+        left = more;
+        if left.is_empty() {
+            break;
+        }
     }
     Ok(())
 }
@@ -204,7 +244,8 @@ fn tree_of(alloc: Global, text: &[u8]) -> Result<Vec<u8>, Fail> {
 
 /// The text has this tree as its only statement.
 fn expect_statement(rt: &(impl Abort + AllocGlobal), text: &[u8], tree: &[u8]) -> Result<(), Fail> {
-    assert_eq!(rt; tree_of(rt.alloc(), text)?.as_slice(), tree);
+    let found = tree_of(rt.alloc(), text)?;
+    assert_eq!(rt; found.as_slice(), tree, "{}", told(tree));
     Ok(())
 }
 
@@ -215,10 +256,16 @@ fn expect_tree(rt: &(impl Abort + AllocGlobal), row: &[u8]) -> Result<(), Fail> 
     expect_statement(rt, &text, tree)
 }
 
-/// What stands before the `$` of each row is one statement, with the tree behind the `$`.
-pub fn expect_trees(rt: &(impl Abort + AllocGlobal), rows: &[&[u8]]) -> Result<(), Fail> {
-    for row in rows {
+/// What stands before the `$` of each line is one statement, with the tree behind the `$`.
+pub fn expect_trees(rt: &(impl Abort + AllocGlobal), rows: &[u8]) -> Result<(), Fail> {
+    let mut left = rows;
+    for _ in 0..rows.len() {
+        let (row, more) = line_of(left);
         expect_tree(rt, row)?;
+        left = more;
+        if left.is_empty() {
+            break;
+        }
     }
     Ok(())
 }

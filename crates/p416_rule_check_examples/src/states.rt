@@ -1,97 +1,71 @@
 // T7: parsers without a state `start`, and cycles of states none of which extracts.
-use crate::setting::{BEFORE_STATES, BEHIND_STATES, syntax_of};
-use p416_state_check::has_bad_states;
-use std::process::Abort;
-use std::test::Fail;
+use crate::answers::Asked;
+use crate::rows::Group;
 
-/// A parser of these states breaks T7, or doesn't.
-fn expect_states(rt: &(impl Abort + AllocGlobal), states: &[u8], broken: bool) -> Result<(), Fail> {
-    let syntax = syntax_of(rt, &[(BEFORE_STATES, 1), (states, 1), (BEHIND_STATES, 1)])?;
-    assert_eq!(rt; has_bad_states(rt.alloc(), &syntax)?, broken);
-    Ok(())
-}
+/// What stands in front of the states of the parser `P`.
+const BEFORE_STATES: &[u8] = b"#include <core.p4>
+#include <v1model.p4>
+header h_t { bit<8> a; }
+struct hs { h_t h; }
+struct ms { }
+parser P(packet_in p, out hs hdr, inout ms meta, inout standard_metadata_t sm) {
+";
 
-#[test]
-fn a_parser_begins_in_the_state_start(rt: HostRuntime) -> Result<(), Fail> {
-    expect_states(&rt, b"state start { transition accept; }", false)?;
-    expect_states(&rt, b"state q { transition accept; }", true)?;
-    expect_states(
-        &rt,
-        b"state q { transition accept; } state start { transition q; }",
-        false,
-    )
-}
+/// What stands behind them.
+const BEHIND_STATES: &[u8] = b"}
+V1Switch(P()) main;
+";
 
-#[test]
-fn a_cycle_of_states_extracts_outside_every_if(rt: HostRuntime) -> Result<(), Fail> {
-    expect_states(&rt, b"state start { transition start; }", true)?;
-    expect_states(
-        &rt,
-        b"state start { p.extract(hdr.h); transition start; }",
-        false,
-    )?;
-    expect_states(
-        &rt,
-        b"state start { { p.extract(hdr.h); } transition start; }",
-        false,
-    )?;
-    expect_states(
-        &rt,
-        b"state start { if (hdr.h.isValid()) { p.extract(hdr.h); } transition start; }",
-        true,
-    )?;
-    expect_states(
-        &rt,
-        b"state start { if (hdr.h.isValid()) p.extract(hdr.h); transition start; }",
-        true,
-    )?;
-    expect_states(
-        &rt,
-        b"state start { if (hdr.h.isValid()) { p.extract(hdr.h); } else { p.extract(hdr.h); } transition start; }",
-        true,
-    )?;
-    expect_states(
-        &rt,
-        b"state start { bit<8> x = p.lookahead<bit<8>>(); transition start; }",
-        true,
-    )
-}
+/// `+` is of a program that breaks T7.
+static GROUPS: [Group; 5] = [
+    Group {
+        name: "a parser begins in the state start",
+        asked: Asked::BadStates,
+        before: BEFORE_STATES,
+        behind: BEHIND_STATES,
+        cases: b"- state start { transition accept; }
++ state q { transition accept; }
+- state q { transition accept; } state start { transition q; }",
+    },
+    Group {
+        name: "a cycle of states extracts outside every if",
+        asked: Asked::BadStates,
+        before: BEFORE_STATES,
+        behind: BEHIND_STATES,
+        cases: b"+ state start { transition start; }
+- state start { p.extract(hdr.h); transition start; }
+- state start { { p.extract(hdr.h); } transition start; }
++ state start { if (hdr.h.isValid()) { p.extract(hdr.h); } transition start; }
++ state start { if (hdr.h.isValid()) p.extract(hdr.h); transition start; }
++ state start { if (hdr.h.isValid()) { p.extract(hdr.h); } else { p.extract(hdr.h); } transition start; }
++ state start { bit<8> x = p.lookahead<bit<8>>(); transition start; }",
+    },
+    Group {
+        name: "one state of a cycle that extracts is enough",
+        asked: Asked::BadStates,
+        before: BEFORE_STATES,
+        behind: BEHIND_STATES,
+        cases: b"+ state start { transition q; } state q { transition start; }
+- state start { transition q; } state q { p.extract(hdr.h); transition start; }",
+    },
+    Group {
+        name: "each case of a select leads on",
+        asked: Asked::BadStates,
+        before: BEFORE_STATES,
+        behind: BEHIND_STATES,
+        cases: b"+ state start { transition select(hdr.h.a) { 1: accept; 2: q; default: reject; } } state q { transition start; }
+- state start { transition select(hdr.h.a) { 1: accept; 2: q; default: reject; } } state q { transition accept; }",
+    },
+    Group {
+        name: "a cycle that start doesn't lead to is one",
+        asked: Asked::BadStates,
+        before: BEFORE_STATES,
+        behind: BEHIND_STATES,
+        cases: b"+ state start { transition accept; } state q { transition q; }",
+    },
+];
 
-#[test]
-fn one_state_of_a_cycle_that_extracts_is_enough(rt: HostRuntime) -> Result<(), Fail> {
-    expect_states(
-        &rt,
-        b"state start { transition q; } state q { transition start; }",
-        true,
-    )?;
-    expect_states(
-        &rt,
-        b"state start { transition q; } state q { p.extract(hdr.h); transition start; }",
-        false,
-    )
-}
-
-#[test]
-fn each_case_of_a_select_leads_on(rt: HostRuntime) -> Result<(), Fail> {
-    expect_states(
-        &rt,
-        b"state start { transition select(hdr.h.a) { 1: accept; 2: q; default: reject; } }
-state q { transition start; }",
-        true,
-    )?;
-    expect_states(
-        &rt,
-        b"state start { transition select(hdr.h.a) { 1: accept; 2: q; default: reject; } }
-state q { transition accept; }",
-        false,
-    )
-}
-
-#[test]
-fn a_cycle_that_start_doesn_t_lead_to_is_one(rt: HostRuntime) -> Result<(), Fail> {
-    expect_states(
-        &rt,
-        b"state start { transition accept; } state q { transition q; }",
-        true,
-    )
+/// The programs of this file.
+pub fn groups() -> &'static [Group] {
+    &GROUPS
 }

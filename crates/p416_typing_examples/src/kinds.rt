@@ -5,87 +5,82 @@ use p416_typing::Row;
 use std::process::Abort;
 use std::test::Fail;
 
-/// Whether an expression is of this kind, and can be written or not.
-fn is_row(row: Option<Row<'_>>, wanted: Kind<'_>, can_write: bool) -> bool {
-    match row {
-        Some(row) => row.kind.is_same(wanted) && row.can_write == can_write,
-        None => false,
+/// What an expression is.
+#[derive(Clone, Copy, Drop)]
+enum Wanted {
+    /// Of this kind, and can be written.
+    Written(Kind<'static>),
+    /// Of this kind, and can't be written.
+    Read(Kind<'static>),
+    /// Of no kind that is known.
+    Unknown,
+}
+
+/// An expression, and what it is.
+static EXPRESSIONS: [(&[u8], Wanted); 20] = [
+    // variables and their parts can be written
+    (b"x", Wanted::Written(Kind::Bits(8))),
+    (b"hdr.h.b", Wanted::Written(Kind::Bits(16))),
+    (b"hdr.s[1]", Wanted::Written(Kind::Header(b"h_t"))),
+    (b"hdr.s.last.a", Wanted::Written(Kind::Bits(8))),
+    (b"x[3:0]", Wanted::Written(Kind::Bits(4))),
+    (b"sm.egress_spec", Wanted::Written(Kind::Bits(9))),
+    // parameters that are only read can't be written
+    (b"meta.m", Wanted::Read(Kind::Bits(7))),
+    (b"meta", Wanted::Read(Kind::Struct(b"ms"))),
+    // operators make kinds of their operands
+    (b"x + 1", Wanted::Read(Kind::Bits(8))),
+    (b"x ++ hdr.h.b", Wanted::Read(Kind::Bits(24))),
+    (b"x << hdr.h.b", Wanted::Read(Kind::Bits(8))),
+    (b"x == 1", Wanted::Read(Kind::Boolean)),
+    (b"(bit<4>) x", Wanted::Read(Kind::Bits(4))),
+    (b"true ? x : 3", Wanted::Read(Kind::Bits(8))),
+    // calls and members are of the kind that they give
+    (b"hdr.h.isValid()", Wanted::Read(Kind::Boolean)),
+    (b"error.NoMatch", Wanted::Read(Kind::ErrorCode)),
+    // what doesn't fit is unknown
+    (b"x + hdr.h.b", Wanted::Unknown),
+    (b"hdr.h.c", Wanted::Unknown),
+    (b"y", Wanted::Unknown),
+    (b"x[8:0]", Wanted::Unknown),
+];
+
+fn expressions() -> &'static [(&'static [u8], Wanted)] {
+    &EXPRESSIONS
+}
+
+/// Whether this is known of an expression.
+fn is_known(row: Option<Row<'_>>, wanted: Wanted) -> bool {
+    match (row, wanted) {
+        (Some(row), Wanted::Written(kind)) => row.kind.is_same(kind) && row.can_write,
+        (Some(row), Wanted::Read(kind)) => row.kind.is_same(kind) && !row.can_write,
+        (Some(row), Wanted::Unknown) => matches!(row.kind, Kind::Unknown),
+        (None, _) => false,
     }
 }
 
-/// Whether an expression is of no kind that is known.
-fn is_unknown(row: Option<Row<'_>>) -> bool {
-    match row {
-        Some(row) => matches!(row.kind, Kind::Unknown),
-        None => false,
+/// Whether this is known of the expression of a program.
+fn is_known_of(rt: &impl AllocGlobal, value: &[u8], wanted: Wanted) -> Result<bool, Fail> {
+    let syntax = program_with(rt, value)?;
+    Ok(is_known(row_of(rt.alloc(), &syntax)?, wanted))
+}
+
+/// The expression is what it is wanted to be; the place of its row is told where it isn't.
+fn expect(
+    rt: &(impl Abort + AllocGlobal),
+    place: usize,
+    value: &[u8],
+    wanted: Wanted,
+) -> Result<(), Fail> {
+    let known = is_known_of(rt, value, wanted)?;
+    assert!(rt; known, "row {place}");
+    Ok(())
+}
+
+#[test]
+fn expressions_are_of_their_kinds_and_some_can_be_written(rt: HostRuntime) -> Result<(), Fail> {
+    for (place, (value, wanted)) in expressions().iter().enumerate() {
+        expect(&rt, place, value, *wanted)?;
     }
-}
-
-/// An expression is of this kind and can be written.
-fn expect_written(
-    rt: &(impl Abort + AllocGlobal),
-    value: &[u8],
-    wanted: Kind<'_>,
-) -> Result<(), Fail> {
-    let syntax = program_with(rt, value)?;
-    assert!(rt; is_row(row_of(rt.alloc(), &syntax)?, wanted, true));
     Ok(())
-}
-
-/// An expression is of this kind and can't be written.
-fn expect_read(
-    rt: &(impl Abort + AllocGlobal),
-    value: &[u8],
-    wanted: Kind<'_>,
-) -> Result<(), Fail> {
-    let syntax = program_with(rt, value)?;
-    assert!(rt; is_row(row_of(rt.alloc(), &syntax)?, wanted, false));
-    Ok(())
-}
-
-/// An expression is of no kind that is known.
-fn expect_unknown(rt: &(impl Abort + AllocGlobal), value: &[u8]) -> Result<(), Fail> {
-    let syntax = program_with(rt, value)?;
-    assert!(rt; is_unknown(row_of(rt.alloc(), &syntax)?));
-    Ok(())
-}
-
-#[test]
-fn variables_and_their_parts_can_be_written(rt: HostRuntime) -> Result<(), Fail> {
-    expect_written(&rt, b"x", Kind::Bits(8))?;
-    expect_written(&rt, b"hdr.h.b", Kind::Bits(16))?;
-    expect_written(&rt, b"hdr.s[1]", Kind::Header(b"h_t"))?;
-    expect_written(&rt, b"hdr.s.last.a", Kind::Bits(8))?;
-    expect_written(&rt, b"x[3:0]", Kind::Bits(4))?;
-    expect_written(&rt, b"sm.egress_spec", Kind::Bits(9))
-}
-
-#[test]
-fn parameters_that_are_only_read_can_not_be_written(rt: HostRuntime) -> Result<(), Fail> {
-    expect_read(&rt, b"meta.m", Kind::Bits(7))?;
-    expect_read(&rt, b"meta", Kind::Struct(b"ms"))
-}
-
-#[test]
-fn operators_make_kinds_of_their_operands(rt: HostRuntime) -> Result<(), Fail> {
-    expect_read(&rt, b"x + 1", Kind::Bits(8))?;
-    expect_read(&rt, b"x ++ hdr.h.b", Kind::Bits(24))?;
-    expect_read(&rt, b"x << hdr.h.b", Kind::Bits(8))?;
-    expect_read(&rt, b"x == 1", Kind::Boolean)?;
-    expect_read(&rt, b"(bit<4>) x", Kind::Bits(4))?;
-    expect_read(&rt, b"true ? x : 3", Kind::Bits(8))
-}
-
-#[test]
-fn calls_and_members_are_of_the_kind_that_they_give(rt: HostRuntime) -> Result<(), Fail> {
-    expect_read(&rt, b"hdr.h.isValid()", Kind::Boolean)?;
-    expect_read(&rt, b"error.NoMatch", Kind::ErrorCode)
-}
-
-#[test]
-fn what_does_not_fit_is_unknown(rt: HostRuntime) -> Result<(), Fail> {
-    expect_unknown(&rt, b"x + hdr.h.b")?;
-    expect_unknown(&rt, b"hdr.h.c")?;
-    expect_unknown(&rt, b"y")?;
-    expect_unknown(&rt, b"x[8:0]")
 }

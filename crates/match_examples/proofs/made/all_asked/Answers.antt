@@ -4,7 +4,7 @@ use Rattle.std.proofs.lemmas.List.{take_more}
 use Rattle.match_core.specs.declared.signatures.KeySpec.{KeySpec}
 use Rattle.match_core.specs.declared.entries.KeyMatch.{KeyMatch}
 use Rattle.match_core.specs.Fits.{FitsKey}
-use Rattle.match_examples.proofs.tests.random_keys.Goals as goal
+use Rattle.match_examples.proofs.made.all_asked.Goals as goal
 
 -- one more key, and what is asked of it
 zip_more : (specs : List KeySpec) (ones : List KeyMatch) (spec : KeySpec) (one : KeyMatch) → AllZip FitsKey specs ones → FitsKey spec one → AllZip FitsKey (specs ++ spec ∷ []) (ones ++ one ∷ [])
@@ -19,4 +19,4 @@ zip_turn specs ones i d one within fits fit = rw (take_more specs i d within) (z
 pub loop-spec-preserved : goal.loop-spec-preserved
 loop-spec-preserved c =
     rw c.in_ok-push.ensures.ok
-    (zip_turn c.args.specs.now c.loop-spec.keys c.loop-spec.spec-index _ c.random_match.result (omega arith) c.loop-spec.invariant c.random_match.ensures)
+    (zip_turn c.args.specs.now c.loop-spec.keys c.loop-spec.spec-index _ c.asked_of.result (omega arith) c.loop-spec.invariant c.asked_of.ensures)

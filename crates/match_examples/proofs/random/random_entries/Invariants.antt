@@ -1,6 +1,6 @@
 use Rattle.std.proofs.Common.{◌≤◌, length, All}
 use Rattle.match_core.specs.Fits.{FitsKeys}
-use Rattle.match_examples.proofs.tests.random_entries.Given as goal
+use Rattle.match_examples.proofs.random.random_entries.Given as goal
 
 abbrev pub invariant-loop : goal.invariant-loop
 invariant-loop l = record {
