@@ -11,8 +11,8 @@ use Rattle.p416_rules.specs.Breaks.{BreaksNone, program_rules}
 use Rattle.p414_one_table.specs.declared.program.Field.{Field}
 use Rattle.p414_one_table.specs.declared.program.OneTable14.{OneTable14}
 use Rattle.p414_one_table.specs.Programs.{is_one_table, are_fields, is_id, is_width, repeats}
-use Rattle.one_table_rules.specs.Lawful.{has_width, is_header, is_lawful}
-use Rattle.one_table_rules.proofs.Rules.{breaks_none}
+use Rattle.one_table_text.specs.Lawful.{has_width, is_header, is_lawful}
+use Rattle.one_table_text.proofs.Rules.{breaks_none}
 use Rattle.p4x_cmd.specs.Forms16.{program16}
 use Rattle.p4x_cmd.specs.Extended16.{extended}
 use Rattle.p4x_cmd.specs.internal.Lowering.{lowered, lowered_field}
@@ -49,7 +49,7 @@ header_is fields h =
     (and_from (not (repeats all)) sound (ap (λ (b : Bool). not b) (repeats_is fields) ∙ third.1)
     (ap (λ (n : ℕ). nat_eq (n % 8) 0) (lowered_sum fields) ∙ last.1)))
 
-lawful_is : (p : OneTable14) → is_one_table p ≡ true → is_lawful (lowered p) ≡ true
+pub lawful_is : (p : OneTable14) → is_one_table p ≡ true → is_lawful (lowered p) ≡ true
 lawful_is p h =
     let to_table = and_parts (are_fields p.fields && is_id p.action && nat_le p.port drop_port) (is_id p.table) h in
     let to_port = and_parts (are_fields p.fields && is_id p.action) (nat_le p.port drop_port) to_table.0 in

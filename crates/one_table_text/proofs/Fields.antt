@@ -18,7 +18,7 @@ use Rattle.p416_rules.specs.Totals.{field_bits}
 use Rattle.p414_one_table.specs.declared.program.Field.{Field}
 use Rattle.p414_one_table.specs.Programs.{repeats, is_width}
 use Rattle.one_table_text.specs.Programs.{bit_field}
-use Rattle.one_table_rules.specs.Lawful.{has_width, is_header}
+use Rattle.one_table_text.specs.Lawful.{has_width, is_header}
 
 abbrev pub fields16 : List Field → List BitField
 fields16 fields = map bit_field fields

@@ -1,12 +1,9 @@
-//! That a written program with one header, one parser state and one table without keys keeps the rules of P4_16: a law, as
-//! the contract of a function that does nothing.
-#![tactic(auto)]
-
+// That programs of the form keep the rules of P4_16: a law, as the contract of a function that does nothing.
 ghost use Rattle.std.specs.Prelude.{◌≡◌, true};
 ghost use Rattle.p416_rules.specs.Breaks.{BreaksNone, program_rules};
 ghost use Rattle.one_table_text.specs.declared.one_table.OneTable16.{OneTable16};
 ghost use Rattle.one_table_text.specs.Programs.{program16};
-ghost use Rattle.one_table_rules.specs.Lawful.{is_lawful};
+ghost use Rattle.one_table_text.specs.Lawful.{is_lawful};
 
 /// The syntax of a program of the form breaks none of the twelve rules, where its fields are those of a header and 9 bits
 /// hold its port.

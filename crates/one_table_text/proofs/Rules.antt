@@ -30,8 +30,8 @@ use Rattle.p416_rules.specs.Breaks.{SomeDeclaration, SomeBreaks, WholeBreaks, Is
 use Rattle.p414_one_table.specs.declared.program.Field.{Field}
 use Rattle.one_table_text.specs.declared.one_table.OneTable16.{OneTable16}
 use Rattle.one_table_text.specs.Programs.{program16, decls16, header16}
-use Rattle.one_table_rules.specs.Lawful.{is_header, is_lawful}
-use Rattle.one_table_rules.proofs.Fields.{fields16, kinds, or_false, no_width, Lawful, lawful_is}
+use Rattle.one_table_text.specs.Lawful.{is_header, is_lawful}
+use Rattle.one_table_text.proofs.Fields.{fields16, kinds, or_false, no_width, Lawful, lawful_is}
 
 -- laws
 
