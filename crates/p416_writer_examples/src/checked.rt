@@ -1,21 +1,10 @@
 // Programs that break no rule: what `write16` writes of them, and that it is read back.
 use crate::texts::{PLAIN, PLAIN_WRITTEN, TRANSLATED};
-use p416_program::Program16;
 use p416_reader::read16;
-use p416_types::{Check16, check16};
+use p416_types::{Program16, check16};
 use p416_writer::{read_back, write16};
 use std::alloc::Global;
 use std::test::Fail;
-
-/// The program of a text, or nothing where it breaks a rule.
-fn program(alloc: Global, text: &[u8]) -> Result<Option<Program16>, Fail> {
-    let syntax = read16(alloc, text)?;
-    match check16(alloc, syntax) {
-        Ok(program) => Ok(Some(program)),
-        Err(Check16::Refused(_)) => Ok(None),
-        Err(Check16::Memory) => Err(p4x_bits::OutOfMemory.into()),
-    }
-}
 
 /// Whether a program is written as this text, and has as many declarations when it is read back.
 fn is_kept(alloc: Global, program: &Program16, expected: &[u8]) -> Result<bool, Fail> {
@@ -24,12 +13,11 @@ fn is_kept(alloc: Global, program: &Program16, expected: &[u8]) -> Result<bool, 
     Ok(text.as_slice() == expected && again.decls.len() == program.syntax().decls.len())
 }
 
-/// Whether a text is that of a program, which is written as the other text.
+/// Whether a text is that of a program that breaks no rule, which is written as the other text.
 fn is_program_written_as(alloc: Global, text: &[u8], expected: &[u8]) -> Result<bool, Fail> {
-    match program(alloc, text)? {
-        Some(program) => is_kept(alloc, &program, expected),
-        None => Ok(false),
-    }
+    let syntax = read16(alloc, text)?;
+    let program = check16(alloc, syntax)?;
+    is_kept(alloc, &program, expected)
 }
 
 #[test]
