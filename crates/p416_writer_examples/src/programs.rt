@@ -8,21 +8,26 @@ use std::test::Fail;
 /// Header and struct types, a parser with each kind of keyset, and `main`.
 const PARSED: &[u8] = b"#include <core.p4>
 #include <v1model.p4>
+
 header h_t {
     bit<8> a;
     bit<32> b;
 }
+
 struct headers {
     h_t h;
     h_t[4] s;
 }
+
 struct metadata {
     @field_list(1, 2)
     bit<16> a;
     bool b;
 }
+
 parser P(packet_in p, out headers h, inout metadata m) {
     bit<8> v = 8w1;
+
     state start {
         p.extract(h.h);
         m.b = p.lookahead<bool>();
@@ -32,35 +37,42 @@ parser P(packet_in p, out headers h, inout metadata m) {
             default: reject;
         }
     }
+
     state more {
         transition select((m.b ? v : h.h.a)) {
             8w7: start;
             v + 8w1: start;
         }
     }
+
     state last {
         transition accept;
     }
 }
+
 V1Switch(P(), C()) main;
 ";
 
 /// Objects, actions, tables and a control.
 const CONTROLLED: &[u8] = b"#include <core.p4>
 #include <v1model.p4>
+
 @name(\"c_all\")
 counter(16, CounterType.packets) c;
+
 control C(inout headers h, inout standard_metadata_t s) {
     direct_counter(CounterType.bytes) d;
     register<bit<32> >(8) r;
     meter(n, MeterType.packets) m;
     bit<8> v;
+
     @name(\"go\")
     action go(bit<9> port) {
         s.egress_spec = port;
     }
-    action none() {
-    }
+
+    action none() { }
+
     table t {
         key = {
             h.a: exact @name(\"a\");
@@ -74,12 +86,14 @@ control C(inout headers h, inout standard_metadata_t s) {
         counters = d;
         default_action = go(9w1);
     }
+
     apply {
         if (h.isValid()) {
             t.apply();
         }
     }
 }
+
 V1Switch(C()) main;
 ";
 
