@@ -1,5 +1,5 @@
-//! Examples of `p416_types`: small programs that break a rule, each in one way, programs that break two, and programs at the
-//! edge of a rule that break none.
+//! Examples of `p416_types`: small programs that break a rule, each in one way, programs that break several, and programs at the
+//! edge of a rule that break none. They are rows of tables, which one function goes through.
 #![tactic(auto)]
 
 #[cfg(test)]
@@ -7,4 +7,10 @@ mod answers;
 #[cfg(test)]
 mod programs;
 #[cfg(test)]
-mod rows;
+mod rules;
+#[cfg(test)]
+mod settled;
+#[cfg(test)]
+mod texts;
+#[cfg(test)]
+mod uses;

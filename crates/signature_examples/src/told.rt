@@ -129,14 +129,15 @@ fn put_objects(text: &mut Vec<u8>, objects: &[ObjectSig]) -> Result<(), Fail> {
     Ok(())
 }
 
-fn told(alloc: Global, signature: &Signature) -> Result<Vec<u8>, Fail> {
+/// A signature as a text.
+pub fn told(alloc: Global, signature: &Signature) -> Result<Vec<u8>, Fail> {
     let mut text = Vec::new(alloc);
     put_tables(&mut text, signature.tables.as_slice())?;
     put_objects(&mut text, signature.objects.as_slice())?;
     Ok(text)
 }
 
-/// The signature of a program, as a text.
+/// The signature of a program of P4_14, as a text.
 fn told_of(alloc: Global, program: &[u8]) -> Result<Vec<u8>, Fail> {
     let program = check14(alloc, read14(alloc, program)?)?;
     let signature = signature14(alloc, &program)?;
