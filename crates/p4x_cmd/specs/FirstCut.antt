@@ -2,7 +2,7 @@
 -- (this project's own). By cases on the whole syntax: the parser has one state and no variables, structs hold no stacks,
 -- there is one table, which has no properties but its actions and its default, nothing else is declared, and a body has
 -- no statements, no expressions and no calls but these.
-use Rattle.std.specs.Prelude.{Bool, true, false, ◌==◌, ◌&&◌, ◌||◌, List, [], ◌∷◌, length, codes, None}
+use Rattle.std.specs.Prelude.{Bool, true, false, ◌==◌, ◌&&◌, ◌||◌, if◌then◌else◌, List, [], ◌∷◌, length, codes, None}
 use Rattle.std.specs.List.{list_all}
 use Rattle.std.specs.Str.{bytes_eq}
 use Rattle.p416_ast.specs.declared.node.BinaryOperator.TheVariants.{Equal}
