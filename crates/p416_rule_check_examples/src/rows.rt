@@ -38,6 +38,16 @@ fn expect_answer(
     Ok(())
 }
 
+/// The text of the group with this case in its place.
+fn text_of(alloc: Global, group: &Group, case: &[u8]) -> Result<Vec<u8>, Fail> {
+    let mut text = Vec::new(alloc);
+    text.extend_from_slice(group.before)?;
+    text.extend_from_slice(case)?;
+    text.push(b'\n')?;
+    text.extend_from_slice(group.behind)?;
+    Ok(text)
+}
+
 fn is_true(mark: &[u8]) -> bool {
     mark == b"+".as_slice()
 }
@@ -49,7 +59,7 @@ fn check_case(
     line: &[u8],
 ) -> Result<(), Fail> {
     let (expected, case) = cut(line, b' ');
-    let text = joined(rt.alloc(), &[group.before, case, b"\n", group.behind])?;
+    let text = text_of(rt.alloc(), group, case)?;
     expect_answer(rt, group.name, row, &text, group.asked, is_true(expected))
 }
 
