@@ -6,3 +6,11 @@ pub mod Steps
 pub mod Paths
 pub mod Named
 pub mod Programs
+pub mod OfKinds
+pub mod Typed
+pub mod Rules
+pub mod Scoped
+pub mod Narrow
+pub mod Declared
+pub mod Accepted
+pub mod Judged

@@ -103,7 +103,7 @@ meant_is w f values vs text inner = by (has_member f.inner text) refl where
       ∙ sym (part_named values vs text) ∙ ap (λ (v : Value). part_of v (to_member text)) (sym inner)
   by false has = ap (λ (t : Bool). cond t (member_in (named_values values vs) text) (read f (by_root w.around.roots text))) (ap (λ (v : Value). has_member v text) (sym inner) ∙ has)
 
-name_at : (syntax : Syntax16) (c : Cells) (w : World) (who : InScope) (text : Name) → c.layout ≡ layout16 syntax → KindsNarrow (frame_kinds syntax) → IfSome (seat_of_name (seats_in syntax w.around.roots who) text) (At c (layouts_of syntax.decls) (read (frame_in who (numbered16 syntax c)) (named w.around (frame_in who (numbered16 syntax c)) text)))
+pub name_at : (syntax : Syntax16) (c : Cells) (w : World) (who : InScope) (text : Name) → c.layout ≡ layout16 syntax → KindsNarrow (frame_kinds syntax) → IfSome (seat_of_name (seats_in syntax w.around.roots who) text) (At c (layouts_of syntax.decls) (read (frame_in who (numbered16 syntax c)) (named w.around (frame_in who (numbered16 syntax c)) text)))
 name_at syntax c w who text layout narrow =
     let f = frame_in who (numbered16 syntax c) in
     let inner : List NamedSeat = map (seat_of_variable syntax) who.inner in

@@ -32,7 +32,7 @@ shifted b fields j = same_start (moved (moved b fields 1 0) (j * fields) j 0) (m
 unshifted : (b : Start) (fields : ℕ) → moved b (0 * fields) 0 0 ≡ b
 unshifted b fields = same_start (moved b (0 * fields) 0 0) b (omega arith) (omega arith) (omega arith)
 
-element_is : (fields : List FieldKind) (c : Cells) (size : ℕ) (b : Start) (j : ℕ) → j < size → get_or (element_values fields c size b) j no_header ≡ header_value fields c (moved b (j * length fields) j 0)
+pub element_is : (fields : List FieldKind) (c : Cells) (size : ℕ) (b : Start) (j : ℕ) → j < size → get_or (element_values fields c size b) j no_header ≡ header_value fields c (moved b (j * length fields) j 0)
 element_is fields c zero b j lt = absurd (omega (arith, lt))
 element_is fields c (suc size) b zero lt = ap (header_value fields c) (sym (unshifted b (length fields)))
 element_is fields c (suc size) b (suc j) lt = element_is fields c size (moved b (length fields) 1 0) j (omega (arith, lt)) ∙ ap (header_value fields c) (shifted b (length fields) j)
@@ -47,7 +47,7 @@ element_wide l fields zero b j lt wide = absurd (omega (arith, lt))
 element_wide l fields (suc size) b zero lt wide = subst (FieldsWide l fields) (sym (unshifted b (length fields))) wide.0
 element_wide l fields (suc size) b (suc j) lt wide = subst (FieldsWide l fields) (shifted b (length fields) j) (element_wide l fields size (moved b (length fields) 1 0) j (omega (arith, lt)) wide.1)
 
-elements_count : (fields : List FieldKind) (c : Cells) (size : ℕ) (b : Start) → length (element_values fields c size b) ≡ size
+pub elements_count : (fields : List FieldKind) (c : Cells) (size : ℕ) (b : Start) → length (element_values fields c size b) ≡ size
 elements_count fields c zero b = refl
 elements_count fields c (suc size) b = ap suc (elements_count fields c size (moved b (length fields) 1 0))
 

@@ -6,6 +6,7 @@ use Rattle.p416_rules.specs.Names.{Name}
 use Rattle.p416_rules.specs.Scopes.{Scope}
 use Rattle.p416_rules.specs.Calls.{Place}
 use Rattle.p416_rules.specs.Declarations.{layouts_of}
+use Rattle.p416_rules.specs.Breaks.{BreaksNone, program_rules}
 use Rattle.v1_sem.specs.Frames.{Moment, read}
 use Rattle.v1_sem.specs.Surroundings.{World, named}
 use Rattle.v1_sem.specs.Expressions.{value_of}
@@ -20,6 +21,8 @@ use Rattle.v1_ready_forms.specs.Expressions.{name_ready, asked_ready}
 use Rattle.v1_ready_laws.specs.Asked.{asked_value, Gives}
 use Rattle.v1_ready_laws.specs.Operands.{OperandsFit}
 use Rattle.v1_ready_laws.specs.Widths.{TypesNarrow, KindsNarrow}
+use Rattle.v1_ready_laws.specs.Kinds.{TypesSized, NamesAreOf}
+use Rattle.v1_ready_laws.specs.Rules.{AppliesNone, Keeps, NamesSeated}
 
 -- what is asked of a name is asked of the value that it means
 abbrev pub NamesGive : World → Scope → List NamedSeat → Cells → Moment → Type 0
@@ -50,3 +53,24 @@ ProgramReadyGives =
     s.layouts ≡ layouts_of syntax.decls → m.frame ≡ frame_in who (numbered16 syntax c) → m.stopped ≡ None →
     OperandsFit w s m p e →
     IfSome (asked_ready s (seats_in syntax w.around.roots who) p way e) (λ r. Gives (ready_value c m.unparsed r) way (value_of w s p e m) m)
+
+-- where an expression keeps the rules on types and sizes, and names are of their kinds, its operands have the widths that fit
+abbrev pub OperandsAlwaysFit : Type 0
+OperandsAlwaysFit =
+    (w : World) (s : Scope) (c : Cells) (m : Moment) (p q : Place) (e : Exp16) → TypesSized s.layouts →
+    NamesAreOf w s c m.frame → Keeps s q e → AppliesNone s e → OperandsFit w s m p e
+
+-- so the ready expressions of a program that keeps the rules give what its expressions mean
+abbrev pub JudgedReadyGives : Type 0
+JudgedReadyGives =
+    (syntax : Syntax16) (c : Cells) (w : World) (s : Scope) (who : InScope) (m : Moment) (p q : Place) (way : Way) (e : Exp16) →
+    BreaksNone syntax program_rules → IsFrameOf syntax c → s.layouts ≡ layouts_of syntax.decls →
+    m.frame ≡ frame_in who (numbered16 syntax c) → m.stopped ≡ None →
+    NamesSeated s (seats_in syntax w.around.roots who) → Keeps s q e →
+    IfSome (asked_ready s (seats_in syntax w.around.roots who) p way e) (λ r. Gives (ready_value c m.unparsed r) way (value_of w s p e m) m)
+
+-- in a program that keeps the rules no bits are wider than 128, and each field of a type has a width of its own
+abbrev pub AcceptedNarrow : Type 0
+AcceptedNarrow =
+    (syntax : Syntax16) → BreaksNone syntax program_rules →
+    TypesNarrow (layouts_of syntax.decls) × TypesSized (layouts_of syntax.decls) × KindsNarrow (frame_kinds syntax)
