@@ -1,4 +1,4 @@
-pub mod Numbers
-pub mod Widths
+pub mod Modulo
+pub mod Needed
 pub mod Working
 pub mod Meaning

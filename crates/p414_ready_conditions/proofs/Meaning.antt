@@ -1,5 +1,5 @@
 -- Rows tell whether their condition holds.
-use Rattle.std.proofs.Common.{◌≡◌, ℕ, Bool, true, false, cond, List, [], ◌∷◌, ◌++◌, refl, sym, ap, ap₂, ◌∙◌}
+use Rattle.std.proofs.Common.{◌≡◌, ℕ, Bool, true, false, cond, List, [], ◌∷◌, ◌++◌, refl, ap, ap₂, ◌∙◌}
 use Rattle.std.specs.Prelude.{◌||◌}
 use Rattle.std.proofs.lemmas.List.Sums.{fold-append}
 use Rattle.p4x_bits.specs.BitLists.{bit}
@@ -11,11 +11,11 @@ use Rattle.p414_rules.specs.Primitives.{is_standard}
 use Rattle.p414_rules.specs.Expressions.{takes_truth}
 use Rattle.p414_sem.specs.Slots.{Slot, standard, declared, slot_of, Element, element_of}
 use Rattle.p414_sem.specs.State.{State, is_valid_at, read}
-use Rattle.p414_sem.specs.Conditions.{number_at, compares, unary_truth, binary_truth, unary_number, binary_number, holds}
+use Rattle.p414_sem.specs.Conditions.{number_at, compares, unary_truth, binary_truth, holds}
 use Rattle.p414_slots.specs.Shown.{slot_in, kept_slot}
 use Rattle.p414_ready_conditions.specs.declared.rows.ConditionRow.{ConditionRow}
 use Rattle.p414_ready_conditions.specs.declared.rows.ConditionRow.TheVariants as row
-use Rattle.p414_ready_conditions.specs.Rows.{number_rows, truth_rows, comparison_width, element_row, valid_row}
+use Rattle.p414_ready_conditions.specs.Rows.{number_rows, truth_rows, comparison_width, element_row}
 use Rattle.p414_ready_conditions.specs.Running.{is_one, step, top, after_rows, rows_hold}
 use Rattle.p414_ready_conditions.specs.Meaning.{MeansCondition}
 

@@ -1,5 +1,5 @@
 -- What is done for an expression comes to the same rows, and is less.
-use Rattle.std.proofs.Common.{◌≡◌, ℕ, ◌+◌, ◌*◌, ◌<◌, Bool, true, false, cond, List, [], ◌∷◌, ◌++◌, length, refl, sym, ap, ◌∙◌, append_assoc, append-nil, length-append, subst, arith}
+use Rattle.std.proofs.Common.{◌≡◌, ℕ, suc, ◌+◌, ◌*◌, ◌<◌, Bool, true, false, cond, List, [], ◌∷◌, ◌++◌, length, refl, sym, ap, ◌∙◌, append_assoc, append-nil, length-append, subst, arith}
 use Rattle.std.proofs.lemmas.Grind.{flat_map-append}
 use Rattle.p414_ast.specs.declared.node.BinaryOperator.{BinaryOperator}
 use Rattle.p414_ast.specs.declared.syntax.Decl.{Decl}
@@ -10,8 +10,8 @@ use Rattle.p414_ready_conditions.specs.declared.making.Work.{Work}
 use Rattle.p414_ready_conditions.specs.declared.making.Work.TheVariants as work
 use Rattle.p414_ready_conditions.specs.declared.rows.ConditionRow.{ConditionRow}
 use Rattle.p414_ready_conditions.specs.declared.rows.ConditionRow.TheVariants as row
-use Rattle.p414_ready_conditions.specs.Rows.{number_rows, truth_rows, comparison_width, joined_rows}
-use Rattle.p414_ready_conditions.specs.internal.Work.{work_rows, all_rows, number_work, joined_work, truth_work, weight, weight_of}
+use Rattle.p414_ready_conditions.specs.Rows.{number_rows, truth_rows, comparison_width}
+use Rattle.p414_ready_conditions.specs.internal.Work.{work_rows, all_rows, number_work, truth_work, weight_of}
 
 -- rows
 
@@ -59,32 +59,47 @@ row_done ds r old before made put =
 -- weights
 
 weight-append : (xs ys : List Work) → weight_of (xs ++ ys) ≡ weight_of xs + weight_of ys
-weight-append [] ys = refl
+weight-append [] ys = omega arith
 weight-append (x ∷ xs) ys = let e = weight-append xs ys in omega (arith, e)
 
 twice_longer : (a b : Expr) → length (subexpressions a ++ subexpressions b) ≡ length (subexpressions a) + length (subexpressions b)
 twice_longer a b = length-append (subexpressions a) (subexpressions b)
 
+less_leaf : 1 + 0 < 2 * 1
+less_leaf = omega arith
+
+less_inner : (a : ℕ) → 2 * a + 0 < 2 * suc a
+less_inner a = omega arith
+
+less_one : (a : ℕ) → 2 * a + (1 + 0) < 2 * suc a
+less_one a = omega arith
+
+less_two : (a b both : ℕ) → both ≡ a + b → 2 * b + (2 * a + (1 + 0)) < 2 * suc both
+less_two a b both e = omega (arith, e)
+
 number_less : (ds : List Decl) (width : ℕ) (e : Expr) → weight_of (number_work ds width e) < 2 * length (subexpressions e)
-number_less ds width (valid i) = omega arith
-number_less ds width (truth b) = omega arith
-number_less ds width (field r) = omega arith
-number_less ds width (number n) = omega arith
-number_less ds width (parenthesized a) = omega arith
-number_less ds width (unary o a) = omega arith
-number_less ds width (binary o a b) = omega (arith, twice_longer a b)
+number_less ds width (valid i) = less_leaf
+number_less ds width (truth b) = less_leaf
+number_less ds width (field r) = less_leaf
+number_less ds width (number n) = less_leaf
+number_less ds width (parenthesized a) = less_inner (length (subexpressions a))
+number_less ds width (unary o a) = less_one (length (subexpressions a))
+number_less ds width (binary o a b) =
+    less_two (length (subexpressions a)) (length (subexpressions b)) (length (subexpressions a ++ subexpressions b)) (twice_longer a b)
 
 joined_less : (ds : List Decl) (o : BinaryOperator) (a b : Expr) (truths : Bool) → weight_of (cond truths (work.Truth b ∷ work.Truth a ∷ work.Row (row.Join o) ∷ []) (work.Number (comparison_width ds a b) b ∷ work.Number (comparison_width ds a b) a ∷ work.Row (row.Compare o) ∷ [])) < 2 * length (subexpressions (binary o a b))
-joined_less ds o a b true = omega (arith, twice_longer a b)
-joined_less ds o a b false = omega (arith, twice_longer a b)
+joined_less ds o a b true =
+    less_two (length (subexpressions a)) (length (subexpressions b)) (length (subexpressions a ++ subexpressions b)) (twice_longer a b)
+joined_less ds o a b false =
+    less_two (length (subexpressions a)) (length (subexpressions b)) (length (subexpressions a ++ subexpressions b)) (twice_longer a b)
 
 truth_less : (ds : List Decl) (e : Expr) → weight_of (truth_work ds e) < 2 * length (subexpressions e)
-truth_less ds (valid i) = omega arith
-truth_less ds (truth b) = omega arith
-truth_less ds (field r) = omega arith
-truth_less ds (number n) = omega arith
-truth_less ds (parenthesized a) = omega arith
-truth_less ds (unary o a) = omega arith
+truth_less ds (valid i) = less_leaf
+truth_less ds (truth b) = less_leaf
+truth_less ds (field r) = less_leaf
+truth_less ds (number n) = less_leaf
+truth_less ds (parenthesized a) = less_inner (length (subexpressions a))
+truth_less ds (unary o a) = less_one (length (subexpressions a))
 truth_less ds (binary o a b) = joined_less ds o a b (takes_truth o)
 
 lighter : (now old new : List Work) (most : ℕ) → weight_of now < most → new ≡ now ++ old → weight_of new < most + weight_of old

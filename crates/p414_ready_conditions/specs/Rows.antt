@@ -1,6 +1,6 @@
 -- What is kept of a condition (P4_14 1.0.5, "Packet Processing and Control Flow"): operands stand in front of their operators,
 -- the right one first, names stand by number, and each operator of a comparison has the comparison's width.
-use Rattle.std.specs.Prelude.{ℕ, ◌≤◌, max, Bool, true, false, if◌then◌else◌, List, [], ◌∷◌, ◌++◌}
+use Rattle.std.specs.Prelude.{ℕ, ◌≤◌, max, true, false, if◌then◌else◌, List, [], ◌∷◌, ◌++◌}
 use Rattle.p414_ast.specs.declared.node.BinaryOperator.{BinaryOperator}
 use Rattle.p414_ast.specs.declared.parts.Inst.{Inst}
 use Rattle.p414_ast.specs.declared.syntax.Decl.{Decl}

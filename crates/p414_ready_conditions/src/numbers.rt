@@ -6,7 +6,7 @@ use p414_ast::{BinaryOperator, UnaryOperator};
 use p414_wholes::{greatest, low};
 
 /// 2 ^ width - a, modulo 2 ^ width; 0 where a is 2 ^ width or more.
-#[tactic(auto, using(crate::proofs::Numbers::negated_low, crate::proofs::Numbers::negated_all))]
+#[tactic(auto, using(crate::proofs::Modulo::negated_low))]
 fn negated(width: u8, a: u128) -> u128
     requires { width ≤ 128 }
     ensures { result ≡ (2 ^ width - a) % 2 ^ width }
@@ -19,7 +19,7 @@ fn negated(width: u8, a: u128) -> u128
 }
 
 /// a + b, modulo 2 ^ width.
-#[tactic(auto, using(crate::proofs::Numbers::low_again))]
+#[tactic(auto, using(crate::proofs::Modulo::low_again))]
 fn sum(width: u8, a: u128, b: u128) -> u128
     requires { width ≤ 128 }
     ensures { result ≡ (a + b) % 2 ^ width }
@@ -28,7 +28,7 @@ fn sum(width: u8, a: u128, b: u128) -> u128
 }
 
 /// a * b, modulo 2 ^ width.
-#[tactic(auto, using(crate::proofs::Numbers::low_again))]
+#[tactic(auto, using(crate::proofs::Modulo::low_again))]
 fn product(width: u8, a: u128, b: u128) -> u128
     requires { width ≤ 128 }
     ensures { result ≡ a * b % 2 ^ width }
@@ -37,7 +37,7 @@ fn product(width: u8, a: u128, b: u128) -> u128
 }
 
 /// a - b, modulo 2 ^ width; 0 where b is greater than a by 2 ^ width or more.
-#[tactic(auto, using(crate::proofs::Numbers::less_within, crate::proofs::Numbers::less_past))]
+#[tactic(auto, using(crate::proofs::Modulo::less_within, crate::proofs::Modulo::less_past))]
 fn difference(width: u8, a: u128, b: u128) -> u128
     requires { width ≤ 128 }
     ensures { result ≡ (a + 2 ^ width - b) % 2 ^ width }

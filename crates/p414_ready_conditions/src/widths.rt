@@ -11,7 +11,7 @@ use p414_slots::Slots;
 use std::alloc::Global;
 
 /// How many bits a number needs, at least 1.
-#[tactic(auto, using(crate::proofs::Widths::bits_needed))]
+#[tactic(auto, using(crate::proofs::Needed::bits_needed))]
 fn bit_length(number: u128) -> u8
     ensures { result ≡ bit_length number }
 {
@@ -45,11 +45,7 @@ fn own_width(slots: &Slots<'_, '_>, head: ExprHead<'_>) -> Result<u8, OutOfMemor
 }
 
 /// The greatest of a width and those of all these.
-fn widest(
-    slots: &Slots<'_, '_>,
-    first: u8,
-    expressions: &[ExprView<'_>],
-) -> Result<u8, OutOfMemory>
+fn widest(slots: &Slots<'_, '_>, first: u8, expressions: &[ExprView<'_>]) -> Result<u8, OutOfMemory>
     ensures { IfOk result (λ width. width ≡ widest slots.now first expressions.now) }
 {
     let mut width = first;
@@ -60,7 +56,7 @@ fn widest(
 }
 
 /// The greatest of a width and those of the operands of an expression.
-#[tactic(auto, using(crate::proofs::Widths::widest_is))]
+#[tactic(auto, using(crate::proofs::Needed::widest_is))]
 fn wider(
     alloc: Global,
     slots: &Slots<'_, '_>,

@@ -1,5 +1,5 @@
 -- What is still to be done to make a condition ready.
-use Rattle.std.specs.Prelude.{ℕ, ◌+◌, ◌*◌, false, if◌then◌else◌, List, [], ◌∷◌, ◌++◌, length, flat_map}
+use Rattle.std.specs.Prelude.{ℕ, ◌+◌, ◌*◌, false, if◌then◌else◌, List, [], ◌∷◌, length, flat_map}
 use Rattle.p414_ast.specs.declared.node.BinaryOperator.{BinaryOperator}
 use Rattle.p414_ast.specs.declared.syntax.Decl.{Decl}
 use Rattle.p414_ast.specs.Tree.{Expr, valid, truth, field, number, parenthesized, unary, binary}

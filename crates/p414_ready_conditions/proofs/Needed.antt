@@ -1,5 +1,5 @@
 -- The width of a comparison.
-use Rattle.std.proofs.Common.{◌≡◌, ℕ, zero, suc, ◌+◌, ◌-◌, ◌*◌, ◌^◌, ◌<◌, ◌≤◌, Bool, true, false, cond, List, [], ◌∷◌, ◌++◌, refl, sym, ap, ◌∙◌, ⊎_elim, subst, arith}
+use Rattle.std.proofs.Common.{◌≡◌, ℕ, zero, suc, ◌+◌, ◌-◌, ◌^◌, ◌<◌, ◌≤◌, Bool, true, false, cond, List, refl, sym, ap, ◌∙◌, ⊎_elim, subst, arith}
 use Rattle.std.specs.Prelude.{max, nat_lt}
 use Rattle.std.specs.Int.Count.{count_leading_zeros, leading_of_zero}
 use Rattle.std.proofs.Math.Pow.{pow_mono}
@@ -10,8 +10,7 @@ use Rattle.std.proofs.lemmas.List.Sums.{fold-append}
 use Rattle.p414_ast.specs.declared.syntax.Decl.{Decl}
 use Rattle.p414_ast.specs.Tree.{Expr, valid, truth, field, number, parenthesized, unary, binary}
 use Rattle.p414_ast.specs.Subtrees.{subexpressions}
-use Rattle.p414_sem.specs.Slots.{bits_of_ref}
-use Rattle.p414_sem.specs.Conditions.{bit_length, bit_length_within, literal_width, operand_width}
+use Rattle.p414_sem.specs.Conditions.{bit_length, bit_length_within, operand_width}
 use Rattle.p414_ready_conditions.specs.internal.Widths.{wider, widest}
 
 -- how many bits a number needs
@@ -33,7 +32,7 @@ within_full limit n le =
 small : (limit n : ℕ) → n < 2 → bit_length_within limit n ≡ 1
 small zero n lt = refl
 small (suc limit) n lt =
-    let two : 2 ^ 1 ≤ 2 ^ (suc limit) = pow_mono {i = 1} {j = suc limit} (omega arith) in
+    let two : 2 ≤ 2 ^ (suc limit) = pow_mono {i = 1} {j = suc limit} (omega arith) in
     let below : n < 2 ^ (suc limit) = omega (arith, two, lt) in
     within_fits limit n below ∙ small limit n lt
 
@@ -51,13 +50,22 @@ needs (suc limit) n j le low high =
     within_full limit n above ∙ ap suc (sym e))
     (cases_lt j (suc limit))
 
+few_bits : (count j : ℕ) → count + suc j ≡ 128 → j ≤ 127
+few_bits count j e = omega (arith, e)
+
+all_bits : (count j : ℕ) → count + suc j ≡ 128 → max (128 - count) 1 ≡ suc j
+all_bits count j e = omega (arith, e)
+
+no_bits : (count : ℕ) → count ≡ 128 → max (128 - count) 1 ≡ 1
+no_bits count e = omega (arith, e)
+
 pub bits_needed : (n : ℕ) → n < 2 ^ 128 → max (128 - count_leading_zeros 128 n) 1 ≡ bit_length n
-bits_needed zero lt = sym (small 127 0 (omega arith))
+bits_needed zero lt =
+    no_bits (count_leading_zeros 128 0) (leading_of_zero 128) ∙ sym (small 127 0 (omega arith))
 bits_needed (suc n) lt =
     let found = leading_top 128 (suc n) (omega arith) lt in
-    let few : found.0 ≤ 127 = omega (arith, found.1) in
-    let same : max (128 - count_leading_zeros 128 (suc n)) 1 ≡ suc found.0 = omega (arith, found.1) in
-    same ∙ sym (needs 127 (suc n) found.0 few found.2 found.3)
+    all_bits (count_leading_zeros 128 (suc n)) found.0 found.1
+    ∙ sym (needs 127 (suc n) found.0 (few_bits (count_leading_zeros 128 (suc n)) found.0 found.1) found.2 found.3)
 
 -- operands
 

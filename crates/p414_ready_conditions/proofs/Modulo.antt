@@ -1,5 +1,5 @@
 -- Numbers modulo 2 ^ width.
-use Rattle.std.proofs.Common.{◌≡◌, ℕ, ◌+◌, ◌-◌, ◌*◌, ◌%◌, ◌^◌, ◌<◌, ◌≤◌, refl, sym, ap, ◌∙◌, arith}
+use Rattle.std.proofs.Common.{◌≡◌, ℕ, ◌+◌, ◌-◌, ◌*◌, ◌%◌, ◌^◌, ◌<◌, ◌≤◌, sym, ap, ◌∙◌, arith}
 use Rattle.std.proofs.Math.Nat.{add-mul-mod_self_right}
 use Rattle.std.proofs.Math.Pow.{mod-mod-pow}
 
@@ -11,11 +11,6 @@ low_again width n cut low le whole is =
 
 pub negated_low : (width a power negated : ℕ) → power ≡ 2 ^ width → negated ≡ (power - a) % power → negated ≡ (2 ^ width - a) % 2 ^ width
 negated_low width a power negated same is = is ∙ ap (λ k. (k - a) % k) same
-
-pub negated_all : (width a negated : ℕ) → 128 ≤ width → width ≤ 128 → negated ≡ (0 + (2 ^ 128 - a)) % 2 ^ 128 → negated ≡ (2 ^ width - a) % 2 ^ width
-negated_all width a negated ge le is =
-    let same : 128 ≡ width = omega (arith, ge, le) in
-    is ∙ ap (λ k. (2 ^ k - a) % 2 ^ k) same
 
 pub less_within : (width a b less : ℕ) → b ≤ a → less ≡ (a - b) % 2 ^ width → less ≡ (a + 2 ^ width - b) % 2 ^ width
 less_within width a b less le is =
