@@ -1,0 +1,4 @@
+pub mod Modulo
+pub mod Needed
+pub mod Working
+pub mod Meaning
