@@ -10,9 +10,9 @@ use Rattle.p416_ast.specs.declared.controls.ActionName.{ActionName}
 use Rattle.p416_ast.specs.declared.controls.ActionName.TheVariants as action_name
 use Rattle.p416_rules.specs.Names.{Name, has_name}
 use Rattle.p416_rules.specs.Scopes.{Sort, Known, Scope, sort_in, sort_of}
-use Rattle.p416_rules.specs.Tables.{is_same_action, listed_by}
+use Rattle.p416_rules.specs.Tables.{is_same_action, is_bad_action, listed_by}
 use Rattle.p416_listed_check.specs.Pairs.{Pair, is_same_pair, is_listed_pair}
-use Rattle.p416_listed_check.specs.Listings.{Listed, AreListed, ListsScope, lists, is_table, is_known_table, tables_in}
+use Rattle.p416_listed_check.specs.Listings.{Listed, AreListed, AreGiven, ListsScope, lists, is_table, is_known_table, tables_in}
 use Rattle.p416_listed_check.specs.internal.Labels.{Tells, is_listed}
 use Rattle.p416_listed_check.proofs.Pairing.{bytes_either, listed_is}
 
@@ -95,3 +95,19 @@ tables_tell (k ∷ names) text h = tables_told_by k names text (tables_tell name
 
 pub scope_tells : (s : Scope) (text : Name) (sort : Sort) → sort ≡ sort_of s text → Tells (tables_in s.names) text sort
 scope_tells s text sort is h = tables_tell s.names text (sym (ap is_table is) ∙ h) ∙ sym is
+
+-- one action more whose parameters can be given
+
+given_by : (s : Scope) (names : List Name) (t text : Name) (a b : Bool) → has_name names text ≡ a → bytes_eq text t ≡ b → (a || (b || false)) ≡ true → AreGiven s names → is_bad_action s (action_name.Declared t) ≡ false → is_bad_action s (action_name.Declared text) ≡ false
+given_by s names t text true b e f h are is = are text e
+given_by s names t text false true e f h are is = subst (λ (n : Name). is_bad_action s (action_name.Declared n) ≡ false) (sym ((bytes_eq-Decides text t).0 f)) is
+given_by s names t text false false e f h are is = absurd (false≢true h)
+
+pub given_more : (s : Scope) (old new : List Name) (t : Name) (added : Bool) → Put added old new t → AreGiven s old → is_bad_action s (action_name.Declared t) ≡ false → AreGiven s new
+given_more s old new t true put are is text h =
+    given_by s old t text (has_name old text) (bytes_eq text t) refl refl
+    (sym (list_any-append (bytes_eq text) old (t ∷ [])) ∙ (sym (ap (λ (ns : List Name). has_name ns text) put.1) ∙ h)) are is
+given_more s old new t false put are is text h = are text (sym (ap (λ (ns : List Name). has_name ns text) put.1) ∙ h)
+
+pub none_given : (s : Scope) → AreGiven s []
+none_given s text h = absurd (false≢true h)

@@ -1,10 +1,10 @@
--- Which actions the tables in scope list, as far as the tables were gone through.
+-- What is known of tables and actions in scope that were gone through.
 use Rattle.std.specs.Prelude.{◌≡◌, Bool, true, false, ◌&&◌, List, filter}
 use Rattle.std.specs.List.{list_any}
 use Rattle.p416_ast.specs.declared.controls.ActionName.TheVariants as action_name
 use Rattle.p416_rules.specs.Names.{Name, has_name}
 use Rattle.p416_rules.specs.Scopes.{Sort, a_table, Known, Scope, sort_in}
-use Rattle.p416_rules.specs.Tables.{is_same_action, listed_by}
+use Rattle.p416_rules.specs.Tables.{is_same_action, listed_by, is_bad_action}
 use Rattle.p416_listed_check.specs.Pairs.{Pair, is_same_pair}
 
 abbrev pub is_table : Sort → Bool
@@ -33,3 +33,7 @@ pub record AreListed (names : List Known) (l : Listed) : Type 0 where
 -- the same of the tables in scope
 abbrev pub ListsScope : Scope → Listed → Type 0
 ListsScope s l = AreListed (tables_in s.names) l
+
+-- each parameter of the actions of these names can be given by an entry of a table
+abbrev pub AreGiven : Scope → List Name → Type 0
+AreGiven s names = (text : Name) → has_name names text ≡ true → is_bad_action s (action_name.Declared text) ≡ false
