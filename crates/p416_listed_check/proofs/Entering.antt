@@ -57,7 +57,7 @@ has_last tables more t is =
 
 -- the two answers of a set that a table's name is put in
 
-pub Put : Bool → List Name → List Name → Name → Type 0
+abbrev pub Put : Bool → List Name → List Name → Name → Type 0
 Put added old new t = MatchBool added ((has_name old t ≡ false) × (new ≡ old ++ t ∷ [])) ((has_name old t ≡ true) × (new ≡ old))
 
 pub goes_on : (names : List Known) (tables more : List Name) (pairs added : List Pair) (t : Name) (actions : List ActionName) → (has_name tables t ≡ false) × (more ≡ tables ++ t ∷ [])
