@@ -1,5 +1,5 @@
 -- Tables that are gone through, and the tables among the names in scope.
-use Rattle.std.proofs.Common.{◌≡◌, Bool, true, false, ◌||◌, ◌&&◌, cond, List, [], ◌∷◌, ◌++◌, refl, sym, ap, ◌∙◌, subst}
+use Rattle.std.proofs.Common.{◌≡◌, Bool, true, false, ◌||◌, ◌&&◌, cond, List, [], ◌∷◌, ◌++◌, Result, Ok, Err, OnOk, tt, refl, sym, ap, ◌∙◌, subst}
 use Rattle.std.specs.Bool.{MatchBool}
 use Rattle.std.specs.List.{list_any}
 use Rattle.std.specs.Str.{bytes_eq}
@@ -60,18 +60,15 @@ has_last tables more t is =
 abbrev pub Put : Bool → List Name → List Name → Name → Type 0
 Put added old new t = MatchBool added ((has_name old t ≡ false) × (new ≡ old ++ t ∷ [])) ((has_name old t ≡ true) × (new ≡ old))
 
-pub goes_on : (names : List Known) (tables more : List Name) (pairs added : List Pair) (t : Name) (actions : List ActionName) → (has_name tables t ≡ false) × (more ≡ tables ++ t ∷ [])
-    → ((p : Pair) → list_any (is_same_pair p) added ≡ (list_any (is_same_pair p) pairs || list_any (is_listed_pair p t) actions)) → listed_by (sort_in names t) ≡ actions → AreListed names (tables, pairs) → AreListed names (more, added)
-goes_on names tables more pairs added t actions put adds lists_them before = entered names tables more pairs added t actions put.0 put.1 adds lists_them before
+pub entered_ok : {E : Type 0} (r : Result (Unit {0}) E) (tables more : List Name) (pairs added : List Pair) (t : Name) (actions : List ActionName) (old : Listed) → (tables, pairs) ≡ old → (has_name tables t ≡ false) × (more ≡ tables ++ t ∷ [])
+    → OnOk r ((p : Pair) → list_any (is_same_pair p) added ≡ (list_any (is_same_pair p) pairs || list_any (is_listed_pair p t) actions)) → OnOk r ((names : List Known) → listed_by (sort_in names t) ≡ actions → AreListed names old → AreListed names (more, added))
+entered_ok (Ok x) tables more pairs added t actions old was put adds =
+    λ names lists_them before. entered names tables more pairs added t actions put.0 put.1 adds lists_them (subst (AreListed names) (sym was) before)
+entered_ok (Err e) tables more pairs added t actions old was put adds = tt
 
-pub is_there : (tables more : List Name) (t : Name) → (has_name tables t ≡ false) × (more ≡ tables ++ t ∷ []) → has_name more t ≡ true
-is_there tables more t put = has_last tables more t put.1
-
-pub stays : (names : List Known) (tables more : List Name) (pairs : List Pair) (t : Name) → (has_name tables t ≡ true) × (more ≡ tables) → AreListed names (tables, pairs) → AreListed names (more, pairs)
-stays names tables more pairs t put before = subst (λ (ns : List Name). AreListed names (ns, pairs)) (sym put.1) before
-
-pub was_there : (tables more : List Name) (t : Name) → (has_name tables t ≡ true) × (more ≡ tables) → has_name more t ≡ true
-was_there tables more t put = ap (λ (ns : List Name). has_name ns t) put.1 ∙ put.0
+pub there_ok : {E : Type 0} (r : Result (Unit {0}) E) (tables more : List Name) (t : Name) → (has_name tables t ≡ false) × (more ≡ tables ++ t ∷ []) → OnOk r (has_name more t ≡ true)
+there_ok (Ok x) tables more t put = has_last tables more t put.1
+there_ok (Err e) tables more t put = tt
 
 -- what a table lists that was gone through
 

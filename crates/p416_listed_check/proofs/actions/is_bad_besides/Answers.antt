@@ -5,4 +5,4 @@ use Rattle.p416_listed_check.proofs.actions.is_bad_besides.Goals as goal
 
 pub returns-clause-given : goal.returns-clause-given
 returns-clause-given c =
-    given_more (seen_scope c.args.scope.now) c.args.given.now c.add.new.self c.args.name.now c.in_ok-add.field-0 c.in_ok-add.ensures c.requires (sym c.is_bad_name.ensures ∙ c.if-not-is_bad_name.false)
+    given_more (seen_scope c.args.scope.now) c.args.given.now c.add.new.self c.args.name.now c.in_ok-add.field-0 c.in_ok-add.ensures c.requires (sym c.is_bad_name.ensures ∙ c.if-is_bad_name.false)
