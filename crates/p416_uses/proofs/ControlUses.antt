@@ -1,5 +1,5 @@
 -- Controls and their actions.
-use Rattle.std.proofs.Common.{◌≡◌, ℕ, ◌+◌, ◌-◌, Option, Some, None, List, [], ◌∷◌, ◌++◌, length, drop, map, flat_map, filter_map, option_to_list, Result, Ok, Err, OnOk, tt, refl, sym, ap, ◌∙◌, subst, arith}
+use Rattle.std.proofs.Common.{◌≡◌, ℕ, ◌+◌, ◌-◌, Option, Some, None, List, [], ◌∷◌, ◌++◌, length, drop, map, flat_map, filter_map, option_to_list, Result, Ok, Err, OnOk, refl, sym, ap, ◌∙◌, subst, arith}
 use Rattle.std.proofs.Math.Seq.{drop-append_seam}
 use Rattle.std.proofs.lemmas.List.{append_assoc, map-append, length-append}
 use Rattle.p416_ast.specs.declared.program.Decl16.{Decl16}
