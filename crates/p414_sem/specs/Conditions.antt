@@ -1,7 +1,8 @@
 -- Conditions (P4_14 1.0.5, "Packet Processing and Control Flow"; the width of a comparison, and a shift by as much or
 -- more, are this project's own). A comparison computes at the greatest width among all operands on both sides: operands
 -- are extended with zeros, and all operations are modulo 2 ^ width. Parentheses change nothing. What gives a truth value
--- where a number is wanted, or a number where a truth value is, stands only so that each function has all cases.
+-- where a number is wanted, or a number where a truth value is, stands only so that each function has all cases; so does
+-- a minus sign, which C26 refuses.
 use Rattle.std.specs.Prelude.{ℕ, zero, suc, ◌+◌, ◌-◌, ◌*◌, ◌/◌, ◌%◌, ◌^◌, max, Bool, false, not, ◌&&◌, ◌||◌, ◌==◌, nat_lt, nat_le, if◌then◌else◌, bit_and, bit_or, bit_xor, List, unwrap_or}
 use Rattle.p414_lexemes.specs.declared.lexeme.Literal.{Literal}
 use Rattle.p414_ast.specs.declared.node.UnaryOperator.{UnaryOperator}

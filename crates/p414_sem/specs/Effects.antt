@@ -32,10 +32,11 @@ source_number arguments s (number value) = value
 source_number arguments s (field slot) = pos (read s slot)
 source_number arguments s (parameter n) = pos (slice_index arguments n)
 
--- a number that isn't negative, and an index or a session, which is kept modulo 2 ^ 32
+-- a source as a number that isn't negative
 abbrev pub natural_of : List ℕ → State → Source → ℕ
 natural_of arguments s source = natural (source_number arguments s source)
 
+-- a source as an index or a session, which is kept modulo 2 ^ 32
 abbrev pub index_of : List ℕ → State → Source → ℕ
 index_of arguments s source = wrapped 32 (source_number arguments s source)
 

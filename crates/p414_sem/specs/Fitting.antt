@@ -1,11 +1,14 @@
--- Which states, preserved sets and held values are those of a program: each number is below 2 ^ width of its field, and
--- each part is there that the program declares (P4_14 1.0.5, "Header Type Declarations", "Standard Intrinsic Metadata").
+-- Which states, preserved sets, held values, items and stores are those of a program: each number is below 2 ^ width of its
+-- field, and each part is there that the program declares (P4_14 1.0.5, "Header Type Declarations", "Standard Intrinsic Metadata").
 use Rattle.std.specs.Prelude.{◌≡◌, ℕ, ◌^◌, ◌<◌, ◌≤◌, true, false, List, [], ◌∷◌, length, replicate, All, IfSome, Option, Some, None}
 use Rattle.std.specs.List.{AllZip}
 use Rattle.p4x_bits.specs.BitLists.{IsOctets}
 use Rattle.p414_lexemes.specs.declared.lexeme.Literal.{Literal}
+use Rattle.state_store.specs.Ports.{IsPort}
 use Rattle.fabric.specs.declared.items.Event.{Event}
+use Rattle.fabric.specs.declared.items.Item.{Item as QueueItem}
 use Rattle.match_core.specs.Fits.{Fits}
+use Rattle.match_core.specs.Stores.{IsStoreOf}
 use Rattle.p414_ast.specs.declared.syntax.Decl.{Decl}
 use Rattle.p414_ast.specs.declared.syntax.Decl.TheVariants as decl
 use Rattle.p414_ast.specs.declared.syntax.Sort.TheVariants as sort
@@ -19,6 +22,7 @@ use Rattle.p414_sem.specs.Expanded.{IsExpanded}
 use Rattle.p414_sem.specs.Signatures.{signature14}
 use Rattle.p414_sem.specs.Controls.{Setting}
 use Rattle.p414_sem.specs.Passes.{Preserved, Held}
+use Rattle.p414_sem.specs.Runs.{Between}
 
 -- one number for each of these widths, below 2 ^ width
 abbrev pub FitWidths : List ℕ → List ℕ → Type 0
@@ -91,6 +95,19 @@ FitsPreserved ds _ numbers = numbers ≡ []
 abbrev pub IsPreserved : List Decl → Preserved → Type 0
 IsPreserved ds q = AllZip (FitsPreserved ds) (declared_in sort.Instance ds) q
 
--- a held value of the program
-abbrev pub IsHeld : List Decl → Held → Type 0
-IsHeld ds held = IsState ds held.state
+-- a held value of the program: a state whose packet came in on a port
+pub record IsHeld (ds : List Decl) (held : Held) : Type 0 where
+  pub state : IsState ds held.state
+  pub port : IsPort held.state.ingress_port
+
+-- an item of the program, whose numbers fit the types that carry them
+pub record IsItem (ds : List Decl) (came : QueueItem Preserved) : Type 0 where
+  pub octets : IsOctets came.octets
+  pub port : IsPort came.port
+  pub instance : came.instance < 2 ^ 32
+  pub kept : IsPreserved ds came.kept
+
+-- what may stand between two calls of a pass
+pub record IsBetween (c : Setting) (b : Between) : Type 0 where
+  pub store : IsStoreOf (signature14 c.decls) c.entries b.store
+  pub events : All FitsEvent b.events

@@ -1,5 +1,5 @@
--- How a packet is parsed (P4_14 1.0.5, "Parser Specification", "Standard Parser Exceptions"; what an exception does is
--- this project's own). Parsing begins in the state `start` and ends in one of the four ways of `Parsed`.
+-- How a packet is parsed (P4_14 1.0.5, "Parser Specification", "Standard Parser Exceptions", "Header and Metadata
+-- Instances"; what an exception does is this project's own). Parsing begins in the state `start` and ends in one of the four ways of `Parsed`.
 use Rattle.std.specs.Prelude.{ℕ, zero, suc, ◌+◌, ◌*◌, ◌/◌, ◌^◌, Bool, true, false, not, ◌&&◌, nat_lt, ◌==◌, if◌then◌else◌, ℤ, pos, bit_and, List, [], ◌∷◌, length, map, take, drop, slice_get, sum, Option, Some, None, codes, option_and_then, option_map}
 use Rattle.std.specs.List.{list_any, fold}
 use Rattle.std.specs.Option.{option_map_or}
@@ -147,6 +147,7 @@ set ds r latest s None = stops OutOfPacket s
 set ds r latest s (Some z) =
     let target = field_target ds r in goes_on latest (written s target.slot (wrapped target.width z))
 
+-- what one statement of a state does
 abbrev pub does : List Decl → PStmt → Option Latest → State → Progress
 does ds (pstmt.Extract i) latest s = extracted ds i s
 does ds (pstmt.SetMetadata r v) latest s = set ds r latest s (parser_value ds latest s v)
@@ -207,6 +208,7 @@ pub data Step : Type 0 where
   ended : (end : Parsed) (state : State) → Step
 
 -- `parse_error` is left out: its cases stand only so that each function has all of them
+-- a select leads to the state of its case; a parser exception of the program, or no case, ends parsing
 abbrev pub leads : State → Option CaseTarget → Step
 leads s None = ended UnhandledSelect s
 leads s (Some (case_target.ParseError name)) = ended UnhandledSelect s
@@ -216,6 +218,7 @@ abbrev pub selects : ℕ → List Case → State → Option ℕ → Step
 selects width cases s None = ended OutOfPacket s
 selects width cases s (Some key) = leads s (target_of_key width key cases)
 
+-- how a state ends, once its statements are done
 abbrev pub returns : List Decl → Return → Progress → Step
 returns ds end (stops parsed s) = ended parsed s
 returns ds (end_of.Select values cases) (goes_on latest s) =
@@ -223,6 +226,7 @@ returns ds (end_of.Select values cases) (goes_on latest s) =
 returns ds (end_of.State name) (goes_on latest s) = to name s
 returns ds (end_of.ParseError name) (goes_on latest s) = ended UnhandledSelect s
 
+-- a state as a whole: its statements in order, then its return
 abbrev pub steps : List Decl → Parser → State → Step
 steps ds p s = returns ds p.end (fold (does_next ds) (goes_on None s) p.statements)
 

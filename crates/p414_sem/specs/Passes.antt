@@ -17,14 +17,14 @@ use Rattle.p414_ast.specs.declared.calculations.Item.TheVariants as item
 use Rattle.p414_ast.specs.declared.syntax.Decl.{Decl}
 use Rattle.p414_ast.specs.declared.syntax.Decl.TheVariants as decl
 use Rattle.p414_ast.specs.declared.syntax.Sort.TheVariants as sort
-use Rattle.p414_rules.specs.Names.{Name, name_in, declared_in, numbered}
+use Rattle.p414_rules.specs.Names.{declared_in, numbered}
 use Rattle.p414_rules.specs.Totals.{fields_of_type}
 use Rattle.p414_sem.specs.declared.parsed.Parsed.{Parsed}
 use Rattle.p414_sem.specs.declared.parsed.Parsed.TheVariants.{Accepted, OutOfPacket, OutOfBounds, UnhandledSelect}
 use Rattle.p414_sem.specs.declared.requests.Request14.{Request14}
 use Rattle.p414_sem.specs.Slots.{Slot, standard, declared, slot_of}
-use Rattle.p414_sem.specs.State.{State, Header, Instance, new_state, read, without_requests}
-use Rattle.p414_sem.specs.Packing.{widths_of, bits_in, octets_in}
+use Rattle.p414_sem.specs.State.{State, Header, Instance, instance_at, new_state, read, without_requests}
+use Rattle.p414_sem.specs.Packing.{widths_of_type, bits_in, octets_in}
 use Rattle.p414_sem.specs.Expanded.{Expanded, items_in_list}
 use Rattle.p414_sem.specs.Parsing.{Parse, parsed}
 use Rattle.p414_sem.specs.Effects.{Moment}
@@ -156,15 +156,17 @@ reparse14 c store came = record { answer = held_of (parsed c.decls (begins c.dec
 abbrev pub header_octets : List ℕ → Header → List ℕ
 header_octets widths h = if h.valid then octets_in (bits_in widths h.numbers) else []
 
-abbrev pub octets_of_instance : List Decl → State → ℕ → List ℕ
-octets_of_instance ds s i =
-    flat_map (header_octets (option_map_or (λ (name : Name). widths_of ds name) (instance_name i) []))
-    (slice_index_or s.instances i (record { elements = []; place = 0 })).elements where
-      instance_name : ℕ → Option Name
-      instance_name n = option_map_or (name_in sort.Instance) (numbered sort.Instance ds n) None
+-- the octets of an instance: its valid elements by index, and none of metadata
+abbrev pub octets_of : List Decl → Decl → Instance → List ℕ
+octets_of ds (decl.Header x) i = flat_map (header_octets (widths_of_type ds x.header_type)) i.elements
+octets_of ds _ i = []
+
+abbrev pub octets_at : List Decl → State → ℕ → List ℕ
+octets_at ds s n =
+    option_map_or (λ (d : Decl). octets_of ds d (instance_at s n)) (numbered sort.Instance ds n) []
 
 abbrev pub deparsed : List Decl → Expanded → State → List ℕ
-deparsed ds x s = flat_map (octets_of_instance ds s) x.order ++ s.unparsed
+deparsed ds x s = flat_map (octets_at ds s) x.order ++ s.unparsed
 
 -- as egress begins: on this port, of this kind, with nothing requested
 abbrev pub egress_begins : State → ℕ → ℕ → State

@@ -73,8 +73,8 @@ abbrev pub is_unsigned : ArgumentPlace → Bool
 is_unsigned place.Unsigned = true
 is_unsigned _ = false
 
--- the bits that a primitive asks of a source: 32 of an index or a session, those of the register of a number that is
--- written to it, and those of the destination of any other
+-- the bits that a primitive asks of a source: an index or a session has 32; a number for a register has the register's
+-- bits; any other has the destination's
 abbrev pub bits_asked : List Decl → Invocation → ArgumentPlace → ℕ
 bits_asked ds i wanted =
     if is_unsigned wanted && has_name indexed i.callee then 32
@@ -86,7 +86,7 @@ is_use_of p (parameter_argument n) = n == p
 is_use_of p _ = false
 
 -- The bits that the uses of the parameter p among arguments ask, of which the first stands at the place k. `inner` is
--- the width of the parameter at a place of the action that is called, if an action is.
+-- the width of the parameter at a place of the action that is called, if an action is called.
 abbrev pub use_widths_from : (ℕ → ℕ) → ℕ → ℕ → List PlacedArgument → List ℕ
 use_widths_from bits p k [] = []
 use_widths_from bits p k (a ∷ rest) =

@@ -42,6 +42,7 @@ keeps_something _ = false
 abbrev pub stage_without_items : Bool → Stage14
 stage_without_items stateful = if stateful then Stateful else Plain
 
+-- what a program asks of what runs or translates it
 abbrev pub stage_of : List Decl → Stage14
 stage_of ds =
     if calls_some making_items ds then Reentrant

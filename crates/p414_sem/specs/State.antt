@@ -1,8 +1,8 @@
 -- The state of a packet: a map that gives each instance and each element of a stack its validity and a number per field,
 -- with what belongs to the packet beside it (P4_14 1.0.5, "Headers and Fields", "Standard Intrinsic Metadata",
 -- "Parser Specification"; requests and events, and that a field reads 0 where the standard leaves it undefined, are this
--- project's own). Instances stand in the order of declaration, and
--- fields in the order of their header type. Metadata is always valid, and the fields of an invalid header are 0.
+-- project's own). Instances stand in the order of declaration, and fields in the order of their header type. Metadata is
+-- always valid, and the fields of an invalid header are 0.
 use Rattle.std.specs.Prelude.{ℕ, ◌%◌, ◌^◌, Bool, true, false, not, if◌then◌else◌, List, [], ◌∷◌, ◌++◌, length, drop, map, replicate, slice_index, slice_index_or, slice_set, Option, None}
 use Rattle.fabric.specs.declared.items.Event.{Event}
 use Rattle.fabric.specs.declared.items.RequestKind.{RequestKind}
@@ -125,7 +125,7 @@ with_standard s EgressPort n = record s { egress_port = n }
 with_standard s PacketLength n = record s { packet_length = n }
 with_standard s InstanceType n = record s { instance_type = n }
 
--- a header that is valid, with another number in one field
+-- a header with another number in one field
 abbrev pub with_field : Header → ℕ → ℕ → Header
 with_field h f n = record { valid = h.valid; numbers = slice_set h.numbers f n }
 

@@ -18,8 +18,8 @@ abbrev pub nearest : ℕ → ℤ → ℕ
 nearest width (pos n) = min n (2 ^ width - 1)
 nearest width (negsuc n) = 0
 
--- what a field of a width keeps of a number: a sum that is written to a saturating field is the nearest, and everything
--- else is kept modulo 2 ^ width
+-- what a field of a width keeps of a number: a sum or a difference that is written to a saturating field is the nearest,
+-- and everything else is kept modulo 2 ^ width
 abbrev pub kept : Bool → ℕ → ℤ → ℕ
 kept true width z = nearest width z
 kept false width z = wrapped width z

@@ -1,6 +1,6 @@
 // The parts that a statement is written with, in order.
 ghost use Rattle.std.specs.Prelude.{◌≡◌, ◌++◌, OnOk};
-ghost use Rattle.p416_ast.specs.declared.views.StmtHead.TheVariants.{VarIs, Assign, If, IfElse, Switch, Case};
+ghost use Rattle.p416_ast.specs.declared.views.StmtHead.TheVariants.{Block, VarIs, Assign, If, IfElse, Switch, Case};
 ghost use Rattle.p416_stmt_writer.specs.Layouts.{layout, part, step_of, steps, IsPushed};
 
 use crate::work::Work;
@@ -11,7 +11,7 @@ use p416_lexemes::{Keyword16, Mark16};
 use p416_sheet::{Gap, TextView, Token16};
 use work_stack::Stack;
 
-/// The deepest level of lines: what stands deeper stands as deep.
+/// The deepest level of lines. What stands deeper isn't indented further, so that a text stays proportional to its tokens.
 const DEEPEST: u8 = 32;
 
 macro_rules! mark {
@@ -65,11 +65,7 @@ fn push_parts<'a>(
             Work::Stmt(Gap::Line(level), level, before),
             Work::Stmt(Gap::Line(level), level, last),
         ),
-        StmtHead::Block(statements) => left.push_three(
-            mark!(gap, Mark16::BraceOpen),
-            Work::Stmt(Gap::Nothing, deeper(level), statements),
-            mark!(Gap::Line(level), Mark16::BraceClose),
-        ),
+        StmtHead::Block(statements) => push_block(left, gap, level, statements),
         StmtHead::Empty => left.push(mark!(gap, Mark16::Semicolon)),
         StmtHead::Var(of, called) => left.push_three(
             Work::Type(gap, of),
@@ -88,6 +84,32 @@ fn push_parts<'a>(
         StmtHead::NoCases => Ok(()),
         StmtHead::Case(before, label, inner) => push_case(left, level, before, label, inner),
     }
+}
+
+/// What stands in front of the brace behind statements or cases: where there are none, a space.
+fn closing_gap(level: u8, list: &StmtView<'_>) -> Gap {
+    match list.head() {
+        StmtHead::NoStatements => Gap::Space,
+        StmtHead::NoCases => Gap::Space,
+        _ => Gap::Line(level),
+    }
+}
+
+/// Puts statements in braces in front of what is left.
+fn push_block<'a>(
+    left: &mut Stack<Work<'a>>,
+    gap: Gap,
+    level: u8,
+    statements: StmtView<'a>,
+) -> Result<(), OutOfMemory>
+    ensures { OnOk result (steps left.new ≡ layout (Block statements.entry) ++ steps left.old) }
+{
+    let closing = closing_gap(level, &statements);
+    left.push_three(
+        mark!(gap, Mark16::BraceOpen),
+        Work::Stmt(Gap::Nothing, deeper(level), statements),
+        mark!(closing, Mark16::BraceClose),
+    )
 }
 
 /// Puts a variable with its initial value in front of what is left.
@@ -174,10 +196,11 @@ fn push_switch<'a>(
 ) -> Result<(), OutOfMemory>
     ensures { OnOk result (steps left.new ≡ layout (Switch table.entry cases.entry) ++ steps left.old) }
 {
+    let closing = closing_gap(level, &cases);
     left.push_three(
         Work::Run(gap, TextView::new(table.as_slice())),
         Work::Stmt(Gap::Nothing, deeper(level), cases),
-        mark!(Gap::Line(level), Mark16::BraceClose),
+        mark!(closing, Mark16::BraceClose),
     )
 }
 
@@ -191,12 +214,13 @@ fn push_case<'a>(
 ) -> Result<(), OutOfMemory>
     ensures { OnOk result (steps left.new ≡ layout (Case before.entry label.entry statements.entry) ++ steps left.old) }
 {
+    let closing = closing_gap(level, &statements);
     push_four(
         left,
         Work::Stmt(Gap::Nothing, level, before),
         Work::Label(Gap::Line(level), label),
         Work::Stmt(Gap::Nothing, deeper(level), statements),
-        mark!(Gap::Line(level), Mark16::BraceClose),
+        mark!(closing, Mark16::BraceClose),
     )
 }
 

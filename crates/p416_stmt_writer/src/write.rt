@@ -16,7 +16,7 @@ use std::alloc::Global;
 use work_stack::Stack;
 
 /// Writes a statement, a list of statements or a list of cases behind what stands on the sheet, each statement on a line of its
-/// own at this level (P4_16 1.2, "Statements").
+/// own at this level, which is 32 at most where it grows within blocks (P4_16 1.2, "Statements").
 ///
 /// Its time and its memory are proportional to the number of statements and expressions, at any depth.
 ///

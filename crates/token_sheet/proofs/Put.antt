@@ -28,6 +28,14 @@ behind_spaces : (n : ℕ) (is_first : Bool) → first_behind is_first (replicate
 behind_spaces zero is_first = refl
 behind_spaces (suc n) is_first = behind_spaces n is_first
 
+feeds_blank : (m n : ℕ) → list_all is_blank (replicate m 10 ++ replicate n 32) ≡ true
+feeds_blank zero n = spaces_blank n
+feeds_blank (suc m) n = feeds_blank m n
+
+behind_feeds : (m n : ℕ) → first_behind true (replicate m 10 ++ replicate n 32) ≡ true
+behind_feeds zero n = behind_spaces n true
+behind_feeds (suc m) n = behind_feeds m n
+
 -- what stands in front of the new word
 record Fronted {K : Type 0} (front : Front K) (parts : Parts K) (meets : Meets K) (begins_line : K → Bool) (text : List ℕ) (ts : List (Token K)) (kind : K) (next : ℕ) (page : List ℕ) : Type 0 where
   pub last : Option K
@@ -39,21 +47,21 @@ record Fronted {K : Type 0} (front : Front K) (parts : Parts K) (meets : Meets K
   pub line : begins_line kind ≡ true → is_first ≡ true
 
 module _ {K : Type 0} (front : Front K) (parts : Parts K) (meets : Meets K) (spells : Spells K) (begins_line : K → Bool) (laws : IsSpelling front spells parts begins_line) where
-  fronted : (text : List ℕ) (ts : List (Token K)) (last : Option K) (start : ℕ) (is_first : Bool) (kind : K) (next : ℕ) (line : Bool) (spaces : ℕ) → HasTokens front parts text ts last start is_first → AreEnough parts meets begins_line last (drop start text) is_first kind next (record { line = line; spaces = spaces }) → Fronted front parts meets begins_line text ts kind next (text ++ blank_octets (record { line = line; spaces = spaces }))
-  fronted text ts last start is_first kind next true spaces r e = record {
+  fronted : (text : List ℕ) (ts : List (Token K)) (last : Option K) (start : ℕ) (is_first : Bool) (kind : K) (next : ℕ) (line : Bool) (further spaces : ℕ) → HasTokens front parts text ts last start is_first → AreEnough parts meets begins_line last (drop start text) is_first kind next (record { line = line; further = further; spaces = spaces }) → Fronted front parts meets begins_line text ts kind next (text ++ blank_octets (record { line = line; further = further; spaces = spaces }))
+  fronted text ts last start is_first kind next true further spaces r e = record {
     last = None;
     start = start;
-    is_first = first_behind is_first (10 ∷ replicate spaces 32);
-    has = ready_blanks front parts spells begins_line laws 10 (replicate spaces 32) text ts last start is_first r (spaces_blank spaces) (e.far refl);
+    is_first = first_behind is_first (10 ∷ (replicate further 10 ++ replicate spaces 32));
+    has = ready_blanks front parts spells begins_line laws 10 (replicate further 10 ++ replicate spaces 32) text ts last start is_first r (feeds_blank further spaces) (e.far refl);
     parted = refl;
     apart = refl;
-    line = λ _. behind_spaces spaces true;
+    line = λ _. behind_feeds further spaces;
   }
-  fronted text ts last start is_first kind next false zero r e =
+  fronted text ts last start is_first kind next false further zero r e =
       let both = and_parts (may_follow parts last (drop start text) next) (may_touch meets last kind) (e.near refl) in
       subst (λ (xs : List ℕ). Fronted front parts meets begins_line text ts kind next xs) (sym (append-nil text))
       (record { last = last; start = start; is_first = is_first; has = r; parted = both.0; apart = both.1; line = e.line })
-  fronted text ts last start is_first kind next false (suc spaces) r e = let some : nat_eq (suc spaces) 0 ≡ false = grind (arith, nat_tests) in record {
+  fronted text ts last start is_first kind next false further (suc spaces) r e = let some : nat_eq (suc spaces) 0 ≡ false = grind (arith, nat_tests) in record {
     last = None;
     start = start;
     is_first = first_behind is_first (replicate (suc spaces) 32);
@@ -107,7 +115,7 @@ module _ {K : Type 0} (front : Front K) (parts : Parts K) (meets : Meets K) (spe
   grown text new last start at is_first kind octets token blanks r same e s n l =
       let enough = subst (λ (xs : List ℕ). AreEnough parts meets begins_line last xs is_first kind (get_or octets 0 0) blanks) same e in
       let page = text ++ blank_octets blanks in
-      let f = fronted text r.tokens last start is_first kind (get_or octets 0 0) blanks.line blanks.spaces r.has enough in
+      let f = fronted text r.tokens last start is_first kind (get_or octets 0 0) blanks.line blanks.further blanks.spaces r.has enough in
       let g = grown_by text page r.tokens kind octets (stays text (blank_octets blanks) last start is_first r) f s in
       subst (λ (xs : List ℕ). Grown text xs kind octets at) (sym n) (subst (λ (k : ℕ). Grown text (page ++ octets) kind octets k) (sym l) g)
 
@@ -145,6 +153,6 @@ module _ {K : Type 0} (front : Front K) (parts : Parts K) (meets : Meets K) (spe
   grown_by_two text new last start at is_first first second octets more token blanks r same e j n l =
       let enough = subst (λ (xs : List ℕ). AreEnough parts meets begins_line last xs is_first first (get_or octets 0 0) blanks) same e in
       let page = text ++ blank_octets blanks in
-      let f = fronted text r.tokens last start is_first first (get_or octets 0 0) blanks.line blanks.spaces r.has enough in
+      let f = fronted text r.tokens last start is_first first (get_or octets 0 0) blanks.line blanks.further blanks.spaces r.has enough in
       let g = two_by text page r.tokens first second octets more (stays text (blank_octets blanks) last start is_first r) f j in
       subst (λ (xs : List ℕ). GrownByTwo text xs first second octets more at) (sym n) (subst (λ (k : ℕ). GrownByTwo text ((page ++ octets) ++ more) first second octets more k) (sym l) g)

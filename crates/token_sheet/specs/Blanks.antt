@@ -1,12 +1,13 @@
 -- What stands between two words on a sheet (this project's own).
-use Rattle.std.specs.Prelude.{◌≡◌, ℕ, Bool, true, false, not, nat_eq, ◌&&◌, ◌||◌, if◌then◌else◌, List, ◌∷◌, Option, Some, None, replicate}
+use Rattle.std.specs.Prelude.{◌≡◌, ℕ, Bool, true, false, not, nat_eq, ◌&&◌, ◌||◌, if◌then◌else◌, List, ◌∷◌, ◌++◌, Option, Some, None, replicate}
 use Rattle.token_sheet.specs.declared.blanks.Blanks.{Blanks}
 use Rattle.token_sheet.specs.Words.{Meets}
 use Rattle.token_sheet.specs.Spelling.{Parts}
 
--- the octets: a line feed or none, and spaces
+-- the octets: a line feed and further ones, or none, and spaces
 abbrev pub blank_octets : Blanks → List ℕ
-blank_octets blanks = if blanks.line then 10 ∷ replicate blanks.spaces 32 else replicate blanks.spaces 32
+blank_octets blanks =
+    if blanks.line then 10 ∷ (replicate blanks.further 10 ++ replicate blanks.spaces 32) else replicate blanks.spaces 32
 
 abbrev pub are_none : Blanks → Bool
 are_none blanks = not blanks.line && nat_eq blanks.spaces 0

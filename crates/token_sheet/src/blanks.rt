@@ -14,12 +14,15 @@ pub enum Gap {
     Space,
     /// A line feed, and four spaces for each level.
     Line(u8),
+    /// A blank line: two line feeds, and four spaces for each level.
+    Paragraph(u8),
 }
 
-/// Blanks: a line feed or none, and spaces behind it.
+/// Blanks: a line feed and further ones behind it, or none, and spaces.
 #[derive(Clone, Copy)]
 pub struct Blanks {
     pub line: bool,
+    pub further: usize,
     pub spaces: usize,
 }
 
@@ -28,14 +31,22 @@ fn blanks_of(gap: Gap) -> Blanks {
     match gap {
         Gap::Nothing => Blanks {
             line: false,
+            further: 0,
             spaces: 0,
         },
         Gap::Space => Blanks {
             line: false,
+            further: 0,
             spaces: 1,
         },
         Gap::Line(level) => Blanks {
             line: true,
+            further: 0,
+            spaces: 4 * usize::from(level),
+        },
+        Gap::Paragraph(level) => Blanks {
+            line: true,
+            further: 1,
             spaces: 4 * usize::from(level),
         },
     }
@@ -90,19 +101,21 @@ pub fn blanks_before<L: Spelling>(
 }
 
 fn line_feed() -> Blanks
-    ensures { result ≡ record { line = true; spaces = 0 } }
+    ensures { result ≡ record { line = true; further = 0; spaces = 0 } }
 {
     Blanks {
         line: true,
+        further: 0,
         spaces: 0,
     }
 }
 
 fn space() -> Blanks
-    ensures { result ≡ record { line = false; spaces = 1 } }
+    ensures { result ≡ record { line = false; further = 0; spaces = 1 } }
 {
     Blanks {
         line: false,
+        further: 0,
         spaces: 1,
     }
 }

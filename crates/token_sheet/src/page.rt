@@ -35,24 +35,34 @@ fn add_parts(text: &mut Octets, blanks: Blanks, octets: &[u8]) -> Result<usize, 
 }
 
 /// Puts the blanks at the end. For want of memory a part of them may stand there.
-#[tactic(auto, using(crate::proofs::Spaces::old_again))]
+#[tactic(auto, using(crate::proofs::Spaces::old_again, crate::proofs::Spaces::old_again_behind, crate::proofs::Spaces::put_behind))]
 fn add_blanks(text: &mut Octets, blanks: Blanks) -> Result<(), OutOfMemory>
     ensures ok { OnOk result (text.new ≡ text.old ++ blank_octets blanks) }
     ensures err { take (length text.old) text.new ≡ text.old }
 {
     if blanks.line {
-        text.push(b'\n')?;
+        add_line_feeds(text, blanks.further)?;
     }
-    add_spaces(text, blanks.spaces)
+    add_octets(text, b' ', blanks.spaces)
 }
 
-/// Puts so many spaces at the end. For want of memory a part of them may stand there.
-fn add_spaces(text: &mut Octets, count: usize) -> Result<(), OutOfMemory>
-    ensures ok { OnOk result (text.new ≡ text.old ++ replicate count 32) }
+/// Puts a line feed and so many further ones at the end. For want of memory a part of them may stand there.
+#[tactic(auto, using(crate::proofs::Spaces::old_again, crate::proofs::Spaces::old_again_behind, crate::proofs::Spaces::put_behind))]
+fn add_line_feeds(text: &mut Octets, further: usize) -> Result<(), OutOfMemory>
+    ensures ok { OnOk result (text.new ≡ text.old ++ 10 ∷ replicate further 10) }
+    ensures err { take (length text.old) text.new ≡ text.old }
+{
+    text.push(b'\n')?;
+    add_octets(text, b'\n', further)
+}
+
+/// Puts this octet at the end so many times. For want of memory it may stand there fewer times.
+fn add_octets(text: &mut Octets, octet: u8, count: usize) -> Result<(), OutOfMemory>
+    ensures ok { OnOk result (text.new ≡ text.old ++ replicate count octet) }
     ensures err { take (length text.old) text.new ≡ text.old }
 {
     for _ in 0..count {
-        text.push(b' ')?;
+        text.push(octet)?;
     }
     Ok(())
 }
