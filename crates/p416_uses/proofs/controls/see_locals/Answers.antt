@@ -16,5 +16,5 @@ loop-declared-preserved c = record {
   given = given_on _ _ _ c.loop-declared.invariant.scope c.in_ok-see_local.ensures.given;
 }
 
-pub see_local-requires-given : goal.see_local-requires-given
-see_local-requires-given c = given_at _ _ _ c.loop-declared.invariant.scope c.loop-declared.invariant.given
+pub see_local-requires-clause-given : goal.see_local-requires-clause-given
+see_local-requires-clause-given c = given_at _ _ _ c.loop-declared.invariant.scope c.loop-declared.invariant.given
