@@ -8,8 +8,8 @@ use Rattle.p416_ast.specs.declared.controls.Local.{Local}
 use Rattle.p416_ast.specs.declared.controls.Local.TheVariants as local
 use Rattle.p416_ast.specs.declared.controls.Control16.{Control16}
 use Rattle.p416_rules.specs.Names.{Name}
-use Rattle.p416_rules.specs.Scopes.{Scope, Known, called_of, known_parameter, Part, in_apply, inside}
-use Rattle.p416_rules.specs.Uses.{Use, names_of_scope, some_parameters, some_counters, of_block_parameter, of_action_parameter}
+use Rattle.p416_rules.specs.Scopes.{Scope, Known, called_of, known_parameter, in_apply}
+use Rattle.p416_rules.specs.Uses.{names_of_scope, some_parameters, some_counters, of_block_parameter, of_action_parameter}
 use Rattle.p416_rules.specs.Declarations.{known_local, parameter_name, control_names, control_scope, parameter_uses, note_uses, body_uses, action_scope, action_uses, local_uses, control_uses, counters_in, table_in, tables_in}
 use Rattle.p416_listed_check.specs.Listings.{AreGiven}
 use Rattle.p416_scopes.specs.declared.scope.Scope.{Scope as CodeScope}

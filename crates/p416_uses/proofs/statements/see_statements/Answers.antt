@@ -1,4 +1,4 @@
-use Rattle.std.proofs.Common.{◌≡◌, ◌∙◌, List, flat_map, refl, ap}
+use Rattle.std.proofs.Common.{◌∙◌, List, flat_map, refl, ap}
 use Rattle.p416_rules.specs.Statements.{Visit, visit_uses}
 use Rattle.p416_scopes.specs.Seen.{seen_scope}
 use Rattle.p416_listed_check.specs.Listings.{tables_in}
