@@ -1,6 +1,6 @@
 #!/bin/sh
 # Times look-ups, CRCs and sums, beside the plain scan of match_core and beside BTreeMap of plain Rust, and prints a table of
-# what is done in a second: the best of three runs. Then fields.sh times fields of bits, reading.sh and reading16.sh the reading of both languages, judging.sh
+# what is done in a second: the best of three runs. Then fields.sh times fields of bits, reading.sh and reading16.sh the reading of both languages, writing16.sh the writing of P4_16, judging.sh
 # the rules of declarations, judging16.sh those of P4_16, carry.sh the command `carry`, and check.sh `check` and `order`.
 # It wants rt and rustc. The gate doesn't run it. The program is proved first, in a scratch copy of the crates that it calls.
 set -eu
@@ -30,6 +30,7 @@ for _ in 1 2 3; do out/bench_tables; "$work/baseline"; done | awk '
 "$top/bench/fields.sh"
 "$top/bench/reading.sh"
 "$top/bench/reading16.sh"
+"$top/bench/writing16.sh"
 "$top/bench/judging.sh"
 "$top/bench/judging16.sh"
 "$top/bench/carry.sh"

@@ -1,165 +1,39 @@
-// What comes of a capture: the forms that are taken, and each rule that refuses one.
-use crate::desks::{FarDesk, SlowDesk};
-use crate::expected::{Expected, begun, expect_end, expect_files, expect_run};
-use crate::setting::{WORDS, behind, capture, desk, front, program, sent, text};
-use std::alloc::Global;
-use std::process::Abort;
-use std::test::Fail;
+// Runs that get as far as the capture: what is sent, and each rule that refuses a capture.
 
-/// The report of the run of the one packet, and its records' part.
-const REPORT: &[u8] = b"sent 3 14\nin 1\nout 1\ncut 0\nwork 6\n";
+/// The report of the run of the one packet.
+pub const REPORT: &[u8] = b"sent 3 14\nin 1\nout 1\ncut 0\nwork 6\n";
 
-const LINES: &[u8] = b"sent 3 14\n";
+/// The name of a row; the program; the capture; the file of ports, or `-` where none is named; the status and what is printed; `=`
+/// where the text is that of the common program, and else `?`; the sent file; and the report. Cells are read as `lines` says.
+/// Three captures have packets of 2, 1 and 3 octets, in nanoseconds, with link type 228.
+const CAPTURES: &[u8] =
+    b"one packet|=|c0:54|-|0|carried 1 1 0^|=|s0:54|sent 3 14^in 1^out 1^cut 0^work 6^
+no packet|=|c0:24|-|0|carried 0 0 0^|=|s0:24|in 0^out 0^cut 0^work 0^
+a packet that is shorter than the header|=|c0:24 x01000000020000000d0000000e000000 x0102030405060708090a0b0c0d|-|0|carried 1 0 0^|=|s0:24|in 1^out 0^cut 0^work 3^
+packets to port 0 keep their order and their payload|>0|x4d3cb2a102000400000000000000000000000400e4000000070000000100000002000000020000001234070000000200000001000000010000005608000000030000000300000009000000789abc|-|0|carried 3 2 0^|?|x4d3cb2a102000400000000000000000000000400e400000007000000010000000200000002000000123408000000030000000300000003000000789abc|sent 0 2^sent 0 3^in 3^out 2^cut 0^work 15^
+packets to port 510 keep their order and their payload|>510|x4d3cb2a102000400000000000000000000000400e4000000070000000100000002000000020000001234070000000200000001000000010000005608000000030000000300000009000000789abc|-|0|carried 3 2 0^|?|x4d3cb2a102000400000000000000000000000400e400000007000000010000000200000002000000123408000000030000000300000003000000789abc|sent 510 2^sent 510 3^in 3^out 2^cut 0^work 15^
+packets to port 511 keep their order and their payload|>511|x4d3cb2a102000400000000000000000000000400e4000000070000000100000002000000020000001234070000000200000001000000010000005608000000030000000300000009000000789abc|-|0|carried 3 0 0^|?|x4d3cb2a102000400000000000000000000000400e4000000|in 3^out 0^cut 0^work 13^
+a big-endian capture gives the same files|=|xa1b2c3d40002000400000000000000000000ffff0000000100000001000000020000000e0000000e0102030405060708090a0b0c0d0e|-|0|carried 1 1 0^|=|s0:54|sent 3 14^in 1^out 1^cut 0^work 6^
+a nanosecond capture keeps its magic number|=|x4d3cb2a1 c4:54|-|0|carried 1 1 0^|=|x4d3cb2a1 s4:54|sent 3 14^in 1^out 1^cut 0^work 6^
+seven octets behind the last record are K4|=|c0:54 x00000000000000|-|5|refused K4^|=|s0:54|sent 3 14^
+a record that is cut short at octet 25 of the file is K4|=|c0:25|-|5|refused K4^|=|s0:24|
+a record that is cut short at octet 39 of the file is K4|=|c0:39|-|5|refused K4^|=|s0:24|
+a record that is cut short at octet 53 of the file is K4|=|c0:53|-|5|refused K4^|=|s0:24|
+a record of 65536 octets is K5, though it is cut short|=|c0:54 x01000000020000000000010000000100|-|5|refused K5^|=|s0:54|sent 3 14^
+the same with no record in front of it|=|c0:24 x01000000020000000000010000000100|-|5|refused K5^|=|s0:24|
+no octet is K1|=||-|5|refused K1^|=||
+the first 23 octets of a capture are K1|=|c0:23|-|5|refused K1^|=||
+23 octets of no capture are K1|=|xffffffffffffffffffffffffffffffffffffffffffffff|-|5|refused K1^|=||
+24 octets of no capture are K2|=|xffffffffffffffffffffffffffffffffffffffffffffffff|-|5|refused K2^|=||
+the first octet of the other order is K2|=|xa1 c1:54|-|5|refused K2^|=||
+another magic number and another version are K2|=|xd5c3b2a1020003 c7:54|-|5|refused K2^|=||
+another minor version is K3|=|xd4c3b2a1020003 c7:54|-|5|refused K3^|=||
+another major version is K3|=|xd4c3b2a103 c5:54|-|5|refused K3^|=||
+another version with a record that is cut short is K3|=|xd4c3b2a1020003 c7:54 .53|-|5|refused K3^|=||
+three packets come in on two ports that are named|=|c0:54 c24:54 c24:54|5^510^|0|carried 3 3 0^|=|s0:54 s24:54 s24:54|sent 3 14^sent 3 14^sent 3 14^in 3^out 3^cut 0^work 18^
+ports left over are ignored|=|c0:54|# two?^^ 5^510|0|carried 1 1 0^|=|s0:54|sent 3 14^in 1^out 1^cut 0^work 6^";
 
-/// The common program over a capture, and what comes of it.
-fn expect_capture(
-    rt: &impl Abort,
-    alloc: Global,
-    capture: &[u8],
-    expected: Expected<'_>,
-) -> Result<(), Fail> {
-    let mut desk = desk(alloc, program(), b"", capture)?;
-    expect_run(rt, alloc, &WORDS, &mut desk, expected)
-}
-
-/// The capture, or its sent file, with other octets in front.
-fn with_front(alloc: Global, octets: &[u8], whole: &'static [u8]) -> Result<Vec<u8>, Fail> {
-    let mut changed = Vec::from_slice(alloc, octets)?;
-    changed.extend_from_slice(behind(whole, octets.len()))?;
-    Ok(changed)
-}
-
-/// The capture, and these octets behind it.
-fn with_end(alloc: Global, octets: &[u8]) -> Result<Vec<u8>, Fail> {
-    let mut longer = Vec::from_slice(alloc, capture())?;
-    longer.extend_from_slice(octets)?;
-    Ok(longer)
-}
-
-/// The capture with its numbers in big-endian order.
-const BIG_ENDIAN: &[u8] = &[
-    0xa1, 0xb2, 0xc3, 0xd4, 0, 2, 0, 4, 0, 0, 0, 0, 0, 0, 0, 0, 0, 0, 0xff, 0xff, 0, 0, 0, 1, 0, 0,
-    0, 1, 0, 0, 0, 2, 0, 0, 0, 14, 0, 0, 0, 14, 1, 2, 3, 4, 5, 6, 7, 8, 9, 10, 11, 12, 13, 14,
-];
-
-#[test]
-fn a_big_endian_capture_gives_the_same_files(rt: HostRuntime) -> Result<(), Fail> {
-    let expected = begun(0, b"carried 1 1 0\n", sent(), REPORT);
-    expect_capture(&rt, rt.alloc(), BIG_ENDIAN, expected)
-}
-
-#[test]
-fn a_nanosecond_capture_keeps_its_magic_number(rt: HostRuntime) -> Result<(), Fail> {
-    let alloc = rt.alloc();
-    let magic: &[u8] = &[0x4d, 0x3c, 0xb2, 0xa1];
-    let file = with_front(alloc, magic, capture())?;
-    let sent = with_front(alloc, magic, sent())?;
-    let expected = begun(0, b"carried 1 1 0\n", &sent, REPORT);
-    expect_capture(&rt, alloc, &file, expected)
-}
-
-#[test]
-fn reads_of_one_octet_give_the_same_files(rt: HostRuntime) -> Result<(), Fail> {
-    let alloc = rt.alloc();
-    let mut slow = SlowDesk {
-        desk: desk(alloc, program(), b"", capture())?,
-    };
-    let expected = begun(0, b"carried 1 1 0\n", sent(), REPORT);
-    expect_end(&rt, alloc, &WORDS, 100, &mut slow, expected)?;
-    expect_files(&rt, &slow.desk, expected);
-    Ok(())
-}
-
-#[test]
-fn seven_octets_behind_the_last_record_are_k4(rt: HostRuntime) -> Result<(), Fail> {
-    let alloc = rt.alloc();
-    let longer = with_end(alloc, &[0; 7])?;
-    let expected = begun(5, b"refused K4\n", sent(), LINES);
-    expect_capture(&rt, alloc, &longer, expected)?;
-    // Read octet by octet it is refused with the same files.
-    let mut slow = SlowDesk {
-        desk: desk(alloc, program(), b"", &longer)?,
-    };
-    expect_end(&rt, alloc, &WORDS, 100, &mut slow, expected)?;
-    expect_files(&rt, &slow.desk, expected);
-    Ok(())
-}
-
-#[test]
-fn a_record_that_is_cut_short_is_k4(rt: HostRuntime) -> Result<(), Fail> {
-    let alloc = rt.alloc();
-    // No record stands in front of it, so the sent file is its header.
-    let expected = begun(5, b"refused K4\n", front(sent(), 24), b"");
-    expect_capture(&rt, alloc, front(capture(), 25), expected)?;
-    expect_capture(&rt, alloc, front(capture(), 39), expected)?;
-    expect_capture(&rt, alloc, front(capture(), 53), expected)
-}
-
-#[test]
-fn a_record_of_65536_octets_is_k5(rt: HostRuntime) -> Result<(), Fail> {
-    let alloc = rt.alloc();
-    // It is too long and cut short, and the first counts.
-    let header: &[u8] = &[1, 0, 0, 0, 2, 0, 0, 0, 0, 0, 1, 0, 0, 0, 1, 0];
-    let longer = with_end(alloc, header)?;
-    let expected = begun(5, b"refused K5\n", sent(), LINES);
-    expect_capture(&rt, alloc, &longer, expected)?;
-    let mut alone = Vec::from_slice(alloc, front(capture(), 24))?;
-    alone.extend_from_slice(header)?;
-    let expected = begun(5, b"refused K5\n", front(sent(), 24), b"");
-    expect_capture(&rt, alloc, &alone, expected)
-}
-
-#[test]
-fn fewer_than_24_octets_are_k1(rt: HostRuntime) -> Result<(), Fail> {
-    let alloc = rt.alloc();
-    let expected = begun(5, b"refused K1\n", b"", b"");
-    expect_capture(&rt, alloc, b"", expected)?;
-    expect_capture(&rt, alloc, front(capture(), 23), expected)?;
-    expect_capture(&rt, alloc, &[0xff; 23], expected)
-}
-
-#[test]
-fn another_magic_number_is_k2(rt: HostRuntime) -> Result<(), Fail> {
-    let alloc = rt.alloc();
-    let expected = begun(5, b"refused K2\n", b"", b"");
-    expect_capture(&rt, alloc, &[0xff; 24], expected)?;
-    let file = with_front(alloc, &[0xa1], capture())?;
-    expect_capture(&rt, alloc, &file, expected)?;
-    // Of another version too: the first rule counts.
-    let file = with_front(alloc, &[0xd5, 0xc3, 0xb2, 0xa1, 2, 0, 3], capture())?;
-    expect_capture(&rt, alloc, &file, expected)
-}
-
-#[test]
-fn another_version_is_k3(rt: HostRuntime) -> Result<(), Fail> {
-    let alloc = rt.alloc();
-    let expected = begun(5, b"refused K3\n", b"", b"");
-    let file = with_front(alloc, &[0xd4, 0xc3, 0xb2, 0xa1, 2, 0, 3], capture())?;
-    expect_capture(&rt, alloc, &file, expected)?;
-    let file = with_front(alloc, &[0xd4, 0xc3, 0xb2, 0xa1, 3], capture())?;
-    expect_capture(&rt, alloc, &file, expected)?;
-    // Its record is cut short too.
-    let mut short = with_front(alloc, &[0xd4, 0xc3, 0xb2, 0xa1, 2, 0, 3], capture())?;
-    short.truncate(53);
-    expect_capture(&rt, alloc, &short, expected)
-}
-
-/// The output was made and holds these octets.
-fn holds(output: &Option<Vec<u8>>, octets: &[u8]) -> bool {
-    match output {
-        Some(held) => held.as_slice() == octets,
-        None => false,
-    }
-}
-
-#[test]
-fn a_capture_over_its_limit_is_read_no_further(rt: HostRuntime) -> Result<(), Fail> {
-    let alloc = rt.alloc();
-    let mut far = FarDesk::new(alloc);
-    let expected = begun(6, b"limit capture\n", b"", b"");
-    expect_end(&rt, alloc, &WORDS, 100, &mut far, expected)?;
-    assert!(&rt; holds(&far.text, text()), "the text is whole");
-    assert!(&rt; holds(&far.sent, b""), "the sent file is empty");
-    assert!(&rt; holds(&far.report, b""), "the report is empty");
-    Ok(())
+/// The runs of this file.
+pub fn captures() -> &'static [u8] {
+    CAPTURES
 }

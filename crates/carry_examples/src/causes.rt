@@ -1,214 +1,117 @@
-// Each cause of a status other than 0, with the line that is printed and the files that are left.
-use crate::expected::{Expected, begun, expect_end, expect_files, expect_run, stopped};
-use crate::setting::{WORDS, capture, desk, inputs, program, sent, text};
-use std::alloc::Global;
+// Faults: a call that fails, an output that can't be made, and a line that can't be printed whole. Each ends with status 1.
+use crate::captures::REPORT;
+use crate::expected::{Expected, Output, expect_end, expect_files};
+use crate::lines::{cell, cut, name_of, number_of, text_of};
+use crate::setting::{WORDS, capture, inputs, program, sent, text};
+use p4x_io::MemoryDesk;
 use std::process::Abort;
 use std::test::Fail;
 
-/// What the files hold, which call fails, how much can be printed, and what comes of it.
-#[derive(Drop)]
-struct Case<'a> {
-    words: &'a [&'static str],
-    program: &'a [u8],
-    entries: &'a [u8],
-    read_fails: &'static str,
-    append_fails: &'static str,
-    room: usize,
-    expected: Expected<'a>,
+/// The name of a row; the entries; the file whose first read fails; the file whose first append fails; the outputs that there is
+/// room for; how many octets can be printed; what is printed; and of the text, the sent file and the report whether it is not
+/// there (`-`), empty (`0`) or whole (`=`).
+const FAULTS: &[u8] = b"the first read of the program||p||t s r|100|fault^|---
+the first read of the entries||e||t s r|100|fault^|---
+the first append to the text|||t|t s r|100|fault^|000
+the first append to the sent file|||s|t s r|100|fault^|=00
+the first read of the capture||c||t s r|100|fault^|=00
+the first append to the report|||r|t s r|100|fault^|==0
+no room for the text||||s r|100|fault^|---
+no room for the sent file||||t r|100|fault^|0--
+no room for the report||||t s|100|fault^|00-
+a sink that is full after the work||||t s r|5|carri|===
+a sink that is full in the middle of a refusal|#|||t s r|9|refused E|---";
+
+/// The rows of this file.
+fn faults() -> &'static [u8] {
+    FAULTS
 }
 
-fn expect_case(rt: &impl Abort, alloc: Global, case: &Case<'_>) -> Result<(), Fail> {
-    let mut desk = desk(alloc, case.program, case.entries, capture())?;
-    if !case.read_fails.is_empty() {
-        desk.fail_read(case.read_fails, 1)?;
+fn held_output<'a>(held: u8, whole: &'static [u8]) -> Output<'a> {
+    match held {
+        b'0' => Output::Holds(b""),
+        b'=' => Output::Holds(whole),
+        _ => Output::Absent,
     }
-    if !case.append_fails.is_empty() {
-        desk.fail_append(case.append_fails, 1)?;
-    }
-    expect_end(rt, alloc, case.words, case.room, &mut desk, case.expected)?;
-    expect_files(rt, &desk, case.expected);
-    Ok(())
 }
 
-/// A fault of the first read or append of a name, and what the outputs hold after it.
-fn expect_fault(
-    rt: &impl Abort,
-    alloc: Global,
-    read_fails: &'static str,
-    append_fails: &'static str,
-    text: Option<&[u8]>,
-) -> Result<(), Fail> {
-    let made = text.is_some();
-    let case = Case {
-        words: &WORDS,
-        program: program(),
-        entries: b"",
-        read_fails,
-        append_fails,
-        room: 100,
-        expected: Expected {
-            status: 1,
-            line: b"fault\n",
-            text,
-            sent: if made { Some(b"") } else { None },
-            report: if made { Some(b"") } else { None },
-        },
+/// What is left of a run with status 1 that prints this.
+fn left_of<'a>(line: &'a [u8], held: &[u8]) -> Expected<'a> {
+    let [first, second, third] = held else {
+        return Expected {
+            status: 0,
+            line,
+            text: Output::Any,
+            sent: Output::Any,
+            report: Output::Any,
+        };
     };
-    expect_case(rt, alloc, &case)
-}
-
-#[test]
-fn a_fault_of_each_file(rt: HostRuntime) -> Result<(), Fail> {
-    let alloc = rt.alloc();
-    expect_fault(&rt, alloc, "p", "", None)?;
-    expect_fault(&rt, alloc, "e", "", None)?;
-    expect_fault(&rt, alloc, "", "t", Some(b""))?;
-    expect_fault(&rt, alloc, "", "s", Some(text()))?;
-    expect_fault(&rt, alloc, "c", "", Some(text()))
-}
-
-/// Words with what the sink prints of the line.
-fn expect_words<'a>(
-    rt: &impl Abort,
-    alloc: Global,
-    words: &'a [&'static str],
-    status: u8,
-    line: &'a [u8],
-) -> Result<(), Fail> {
-    let case = Case {
-        words,
-        program: program(),
-        entries: b"",
-        read_fails: "",
-        append_fails: "",
-        room: 100,
-        expected: stopped(status, line),
-    };
-    expect_case(rt, alloc, &case)
-}
-
-#[test]
-fn a_missing_file(rt: HostRuntime) -> Result<(), Fail> {
-    let mut words = WORDS;
-    words[1] = "none";
-    expect_words(&rt, rt.alloc(), &words, 1, b"fault\n")?;
-    words[1] = "p";
-    words[2] = "none";
-    expect_words(&rt, rt.alloc(), &words, 1, b"fault\n")
-}
-
-#[test]
-fn an_absent_capture(rt: HostRuntime) -> Result<(), Fail> {
-    let mut words = WORDS;
-    words[3] = "none";
-    let mut desk = desk(rt.alloc(), program(), b"", capture())?;
-    let expected = begun(1, b"fault\n", b"", b"");
-    expect_run(&rt, rt.alloc(), &words, &mut desk, expected)
-}
-
-#[test]
-fn a_report_that_is_not_appended_to(rt: HostRuntime) -> Result<(), Fail> {
-    let mut desk = desk(rt.alloc(), program(), b"", capture())?;
-    desk.fail_append("r", 1)?;
-    let expected = begun(1, b"fault\n", sent(), b"");
-    expect_run(&rt, rt.alloc(), &WORDS, &mut desk, expected)
-}
-
-/// A desk that has room for these outputs alone, and what each holds after the fault.
-fn expect_unmade<'a>(
-    rt: &impl Abort,
-    alloc: Global,
-    rooms: &[&str],
-    text: Option<&'a [u8]>,
-    sent: Option<&'a [u8]>,
-) -> Result<(), Fail> {
-    let mut desk = inputs(alloc, program(), b"", capture())?;
-    for name in rooms {
-        desk.room(name, 4096)?;
-    }
-    let expected = Expected {
+    Expected {
         status: 1,
-        line: b"fault\n",
-        text,
-        sent,
-        report: None,
-    };
-    expect_run(rt, alloc, &WORDS, &mut desk, expected)
+        line,
+        text: held_output(*first, text()),
+        sent: held_output(*second, sent()),
+        report: held_output(*third, REPORT),
+    }
 }
 
-#[test]
-fn an_output_that_cannot_be_made(rt: HostRuntime) -> Result<(), Fail> {
-    let alloc = rt.alloc();
-    expect_unmade(&rt, alloc, &["s", "r"], None, None)?;
-    expect_unmade(&rt, alloc, &["t", "r"], Some(b""), None)?;
-    expect_unmade(&rt, alloc, &["t", "s"], Some(b""), Some(b""))
-}
-
-#[test]
-fn a_sink_that_is_full_after_the_work(rt: HostRuntime) -> Result<(), Fail> {
-    let alloc = rt.alloc();
-    let mut desk = desk(alloc, program(), b"", capture())?;
-    let report = b"sent 3 14\nin 1\nout 1\ncut 0\nwork 6\n";
-    let expected = begun(1, b"carri", sent(), report);
-    expect_end(&rt, alloc, &WORDS, 5, &mut desk, expected)?;
-    expect_files(&rt, &desk, expected);
-    Ok(())
-}
-
-#[test]
-fn words_that_are_no_form(rt: HostRuntime) -> Result<(), Fail> {
-    let alloc = rt.alloc();
-    expect_words(&rt, alloc, &[], 2, b"usage\n")?;
-    expect_words(&rt, alloc, &WORDS[..8], 2, b"usage\n")?;
-    let mut longer = ["t"; 11];
-    longer[..10].copy_from_slice(&WORDS);
-    expect_words(&rt, alloc, &longer, 2, b"usage\n")?;
-    for (place, word) in [
-        (0, "carries"),
-        (1, ""),
-        (2, "--e"),
-        (5, "p"),
-        (6, "--text"),
-        (7, "t"),
-        (9, ""),
-    ] {
-        let mut words = WORDS;
-        words[place] = word;
-        expect_words(&rt, alloc, &words, 2, b"usage\n")?;
+fn put_outputs(desk: &mut MemoryDesk, outputs: &'static [u8]) -> Result<(), Fail> {
+    let mut left = outputs;
+    for _ in 0..outputs.len() {
+        let (name, more) = cut(left, b' ');
+        if !name.is_empty() {
+            desk.room(name_of(name), 4096)?;
+        }
+        left = more;
     }
     Ok(())
 }
 
-/// Input files that are refused, before anything is written.
-fn expect_refused<'a>(
-    rt: &impl Abort,
-    alloc: Global,
-    program: &'a [u8],
-    entries: &'a [u8],
-    room: usize,
-    status: u8,
-    line: &'a [u8],
-) -> Result<(), Fail> {
-    let case = Case {
-        words: &WORDS,
-        program,
-        entries,
-        read_fails: "",
-        append_fails: "",
-        room,
-        expected: stopped(status, line),
-    };
-    expect_case(rt, alloc, &case)
+fn fail(desk: &mut MemoryDesk, reads: &[u8], appends: &[u8]) -> Result<(), Fail> {
+    if !reads.is_empty() {
+        desk.fail_read(name_of(reads), 1)?;
+    }
+    if !appends.is_empty() {
+        desk.fail_append(name_of(appends), 1)?;
+    }
+    Ok(())
+}
+
+fn check_fault(rt: &(impl Abort + AllocGlobal), row: &'static [u8]) -> Result<(), Fail> {
+    let (name, row) = cell(row);
+    let (entries, row) = cell(row);
+    let (reads, row) = cell(row);
+    let (appends, row) = cell(row);
+    let (outputs, row) = cell(row);
+    let (room, row) = cell(row);
+    let (line, held) = cell(row);
+    let line = text_of(rt.alloc(), line)?;
+    let mut desk = inputs(rt.alloc(), program(), entries, capture())?;
+    put_outputs(&mut desk, outputs)?;
+    fail(&mut desk, reads, appends)?;
+    let expected = left_of(&line, held);
+    expect_end(
+        rt,
+        name_of(name),
+        &WORDS,
+        number_of(room),
+        &mut desk,
+        expected,
+    )?;
+    expect_files(rt, name_of(name), &desk, expected);
+    Ok(())
 }
 
 #[test]
-fn a_refused_program_and_refused_entries(rt: HostRuntime) -> Result<(), Fail> {
-    let alloc = rt.alloc();
-    let other = b"control ingress { }";
-    expect_refused(&rt, alloc, other, b"", 100, 3, b"refused C2\n")?;
-    // The first cause in the order of the work counts.
-    expect_refused(&rt, alloc, other, b"\n", 100, 3, b"refused C2\n")?;
-    expect_refused(&rt, alloc, program(), b"\n", 100, 4, b"refused E1 at 1:1\n")?;
-    // A sink that is full in the middle of the line.
-    expect_refused(&rt, alloc, program(), b"#", 9, 1, b"refused E")
+fn each_fault_leaves_what_was_done(rt: HostRuntime) -> Result<(), Fail> {
+    let mut left = faults();
+    for _ in 0..faults().len() {
+        let (row, more) = cut(left, b'\n');
+        check_fault(&rt, row)?;
+        if more.is_empty() {
+            break;
+        }
+        left = more;
+    }
+    Ok(())
 }

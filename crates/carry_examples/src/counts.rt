@@ -20,7 +20,14 @@ fn a_fault_is_counted_at_its_name_alone(rt: HostRuntime) -> Result<(), Fail> {
     let alloc = rt.alloc();
     let mut desk = named(alloc)?;
     desk.desk.fail_read("e", 1)?;
-    expect_end(&rt, alloc, &WORDS, 100, &mut desk, stopped(1, b"fault\n"))?;
+    expect_end(
+        &rt,
+        "counted",
+        &WORDS,
+        100,
+        &mut desk,
+        stopped(1, b"fault\n"),
+    )?;
     let one = Counts {
         entries: 1,
         ..NO_FAULTS
@@ -37,7 +44,7 @@ fn an_earlier_fault_of_another_name_is_no_cause(rt: HostRuntime) -> Result<(), F
     assert!(&rt; desk.read("none", 0, &mut [0; 1]).is_err());
     let report = b"sent 3 14\nin 1\nout 1\ncut 0\nwork 6\n";
     let expected = begun(0, b"carried 1 1 0\n", sent(), report);
-    expect_end(&rt, alloc, &WORDS, 100, &mut desk, expected)?;
+    expect_end(&rt, "counted", &WORDS, 100, &mut desk, expected)?;
     assert_eq!(&rt; desk.reads.others, 1);
     Ok(())
 }

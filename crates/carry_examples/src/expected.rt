@@ -1,18 +1,29 @@
-// What is expected of a run: its status and line, and what the outputs hold.
+// What is expected of a run: its status and line, and what the outputs hold. What fails is told by the name of its row.
 use crate::setting::{expect_file, run, text};
 use p4x_io::{Desk, MemoryDesk, MemorySink};
 use std::alloc::Global;
 use std::process::Abort;
 use std::test::Fail;
 
-/// What comes of a run. An output that isn't named isn't made.
+/// What becomes of an output.
+#[derive(Clone, Copy, Drop)]
+pub enum Output<'a> {
+    /// It isn't made.
+    Absent,
+    /// It isn't looked at.
+    Any,
+    /// It holds these octets.
+    Holds(&'a [u8]),
+}
+
+/// What comes of a run.
 #[derive(Clone, Copy, Drop)]
 pub struct Expected<'a> {
     pub status: u8,
     pub line: &'a [u8],
-    pub text: Option<&'a [u8]>,
-    pub sent: Option<&'a [u8]>,
-    pub report: Option<&'a [u8]>,
+    pub text: Output<'a>,
+    pub sent: Output<'a>,
+    pub report: Output<'a>,
 }
 
 /// The run stops before anything is written.
@@ -20,9 +31,9 @@ pub fn stopped(status: u8, line: &[u8]) -> Expected<'_> {
     Expected {
         status,
         line,
-        text: None,
-        sent: None,
-        report: None,
+        text: Output::Absent,
+        sent: Output::Absent,
+        report: Output::Absent,
     }
 }
 
@@ -31,45 +42,67 @@ pub fn begun<'a>(status: u8, line: &'a [u8], sent: &'a [u8], report: &'a [u8]) -
     Expected {
         status,
         line,
-        text: Some(text()),
-        sent: Some(sent),
-        report: Some(report),
+        text: Output::Holds(text()),
+        sent: Output::Holds(sent),
+        report: Output::Holds(report),
     }
+}
+
+/// The status of the words, with so much room for what is printed, and whether this line is printed.
+fn ended<D: Desk>(
+    alloc: Global,
+    words: &[&str],
+    room: usize,
+    desk: &mut D,
+    line: &[u8],
+) -> Result<(u8, bool), Fail> {
+    let mut sink = MemorySink::new(alloc, room)?;
+    let status = run(alloc, words, desk, &mut sink)?;
+    Ok((status, sink.text() == line))
 }
 
 /// Runs the words, with so much room for what is printed, and looks at the status and the line.
 pub fn expect_end<D: Desk>(
-    rt: &impl Abort,
-    alloc: Global,
+    rt: &(impl Abort + AllocGlobal),
+    row: &str,
     words: &[&str],
     room: usize,
     desk: &mut D,
     expected: Expected<'_>,
 ) -> Result<(), Fail> {
-    let mut sink = MemorySink::new(alloc, room)?;
-    let status = run(alloc, words, desk, &mut sink)?;
-    assert_eq!(rt; status, expected.status);
-    assert!(rt; sink.text() == expected.line);
+    let found = ended(rt.alloc(), words, room, desk, expected.line)?;
+    assert_eq!(rt; found, (expected.status, true), "{row}");
     Ok(())
 }
 
+fn expect_output(rt: &impl Abort, row: &str, desk: &MemoryDesk, name: &str, output: Output<'_>) {
+    match output {
+        Output::Absent => assert!(rt;
+            desk.file(name).is_none(),
+            "{row}: the file {name} is there"
+        ),
+        Output::Any => {}
+        Output::Holds(octets) => expect_file(rt, row, desk, name, octets),
+    }
+}
+
 /// The outputs hold what is expected, and no other file changed.
-pub fn expect_files(rt: &impl Abort, desk: &MemoryDesk, expected: Expected<'_>) {
-    expect_file(rt, desk, "t", expected.text);
-    expect_file(rt, desk, "s", expected.sent);
-    expect_file(rt, desk, "r", expected.report);
-    expect_file(rt, desk, "else", Some(b"x"));
+pub fn expect_files(rt: &impl Abort, row: &str, desk: &MemoryDesk, expected: Expected<'_>) {
+    expect_output(rt, row, desk, "t", expected.text);
+    expect_output(rt, row, desk, "s", expected.sent);
+    expect_output(rt, row, desk, "r", expected.report);
+    expect_file(rt, row, desk, "else", b"x");
 }
 
 /// Runs the words over a desk in memory, and looks at all that comes of it.
 pub fn expect_run(
-    rt: &impl Abort,
-    alloc: Global,
+    rt: &(impl Abort + AllocGlobal),
+    row: &str,
     words: &[&str],
     desk: &mut MemoryDesk,
     expected: Expected<'_>,
 ) -> Result<(), Fail> {
-    expect_end(rt, alloc, words, 100, desk, expected)?;
-    expect_files(rt, desk, expected);
+    expect_end(rt, row, words, 100, desk, expected)?;
+    expect_files(rt, row, desk, expected);
     Ok(())
 }

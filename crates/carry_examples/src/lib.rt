@@ -12,20 +12,20 @@ mod desks;
 #[cfg(test)]
 mod expected;
 #[cfg(test)]
+mod lines;
+#[cfg(test)]
 mod memory;
 pub mod named;
 #[cfg(test)]
-mod options;
+mod otherwise;
 pub mod plain;
 #[cfg(test)]
-mod ports;
-#[cfg(test)]
-mod runs;
+mod rows;
 #[cfg(test)]
 mod same;
 #[cfg(test)]
 mod setting;
 #[cfg(test)]
-mod sizes;
-#[cfg(test)]
 mod texts;
+#[cfg(test)]
+mod words;

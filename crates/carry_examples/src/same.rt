@@ -5,7 +5,7 @@ ghost use Rattle.carry_examples.specs.Plain.{AreWidths};
 
 use crate::plain::{Leaving, run14};
 use crate::setting::{
-    WORDS, behind, capture, desk, expect_file, front, nibbles, program, run, sent,
+    BEHIND_PORT, NIBBLES, WORDS, behind, capture, desk, front, program, run, sent,
 };
 use p4x_bits::Octets;
 use p4x_io::MemorySink;
@@ -68,6 +68,42 @@ fn packets(alloc: Global, header: usize) -> Result<Vec<Octets>, Fail> {
     Ok(list)
 }
 
+/// Whether a report begins with the lines of what leaves, and has no more of them.
+fn is_report(alloc: Global, report: Option<&[u8]>, leaving: &[Leaving]) -> Result<bool, Fail> {
+    let lines = lines_of(alloc, leaving)?;
+    match report {
+        Some(report) => Ok(
+            report.starts_with(lines.as_bytes()) && behind(report, lines.len()).starts_with(b"in "),
+        ),
+        None => Ok(false),
+    }
+}
+
+/// Whether the sent file is that of what leaves.
+fn is_sent(alloc: Global, sent: Option<&[u8]>, leaving: &[Leaving]) -> Result<bool, Fail> {
+    let wanted = sent_of(alloc, leaving)?;
+    match sent {
+        Some(sent) => Ok(sent == wanted.as_slice()),
+        None => Ok(false),
+    }
+}
+
+/// The status of the command over this program and these packets, and whether its sent file and its report tell what leaves.
+fn tells(
+    alloc: Global,
+    text: &[u8],
+    packets: &[Octets],
+    leaving: &[Leaving],
+) -> Result<(u8, bool, bool), Fail> {
+    let file = capture_of(alloc, packets)?;
+    let mut desk = desk(alloc, text, b"", &file)?;
+    let mut sink = MemorySink::new(alloc, 100)?;
+    let status = run(alloc, &WORDS, &mut desk, &mut sink)?;
+    let sent = is_sent(alloc, desk.file("s"), leaving)?;
+    let report = is_report(alloc, desk.file("r"), leaving)?;
+    Ok((status, sent, report))
+}
+
 /// The command over this program, and the plain program with these widths and this port, send the same.
 fn expect_same(
     rt: &impl Abort,
@@ -82,27 +118,17 @@ fn expect_same(
 {
     let packets = packets(alloc, header)?;
     let leaving = run14(alloc, widths, port, &packets)?;
-    let file = capture_of(alloc, &packets)?;
-    let mut desk = desk(alloc, text, b"", &file)?;
-    let mut sink = MemorySink::new(alloc, 100)?;
-    assert_eq!(rt; run(alloc, &WORDS, &mut desk, &mut sink)?, 0);
-    let sent = sent_of(alloc, leaving.as_slice())?;
-    expect_file(rt, &desk, "s", Some(&sent));
-    let lines = lines_of(alloc, leaving.as_slice())?;
-    match desk.file("r") {
-        Some(report) => {
-            assert!(rt;
-                report.starts_with(lines.as_bytes()),
-                "the lines of the report"
-            );
-            assert!(rt;
-                behind(report, lines.len()).starts_with(b"in "),
-                "no more lines"
-            );
-        }
-        None => panic!(rt; "there is no report"),
-    }
+    let told = tells(alloc, text, &packets, leaving.as_slice())?;
+    assert_eq!(rt; told, (0, true, true));
     Ok(())
+}
+
+/// A program whose header has 2 octets, of which two fields share the first, and which sends to a port.
+fn nibbles(alloc: Global, port: &[u8]) -> Result<Vec<u8>, Fail> {
+    let mut text = Vec::from_slice(alloc, NIBBLES)?;
+    text.extend_from_slice(port)?;
+    text.extend_from_slice(BEHIND_PORT)?;
+    Ok(text)
 }
 
 #[test]

@@ -7,7 +7,7 @@ use std::process::Abort;
 use std::test::Fail;
 
 /// The words of a run.
-pub const WORDS: [&str; 10] = [
+pub static WORDS: [&str; 10] = [
     "carry", "p", "e", "c", "--text", "t", "--sent", "s", "--report", "r",
 ];
 
@@ -20,31 +20,36 @@ pub fn program() -> &'static [u8] {
 pub fn text() -> &'static [u8] {
     b"#include <core.p4>
 #include <v1model.p4>
+
 header h_t {
     bit<48> f_a;
     bit<48> f_b;
     bit<16> f_c;
 }
+
 struct hs {
     h_t h;
 }
-struct ms {
-}
+
+struct ms { }
+
 parser P(packet_in p, out hs hdr, inout ms meta, inout standard_metadata_t sm) {
     state start {
         p.extract(hdr.h);
         transition accept;
     }
 }
+
 control V(inout hs hdr, inout ms meta) {
-    apply {
-    }
+    apply { }
 }
+
 control I(inout hs hdr, inout ms meta, inout standard_metadata_t sm) {
     @name(\"out3\")
     action a() {
         sm.egress_spec = 9w3;
     }
+
     @name(\"t\")
     table t {
         actions = {
@@ -52,6 +57,7 @@ control I(inout hs hdr, inout ms meta, inout standard_metadata_t sm) {
         }
         default_action = a();
     }
+
     apply {
         if (sm.parser_error == error.NoError) {
             t.apply();
@@ -60,37 +66,33 @@ control I(inout hs hdr, inout ms meta, inout standard_metadata_t sm) {
         }
     }
 }
+
 control E(inout hs hdr, inout ms meta, inout standard_metadata_t sm) {
-    apply {
-    }
+    apply { }
 }
+
 control C(inout hs hdr, inout ms meta) {
-    apply {
-    }
+    apply { }
 }
+
 control D(packet_out p, in hs hdr) {
     apply {
         p.emit(hdr.h);
     }
 }
+
 V1Switch(P(), V(), I(), E(), C(), D()) main;
 "
 }
 
-/// A program whose header has 2 octets, of which two fields share the first, and which sends to a port.
-pub fn nibbles(alloc: Global, port: &[u8]) -> Result<Vec<u8>, Fail> {
-    let mut text = Vec::from_slice(
-        alloc,
-        b"header_type n_t { fields { v : 4; w : 12; } } header n_t n;
+/// What stands in front of the port in a program whose header has 2 octets, of which two fields share the first.
+pub const NIBBLES: &[u8] = b"header_type n_t { fields { v : 4; w : 12; } } header n_t n;
 parser start { extract(n); return ingress; }
-action out() { modify_field(standard_metadata.egress_spec, ",
-    )?;
-    text.extend_from_slice(port)?;
-    text.extend_from_slice(
-        b"); } table t { actions { out; } default_action : out(); } control ingress { apply(t); }",
-    )?;
-    Ok(text)
-}
+action out() { modify_field(standard_metadata.egress_spec, ";
+
+/// What stands behind it.
+pub const BEHIND_PORT: &[u8] =
+    b"); } table t { actions { out; } default_action : out(); } control ingress { apply(t); }";
 
 /// A capture of link type 1 with one packet of 14 octets, of second 1 and microsecond 2.
 pub fn capture() -> &'static [u8] {
@@ -152,12 +154,11 @@ pub fn run<D: Desk>(
     Ok(p4x(alloc, &words, desk, sink))
 }
 
-/// The file of a name holds these octets, or isn't there.
-pub fn expect_file(rt: &impl Abort, desk: &MemoryDesk, name: &str, expected: Option<&[u8]>) {
-    match (desk.file(name), expected) {
-        (None, None) => {}
-        (Some(octets), Some(expected)) => assert!(rt; octets == expected, "the file {name}"),
-        (found, _) => panic!(rt; "the file {name} is there: {}", found.is_some()),
+/// The file of a name holds these octets.
+pub fn expect_file(rt: &impl Abort, row: &str, desk: &MemoryDesk, name: &str, expected: &[u8]) {
+    match desk.file(name) {
+        Some(octets) => assert!(rt; octets == expected, "{row}: the file {name}"),
+        None => panic!(rt; "{row}: there is no file {name}"),
     }
 }
 

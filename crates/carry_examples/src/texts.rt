@@ -1,157 +1,69 @@
-// Texts that read as a program of the form, and texts that don't.
-use crate::expected::{begun, expect_run, stopped};
-use crate::setting::{WORDS, capture, desk, program, run, sent};
-use p4x_io::MemorySink;
-use std::alloc::Global;
-use std::process::Abort;
-use std::test::Fail;
+// Programs that are carried as the common one is, and files that are refused before anything is written.
 
-/// The program with CR LF, tabs and the like, and no blank where none is needed.
-const OTHERWISE_SPACED: &[u8] =
+/// The common program with CR LF, tabs and the like, and no blank where none is needed.
+pub const OTHERWISE_SPACED: &[u8] =
     b"header_type\teth_t{fields{a:48;b:048;c:16;}}\r\nheader eth_t\x0beth;\r\nparser start{extract(eth);return ingress;}\r\naction out3(){modify_field(standard_metadata.egress_spec,3);}\r\ntable t{actions{out3;}default_action:out3();}\r\n\tcontrol\x0cingress{apply(t);}";
 
-/// A piece of the program, and what stands in its place in a text of the same program.
-const SAME: [(&[u8], &[u8]); 9] = [
-    (b"header eth_t eth;", b"/* one header */ header eth_t eth;"),
-    (b"header eth_t eth;", b"// one header\nheader eth_t eth;"),
-    (b"parser start", b"@pragma any words\nparser start"),
-    (b"spec, 3", b"spec, 0x3"),
-    (b"spec, 3", b"spec, 9'3"),
-    (b"spec, 3", b"spec, +0b1_1"),
-    (b"a : 48", b"a : 0x30"),
-    (b"out3();", b"out3;"),
-    (
-        b"actions { out3; } default_action : out3();",
-        b"default_action : out3(); actions { out3; }",
-    ),
-];
+/// A program, and `=` where the text that is written for it is that of the common one, and else `?`: comments, spellings and the
+/// order of attributes change nothing; a word of P4_14 is a name where none is quoted; a program may have 1,048,576 octets;
+/// and names of P4_16 are no obstacle.
+const CARRIED: &[u8] = b"~header eth_t eth;~/* one header */ header eth_t eth;|=
+~header eth_t eth;~// one header^header eth_t eth;|=
+~parser start~@pragma any words^parser start|=
+~spec, 3~spec, 0x3|=
+~spec, 3~spec, 9'3|=
+~spec, 3~spec, +0b1_1|=
+~a : 48~a : 0x30|=
+~out3();~out3;|=
+~actions { out3; } default_action : out3();~default_action : out3(); actions { out3; }|=
+~eth_t~table|=
+*1048576|=
+~out3~bit|?
+~out3~state|?
+~out3~select|?
+~out3~error|?
+~a : 48~header : 48|?";
 
-/// A piece of the program, what stands in its place in a text that is refused, and the line that is printed.
-const REFUSED: [(&[u8], &[u8], &[u8]); 17] = [
-    (b"a : 48;", b"a : 48", b"refused S1 at 1:37\n"),
-    (b"apply(t); }", b"apply(t); } ;", b"refused S1 at 6:31\n"),
-    (
-        b"header_type eth_t",
-        b"header_type eth_t$",
-        b"refused L1 at 1:18\n",
-    ),
-    (b"b : 48", b"a : 48", b"refused C1\n"),
-    (b"out3", b"drop", b"refused C1\n"),
-    (b"extract(eth)", b"extract(a)", b"refused C2\n"),
-    (b"b : 48", b"b : 0", b"refused C3\n"),
-    (b"b : 48; c : 16", b"b : 129; c : 15", b"refused C3\n"),
-    (b"c : 16", b"c : 15", b"refused C5\n"),
-    // What breaks no rule and isn't of the form.
-    (b"spec, 3", b"spec, 512", b"refused C25\n"),
-    (b"spec, 3", b"spec, -1", b"refused C25\n"),
-    (
-        b"modify_field(standard_metadata.egress_spec, 3)",
-        b"drop()",
-        b"refused C25\n",
-    ),
-    (b"out3() {", b"out3() { no_op();", b"refused C25\n"),
-    (
-        b"actions { out3; }",
-        b"actions { out3; } size : 1024;",
-        b"refused C25\n",
-    ),
-    (
-        b"actions { out3; }",
-        b"reads { eth.c : exact; } actions { out3; }",
-        b"refused C25\n",
-    ),
-    (
-        b"header eth_t eth;",
-        b"header eth_t eth; counter n { type : packets; instance_count : 1; }",
-        b"refused C25\n",
-    ),
-    (
-        b"control ingress",
-        b"control egress { } control ingress",
-        b"refused C25\n",
-    ),
-];
-
-/// A text with each piece that is `old` replaced.
-fn edited(alloc: Global, text: &[u8], old: &[u8], new: &[u8]) -> Result<Vec<u8>, Fail> {
-    let mut edit = Vec::new(alloc);
-    let mut from = 0usize;
-    for at in 0..text.len() {
-        if at >= from {
-            if text.split_at(at).1.starts_with(old) {
-                edit.extend_from_slice(new)?;
-                from = at.saturating_add(old.len());
-            } else {
-                edit.push(text[at])?;
-            }
-        }
-    }
-    Ok(edit)
+/// The programs that are carried as the common one is.
+pub fn carried() -> &'static [u8] {
+    CARRIED
 }
 
-/// A text is carried as the common program is.
-fn expect_carried(rt: &impl Abort, alloc: Global, program: &[u8]) -> Result<(), Fail> {
-    let mut desk = desk(alloc, program, b"", capture())?;
-    let report = b"sent 3 14\nin 1\nout 1\ncut 0\nwork 6\n";
-    let expected = begun(0, b"carried 1 1 0\n", sent(), report);
-    expect_run(rt, alloc, &WORDS, &mut desk, expected)
-}
+/// The program; the entries; the capture; the file of ports, `-` where none is named and `!` where it isn't there; the file whose
+/// first read fails; the status, and what is printed. The first cause in the order of the work counts, and the first bad line.
+const STOPS: &[u8] = b"~a : 48;~a : 48||c0:54|-||3|refused S1 at 1:37^
+~apply(t); }~apply(t); } ;||c0:54|-||3|refused S1 at 6:31^
+~header_type eth_t~header_type eth_t$||c0:54|-||3|refused L1 at 1:18^
+~b : 48~a : 48||c0:54|-||3|refused C1^
+~out3~drop||c0:54|-||3|refused C1^
+~extract(eth)~extract(a)||c0:54|-||3|refused C2^
+~b : 48~b : 0||c0:54|-||3|refused C3^
+~b : 48; c : 16~b : 129; c : 15||c0:54|-||3|refused C3^
+~c : 16~c : 15||c0:54|-||3|refused C5^
+~spec, 3~spec, 512||c0:54|-||3|refused C25^
+~spec, 3~spec, -1||c0:54|-||3|refused C25^
+~modify_field(standard_metadata.egress_spec, 3)~drop()||c0:54|-||3|refused C25^
+~out3() {~out3() { no_op();||c0:54|-||3|refused C25^
+~actions { out3; }~actions { out3; } size : 1024;||c0:54|-||3|refused C25^
+~actions { out3; }~reads { eth.c : exact; } actions { out3; }||c0:54|-||3|refused C25^
+~header eth_t eth;~header eth_t eth; counter n { type : packets; instance_count : 1; }||c0:54|-||3|refused C25^
+~control ingress~control egress { } control ingress||c0:54|-||3|refused C25^
+'||c0:54|-||3|refused C2^
+'control ingress { }||c0:54|-||3|refused C2^
+'control ingress { }|^|c0:54|-||3|refused C2^
+=|^|c0:54|-||4|refused E1 at 1:1^
+'control ingress { }|#|c0:23|511||3|refused C2^
+=|#|c0:23|511||4|refused E1 at 1:1^
+=||c0:23|511||5|refused P2 at 1:1^
+=||c0:54|5^511^||5|refused P2 at 2:1^
+=||c0:54|x^||5|refused P1 at 1:1^
+=||c0:54|x^511^||5|refused P1 at 1:1^
+=||c0:54|*4194305||6|limit ports^
+*1048577||c0:54|-||6|limit program^
+=||c0:54|!||1|fault^
+=||c0:54|5^|o|1|fault^";
 
-/// A text is carried, whatever its names are.
-fn expect_status(rt: &impl Abort, alloc: Global, text: &[u8], expected: u8) -> Result<(), Fail> {
-    let mut desk = desk(alloc, text, b"", capture())?;
-    let mut sink = MemorySink::new(alloc, 100)?;
-    let status = run(alloc, &WORDS, &mut desk, &mut sink)?;
-    assert_eq!(rt; status, expected);
-    Ok(())
-}
-
-/// A text is refused with this line, and no output is made.
-fn expect_line(rt: &impl Abort, alloc: Global, program: &[u8], line: &[u8]) -> Result<(), Fail> {
-    let mut desk = desk(alloc, program, b"", capture())?;
-    expect_run(rt, alloc, &WORDS, &mut desk, stopped(3, line))
-}
-
-#[test]
-fn a_program_is_read_in_any_spacing(rt: HostRuntime) -> Result<(), Fail> {
-    expect_carried(&rt, rt.alloc(), OTHERWISE_SPACED)
-}
-
-#[test]
-fn comments_and_spellings_and_the_order_of_attributes_change_nothing(
-    rt: HostRuntime,
-) -> Result<(), Fail> {
-    for (old, new) in SAME {
-        let edit = edited(rt.alloc(), program(), old, new)?;
-        assert!(rt; edit.as_slice() != program());
-        expect_carried(&rt, rt.alloc(), &edit)?;
-    }
-    Ok(())
-}
-
-#[test]
-fn what_differs_in_one_place_is_refused_with_its_rule(rt: HostRuntime) -> Result<(), Fail> {
-    for (old, new, line) in REFUSED {
-        let edit = edited(rt.alloc(), program(), old, new)?;
-        assert!(rt; edit.as_slice() != program());
-        expect_line(&rt, rt.alloc(), &edit, line)?;
-    }
-    expect_line(&rt, rt.alloc(), b"", b"refused C2\n")
-}
-
-#[test]
-fn a_word_of_p4_14_is_a_name_where_none_is_quoted(rt: HostRuntime) -> Result<(), Fail> {
-    let edit = edited(rt.alloc(), program(), b"eth_t", b"table")?;
-    expect_carried(&rt, rt.alloc(), &edit)
-}
-
-#[test]
-fn names_of_p4_16_are_no_obstacle(rt: HostRuntime) -> Result<(), Fail> {
-    for name in [b"bit".as_slice(), b"state", b"select", b"error"] {
-        let edit = edited(rt.alloc(), program(), b"out3", name)?;
-        expect_status(&rt, rt.alloc(), &edit, 0)?;
-        let edit = edited(rt.alloc(), program(), b"a : 48", b"header : 48")?;
-        expect_status(&rt, rt.alloc(), &edit, 0)?;
-    }
-    Ok(())
+/// The files that are refused.
+pub fn stops() -> &'static [u8] {
+    STOPS
 }

@@ -1,1 +1,3 @@
 pub mod Spelt
+pub mod Fields
+pub mod Rules

@@ -4,8 +4,8 @@ ghost use Rattle.p416_ast.specs.Written.{written_action_name};
 ghost use Rattle.p416_spelling.specs.Words.{words16};
 ghost use Rattle.p416_decl_writer.specs.Tokens.{are_spelt};
 
-use crate::lists::write_all;
 use crate::names::{write_heading, write_name};
+use crate::notes::write_notes;
 use crate::params::{write_block, write_params};
 use crate::written::Written;
 use p4x_bits::OutOfMemory;
@@ -24,8 +24,8 @@ impl Written for Action16 {
 
     #[tactic(auto, using(crate::proofs::Spelt::action_called, crate::proofs::Spelt::action_params, crate::proofs::Spelt::action_body))]
     fn write(&self, alloc: Global, sheet: &mut Sheet16, gap: Gap) -> Result<(), OutOfMemory> {
-        write_all(alloc, sheet, gap, self.notes.as_slice())?;
-        write_heading(alloc, sheet, gap, Keyword16::Action, &self.name)?;
+        let line = write_notes(alloc, sheet, gap, self.notes.as_slice())?;
+        write_heading(alloc, sheet, line, Keyword16::Action, &self.name)?;
         write_params(alloc, sheet, self.parameters.as_slice())?;
         write_block(alloc, sheet, &self.body)
     }

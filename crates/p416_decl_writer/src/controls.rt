@@ -1,4 +1,5 @@
 // Controls and what is declared in them.
+use crate::gaps::{on_next_line, set_apart};
 use crate::lists::write_all;
 use crate::names::write_heading;
 use crate::objects::write_object;
@@ -21,9 +22,9 @@ impl Written for Local {
     fn write(&self, alloc: Global, sheet: &mut Sheet16, gap: Gap) -> Result<(), OutOfMemory> {
         match self {
             Local::Instance(notes, object) => {
-                write_object(alloc, sheet, gap, notes.as_slice(), object)
+                write_object(alloc, sheet, on_next_line(gap), notes.as_slice(), object)
             }
-            Local::Var(var) => var.write(alloc, sheet, gap),
+            Local::Var(var) => var.write(alloc, sheet, on_next_line(gap)),
             Local::Action(action) => action.write(alloc, sheet, gap),
             Local::Table(table) => table.write(alloc, sheet, gap),
         }
@@ -43,8 +44,13 @@ impl Written for Control16 {
         write_heading(alloc, sheet, gap, Keyword16::Control, &self.name)?;
         write_params(alloc, sheet, self.parameters.as_slice())?;
         put_tokens(alloc, sheet, &[mark!(Gap::Space, BraceOpen)])?;
-        write_all(alloc, sheet, Gap::Line(1), self.locals.as_slice())?;
-        put_tokens(alloc, sheet, &[word!(Gap::Line(1), Apply)])?;
+        let locals = self.locals.as_slice();
+        write_all(alloc, sheet, Gap::Line(1), Gap::Paragraph(1), locals)?;
+        put_tokens(
+            alloc,
+            sheet,
+            &[word!(set_apart(1, locals.is_empty()), Apply)],
+        )?;
         write_block(alloc, sheet, &self.body)?;
         put_tokens(alloc, sheet, &[mark!(Gap::Line(0), BraceClose)])
     }

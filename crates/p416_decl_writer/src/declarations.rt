@@ -36,7 +36,7 @@ impl Written for Decl16 {
     }
 }
 
-/// Writes declarations behind what stands on the sheet, each on a line of its own, with parentheses around the parts of their
+/// Writes declarations behind what stands on the sheet, each behind a blank line, with parentheses around the parts of their
 /// expressions (P4_16 1.2, "P4 grammar").
 ///
 /// # Errors
@@ -50,7 +50,13 @@ pub fn write_declarations(
     requires { IsTrue (are_spelt (flat_map written_decl declarations.now)) }
     ensures { OnOk result (sheet.new ≡ sheet.old ++ words16 (flat_map written_decl (map full_decl declarations.now))) }
 {
-    write_all(alloc, sheet, Gap::Line(0), declarations)
+    write_all(
+        alloc,
+        sheet,
+        Gap::Paragraph(0),
+        Gap::Paragraph(0),
+        declarations,
+    )
 }
 
 impl Written for Text {
@@ -73,7 +79,7 @@ impl Written for Text {
     }
 }
 
-/// Writes `V1Switch(NAME(), ..) main;` on a line of its own.
+/// Writes `V1Switch(NAME(), ..) main;` behind a blank line.
 ///
 /// # Errors
 /// It fails for want of memory alone.
@@ -85,7 +91,7 @@ pub fn write_main(alloc: Global, sheet: &mut Sheet16, names: &[Text]) -> Result<
         alloc,
         sheet,
         &[
-            word!(Gap::Line(0), V1Switch),
+            word!(Gap::Paragraph(0), V1Switch),
             mark!(Gap::Nothing, ParenOpen),
         ],
     )?;

@@ -1,6 +1,8 @@
 // Header and struct types.
+use crate::gaps::closing;
 use crate::lists::write_all;
 use crate::names::{write_heading, write_name};
+use crate::notes::write_notes;
 use crate::written::Written;
 use p4x_bits::OutOfMemory;
 use p416_ast::{BitField, Header16, Struct16, StructField};
@@ -43,8 +45,13 @@ impl Written for Header16 {
     fn write(&self, alloc: Global, sheet: &mut Sheet16, gap: Gap) -> Result<(), OutOfMemory> {
         write_heading(alloc, sheet, gap, Keyword16::Header, &self.name)?;
         put_tokens(alloc, sheet, &[mark!(Gap::Space, BraceOpen)])?;
-        write_all(alloc, sheet, Gap::Line(1), self.fields.as_slice())?;
-        put_tokens(alloc, sheet, &[mark!(Gap::Line(0), BraceClose)])
+        let fields = self.fields.as_slice();
+        write_all(alloc, sheet, Gap::Line(1), Gap::Line(1), fields)?;
+        put_tokens(
+            alloc,
+            sheet,
+            &[mark!(closing(0, fields.is_empty()), BraceClose)],
+        )
     }
 }
 
@@ -57,8 +64,8 @@ impl Written for StructField {
 
     #[tactic(auto, using(crate::proofs::Spelt::field_type, crate::proofs::Spelt::field_name))]
     fn write(&self, alloc: Global, sheet: &mut Sheet16, gap: Gap) -> Result<(), OutOfMemory> {
-        write_all(alloc, sheet, gap, self.notes.as_slice())?;
-        write_type(alloc, sheet, gap, &self.of)?;
+        let line = write_notes(alloc, sheet, gap, self.notes.as_slice())?;
+        write_type(alloc, sheet, line, &self.of)?;
         write_name(alloc, sheet, Gap::Space, &self.name)?;
         put_tokens(alloc, sheet, &[mark!(Gap::Nothing, Semicolon)])
     }
@@ -75,7 +82,12 @@ impl Written for Struct16 {
     fn write(&self, alloc: Global, sheet: &mut Sheet16, gap: Gap) -> Result<(), OutOfMemory> {
         write_heading(alloc, sheet, gap, Keyword16::Struct, &self.name)?;
         put_tokens(alloc, sheet, &[mark!(Gap::Space, BraceOpen)])?;
-        write_all(alloc, sheet, Gap::Line(1), self.fields.as_slice())?;
-        put_tokens(alloc, sheet, &[mark!(Gap::Line(0), BraceClose)])
+        let fields = self.fields.as_slice();
+        write_all(alloc, sheet, Gap::Line(1), Gap::Line(1), fields)?;
+        put_tokens(
+            alloc,
+            sheet,
+            &[mark!(closing(0, fields.is_empty()), BraceClose)],
+        )
     }
 }

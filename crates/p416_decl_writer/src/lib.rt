@@ -1,5 +1,6 @@
 //! Declarations of P4_16 that are written: each declaration, field, statement, property and state on a line of its own, four
-//! blanks a level.
+//! blanks a level, up to 32 levels. A blank line sets apart declarations, states, actions, tables and `apply` from what stands
+//! before them, and nothing between braces is `{ }`.
 #![tactic(auto)]
 
 /// A mark, with what stands in front of it.
@@ -46,6 +47,7 @@ mod actions;
 mod controls;
 mod declarations;
 mod fields;
+mod gaps;
 mod lists;
 mod names;
 mod notes;

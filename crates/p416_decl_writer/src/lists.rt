@@ -11,18 +11,21 @@ use p416_lexemes::Mark16;
 use p416_sheet::{Gap, Sheet16, Token16, put_token};
 use std::alloc::Global;
 
-/// Writes parts one after another, with this in front of each.
+/// Writes parts one after another, with the one gap in front of the first and the other in front of each further one.
 pub fn write_all<T: Written>(
     alloc: Global,
     sheet: &mut Sheet16,
-    gap: Gap,
+    first: Gap,
+    further: Gap,
     items: &[T],
 ) -> Result<(), OutOfMemory>
     requires { IsTrue (are_spelt (flat_map T.plain items.now)) }
     ensures { OnOk result (sheet.new ≡ sheet.old ++ words16 (flat_map T.full items.now)) }
 {
+    let mut gap = first;
     for item in items {
         item.write(alloc, sheet, gap)?;
+        gap = further;
     }
     Ok(())
 }

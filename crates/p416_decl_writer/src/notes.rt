@@ -1,8 +1,12 @@
 // Annotations and numbers.
-ghost use Rattle.std.specs.Prelude.{◌≡◌};
+ghost use Rattle.std.specs.Prelude.{◌≡◌, ◌++◌, OnOk, IsTrue};
+ghost use Rattle.p416_ast.specs.Written.{written_notes};
+ghost use Rattle.p416_spelling.specs.Words.{words16};
 ghost use Rattle.p416_sheet.specs.declared.sheet.Token16.TheVariants.{At};
+ghost use Rattle.p416_decl_writer.specs.Tokens.{are_spelt};
 
-use crate::lists::write_by_commas;
+use crate::gaps::on_next_line;
+use crate::lists::{write_all, write_by_commas};
 use crate::written::Written;
 use p4x_bits::OutOfMemory;
 use p416_ast::Note;
@@ -57,6 +61,30 @@ impl Written for Note {
                 put_tokens(alloc, sheet, &[mark!(Gap::Nothing, ParenClose)])
             }
         }
+    }
+}
+
+/// Writes the annotations of a declaration or a field, and tells what stands in front of the rest of it: where there are
+/// annotations, it stands on the next line.
+pub fn write_notes(
+    alloc: Global,
+    sheet: &mut Sheet16,
+    gap: Gap,
+    notes: &[Note],
+) -> Result<Gap, OutOfMemory>
+    requires { IsTrue (are_spelt (written_notes notes.now)) }
+    ensures { OnOk result (sheet.new ≡ sheet.old ++ words16 (written_notes notes.now)) }
+{
+    write_all(alloc, sheet, gap, on_next_line(gap), notes)?;
+    Ok(behind(gap, notes))
+}
+
+/// What stands in front of what has these annotations.
+fn behind(gap: Gap, notes: &[Note]) -> Gap {
+    if notes.is_empty() {
+        gap
+    } else {
+        on_next_line(gap)
     }
 }
 

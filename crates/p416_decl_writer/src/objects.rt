@@ -8,8 +8,8 @@ ghost use Rattle.p416_parentheses.specs.Syntax.{full_instance};
 ghost use Rattle.p416_spelling.specs.Words.{words16};
 ghost use Rattle.p416_decl_writer.specs.Tokens.{are_spelt};
 
-use crate::lists::write_all;
 use crate::names::write_name;
+use crate::notes::write_notes;
 use crate::params::write_member;
 use crate::written::Written;
 use p4x_bits::{OutOfMemory, Text};
@@ -133,7 +133,7 @@ pub fn write_object(
     requires { IsTrue (are_spelt (written_object notes.now object.now)) }
     ensures { OnOk result (sheet.new ≡ sheet.old ++ words16 (written_object notes.now (full_instance object.now))) }
 {
-    write_all(alloc, sheet, gap, notes)?;
-    object.write(alloc, sheet, gap)?;
+    let line = write_notes(alloc, sheet, gap, notes)?;
+    object.write(alloc, sheet, line)?;
     put_tokens(alloc, sheet, &[mark!(Gap::Nothing, Semicolon)])
 }

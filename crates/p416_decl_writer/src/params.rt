@@ -8,11 +8,12 @@ ghost use Rattle.p416_parentheses.specs.Syntax.{full_stmt};
 ghost use Rattle.p416_spelling.specs.Words.{words16};
 ghost use Rattle.p416_decl_writer.specs.Tokens.{are_spelt};
 
+use crate::gaps::closing;
 use crate::lists::write_by_commas;
 use crate::names::write_name;
 use crate::written::Written;
 use p4x_bits::OutOfMemory;
-use p416_ast::{Block16, Direction, Exp, Member, Param, Type16, Var};
+use p416_ast::{Block16, Direction, Exp, Member, Param, StmtHead, Type16, Var};
 use p416_exp_writer::{Form, write_expression, write_type};
 use p416_lexemes::{Keyword16, Mark16};
 use p416_sheet::{Gap, Put16, Sheet16, TextView, Token16, put_token, put_tokens};
@@ -114,6 +115,11 @@ fn write_initial(
     }
 }
 
+/// Whether a block has no statements.
+fn is_without_statements(body: &Block16) -> bool {
+    matches!(body.statements().head(), StmtHead::NoStatements)
+}
+
 /// Writes ` { STATEMENT .. }` in a control, its statements two levels deep.
 pub fn write_block(alloc: Global, sheet: &mut Sheet16, body: &Block16) -> Result<(), OutOfMemory>
     requires { IsTrue (are_spelt (written_block body.now)) }
@@ -121,7 +127,8 @@ pub fn write_block(alloc: Global, sheet: &mut Sheet16, body: &Block16) -> Result
 {
     put_tokens(alloc, sheet, &[mark!(Gap::Space, BraceOpen)])?;
     write_statements(alloc, sheet, 2, body.statements())?;
-    put_tokens(alloc, sheet, &[mark!(Gap::Line(1), BraceClose)])
+    let gap = closing(1, is_without_statements(body));
+    put_tokens(alloc, sheet, &[mark!(gap, BraceClose)])
 }
 
 /// Writes a member of an enumeration.

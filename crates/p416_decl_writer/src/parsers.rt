@@ -1,4 +1,5 @@
 // Parsers.
+use crate::gaps::{closing, set_apart};
 use crate::lists::write_all;
 use crate::names::write_heading;
 use crate::params::write_params;
@@ -8,6 +9,11 @@ use p416_ast::Parser16;
 use p416_lexemes::{Keyword16, Mark16};
 use p416_sheet::{Gap, Put16, Sheet16, Token16, put_tokens};
 use std::alloc::Global;
+
+/// Whether a parser has neither variables nor states.
+fn is_without_parts(parser: &Parser16) -> bool {
+    parser.vars.as_slice().is_empty() && parser.states.as_slice().is_empty()
+}
 
 impl Written for Parser16 {
     ghost use Rattle.p416_ast.specs.Written.{written_parser};
@@ -22,8 +28,20 @@ impl Written for Parser16 {
         write_heading(alloc, sheet, gap, Keyword16::Parser, &self.name)?;
         write_params(alloc, sheet, self.parameters.as_slice())?;
         put_tokens(alloc, sheet, &[mark!(Gap::Space, BraceOpen)])?;
-        write_all(alloc, sheet, Gap::Line(1), self.vars.as_slice())?;
-        write_all(alloc, sheet, Gap::Line(1), self.states.as_slice())?;
-        put_tokens(alloc, sheet, &[mark!(Gap::Line(0), BraceClose)])
+        let vars = self.vars.as_slice();
+        write_all(alloc, sheet, Gap::Line(1), Gap::Line(1), vars)?;
+        let first = set_apart(1, vars.is_empty());
+        write_all(
+            alloc,
+            sheet,
+            first,
+            Gap::Paragraph(1),
+            self.states.as_slice(),
+        )?;
+        put_tokens(
+            alloc,
+            sheet,
+            &[mark!(closing(0, is_without_parts(self)), BraceClose)],
+        )
     }
 }

@@ -9,6 +9,7 @@ ghost use Rattle.p416_parentheses.specs.Syntax.{full_one, full_case};
 ghost use Rattle.p416_spelling.specs.Words.{words16};
 ghost use Rattle.p416_decl_writer.specs.Tokens.{are_spelt};
 
+use crate::gaps::closing;
 use crate::lists::{write_all, write_by_commas};
 use crate::names::{write_heading, write_name};
 use crate::written::Written;
@@ -195,8 +196,12 @@ fn write_select(
             mark!(Gap::Space, BraceOpen),
         ],
     )?;
-    write_all(alloc, sheet, Gap::Line(3), cases)?;
-    put_tokens(alloc, sheet, &[mark!(Gap::Line(2), BraceClose)])
+    write_all(alloc, sheet, Gap::Line(3), Gap::Line(3), cases)?;
+    put_tokens(
+        alloc,
+        sheet,
+        &[mark!(closing(2, cases.is_empty()), BraceClose)],
+    )
 }
 
 impl Written for State {

@@ -7,8 +7,10 @@ ghost use Rattle.p416_spelling.specs.Words.{words16};
 ghost use Rattle.p416_decl_writer.specs.Tokens.{are_spelt};
 
 use crate::actions::write_action_name;
+use crate::gaps::closing;
 use crate::lists::write_all;
 use crate::names::{write_heading, write_name};
+use crate::notes::write_notes;
 use crate::written::Written;
 use p4x_bits::OutOfMemory;
 use p416_ast::{ActionName, Exp, Property, Table16, TableKey};
@@ -30,7 +32,7 @@ impl Written for TableKey {
         write_expression(alloc, sheet, gap, Form::Full, self.exp.view())?;
         put_tokens(alloc, sheet, &[mark!(Gap::Nothing, Colon)])?;
         write_name(alloc, sheet, Gap::Space, &self.kind)?;
-        write_all(alloc, sheet, Gap::Space, self.notes.as_slice())?;
+        write_all(alloc, sheet, Gap::Space, Gap::Space, self.notes.as_slice())?;
         put_tokens(alloc, sheet, &[mark!(Gap::Nothing, Semicolon)])
     }
 }
@@ -93,8 +95,12 @@ fn write_keys(
             mark!(Gap::Space, BraceOpen),
         ],
     )?;
-    write_all(alloc, sheet, Gap::Line(3), keys)?;
-    put_tokens(alloc, sheet, &[mark!(Gap::Line(2), BraceClose)])
+    write_all(alloc, sheet, Gap::Line(3), Gap::Line(3), keys)?;
+    put_tokens(
+        alloc,
+        sheet,
+        &[mark!(closing(2, keys.is_empty()), BraceClose)],
+    )
 }
 
 /// Writes `actions = { NAME; .. }`, each name on a line of its own.
@@ -116,7 +122,7 @@ fn write_actions(
             mark!(Gap::Space, BraceOpen),
         ],
     )?;
-    write_all(alloc, sheet, Gap::Line(3), names)?;
+    write_all(alloc, sheet, Gap::Line(3), Gap::Line(3), names)?;
     put_tokens(alloc, sheet, &[mark!(Gap::Line(2), BraceClose)])
 }
 
@@ -160,10 +166,16 @@ impl Written for Table16 {
 
     #[tactic(auto, using(crate::proofs::Spelt::table_called, crate::proofs::Spelt::table_properties))]
     fn write(&self, alloc: Global, sheet: &mut Sheet16, gap: Gap) -> Result<(), OutOfMemory> {
-        write_all(alloc, sheet, gap, self.notes.as_slice())?;
-        write_heading(alloc, sheet, gap, Keyword16::Table, &self.name)?;
+        let line = write_notes(alloc, sheet, gap, self.notes.as_slice())?;
+        write_heading(alloc, sheet, line, Keyword16::Table, &self.name)?;
         put_tokens(alloc, sheet, &[mark!(Gap::Space, BraceOpen)])?;
-        write_all(alloc, sheet, Gap::Line(2), self.properties.as_slice())?;
+        write_all(
+            alloc,
+            sheet,
+            Gap::Line(2),
+            Gap::Line(2),
+            self.properties.as_slice(),
+        )?;
         put_tokens(alloc, sheet, &[mark!(Gap::Line(1), BraceClose)])
     }
 }

@@ -239,10 +239,9 @@ fn else_body_of(level: u8, statement: StmtView<'_>) -> Work<'_>
     ensures { step_of result ≡ part statement.entry }
 {
     match statement.head() {
-        StmtHead::Block(_) => Work::Stmt(Gap::Space, level, statement),
         StmtHead::If(_, _) => Work::Stmt(Gap::Space, level, statement),
         StmtHead::IfElse(_, _, _) => Work::Stmt(Gap::Space, level, statement),
-        _ => Work::Stmt(Gap::Line(deeper(level)), deeper(level), statement),
+        _ => body_of(level, statement),
     }
 }
 

@@ -12,8 +12,7 @@ f(a, b);
 ";
 
 const BLOCKS: &[u8] = b"
-{
-}
+{ }
 {
     ;
     {
@@ -28,8 +27,7 @@ if (a) {
 }
 if ((a == b) && c)
     b = c;
-if (a.isValid()) {
-} else {
+if (a.isValid()) { } else {
     b = c;
 }
 if (a)
@@ -45,8 +43,7 @@ if (a) {
     e = f;
 } else if (g)
     ;
-else {
-}
+else { }
 ";
 
 const NESTED: &[u8] = b"
@@ -70,14 +67,12 @@ if (a) {
 ";
 
 const SWITCHES: &[u8] = b"
-switch (t.apply().action_run) {
-}
+switch (t.apply().action_run) { }
 switch (t.apply().action_run) {
     a: {
         b = c;
     }
-    default: {
-    }
+    default: { }
 }
 ";
 

@@ -10,4 +10,5 @@ mod seen;
 mod steps;
 
 pub use fault::Check16;
-pub use program::{Program16, check16};
+pub use p416_program::Program16;
+pub use program::check16;

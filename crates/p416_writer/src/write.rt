@@ -24,14 +24,15 @@ use std::alloc::Global;
 ///
 /// Its tokens are those of the syntax with parentheses around the parts of expressions, around each operator between two
 /// operands among them (`divided`). It reads as this syntax (`reads`), and as no other (`alone`). Each declaration, field,
-/// statement, property and state begins a line, four blanks in for each level.
+/// statement, property and state begins a line, four blanks in for each level, up to 32 levels. A blank line stands between
+/// declarations and between states, and in front of actions, tables and `apply` that follow something.
 ///
 /// Its time and its memory are proportional to the size of the syntax, at any depth.
 ///
 /// # Errors
 /// It fails for want of memory alone.
 #[tactic(auto, using(crate::proofs::Spelt::all_spelt))]
-pub fn write16(alloc: Global, syntax: &Syntax16) -> Result<Octets, OutOfMemory>
+pub fn write_syntax16(alloc: Global, syntax: &Syntax16) -> Result<Octets, OutOfMemory>
     requires { IsTrue (is_spelt16 syntax.now) }
     ensures divided { IfOk result (λ text. IsDividedInto front meets16 text (words16 (written (full_syntax syntax.now)))) }
     ensures reads { IfOk result (λ text. Reads16 text syntax.now) }
@@ -47,13 +48,13 @@ fn written_text(alloc: Global, syntax: &Syntax16) -> Result<Octets, OutOfMemory>
     ensures { IfOk result (λ text. IsDividedInto front meets16 text (words16 (written (full_syntax syntax.now)))) }
 {
     let mut sheet = Sheet16::new(alloc);
-    write_syntax(alloc, &mut sheet, syntax)?;
+    put_syntax(alloc, &mut sheet, syntax)?;
     sheet.finish()
 }
 
-/// Writes the include lines, the declarations and `main`.
+/// Puts the include lines, the declarations and `main` on a sheet.
 #[tactic(auto, using(crate::proofs::Spelt::decls_spelt, crate::proofs::Spelt::main_spelt))]
-fn write_syntax(alloc: Global, sheet: &mut Sheet16, syntax: &Syntax16) -> Result<(), OutOfMemory>
+fn put_syntax(alloc: Global, sheet: &mut Sheet16, syntax: &Syntax16) -> Result<(), OutOfMemory>
     requires { IsTrue (list_all is_spelt_seen (written syntax.now)) }
     ensures { OnOk result (sheet.new ≡ sheet.old ++ words16 (written (full_syntax syntax.now))) }
 {

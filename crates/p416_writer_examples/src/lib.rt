@@ -1,5 +1,13 @@
-//! Examples of `p416_writer`: programs with declarations of each kind, as they are written.
+//! Examples of `p416_writer`: how programs are laid out, what checked programs are written as, and names and nestings at the edge.
 #![tactic(auto)]
 
 #[cfg(test)]
-mod programs;
+mod checked;
+#[cfg(test)]
+mod edges;
+#[cfg(test)]
+mod layouts;
+#[cfg(test)]
+mod texts;
+#[cfg(test)]
+mod written;

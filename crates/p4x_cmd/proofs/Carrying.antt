@@ -20,7 +20,7 @@ use Rattle.match_core.specs.Stores.{first_store}
 use Rattle.p4x_cmd.specs.Passes.{PassEnd, Pass, dropped, leaves, run_of, run_from, sent_from}
 use Rattle.p4x_cmd.specs.internal.Plain.{plain_pass, IsSized}
 use Rattle.p414_one_table.specs.Programs.{is_one_table}
-use Rattle.p4x_cmd.specs.Forms16.{program16}
+use Rattle.one_table_text.specs.Programs.{program16}
 use Rattle.p4x_cmd.specs.internal.Lowering.{lowered}
 use Rattle.p4x_cmd.specs.Meaning14.{Run14, table14, signature14, pass14, widths14, State14, start14, extract14, after_parser14, after_ingress14, apply14}
 use Rattle.p4x_cmd.specs.Meaning16.{Run16, signature16, pass16}

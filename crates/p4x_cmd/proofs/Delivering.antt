@@ -13,7 +13,7 @@ use Rattle.run_stream.specs.Runs.{Ran, run_of}
 use Rattle.run_stream.proofs.Pieces.{exact_part}
 use Rattle.one_table_text.specs.declared.one_table.OneTable16.{OneTable16}
 use Rattle.p4x_cmd.specs.Carry.{capture_reports}
-use Rattle.p4x_cmd.specs.Forms16.{program16}
+use Rattle.one_table_text.specs.Programs.{program16}
 use Rattle.p4x_cmd.specs.Reports.{lined}
 use Rattle.p4x_cmd.specs.internal.Phases.{Delivers}
 use Rattle.p4x_cmd.specs.internal.Plain.{own_outcome, no_store}

@@ -1,22 +1,19 @@
 -- What a P4_14 program of the one-table form becomes keeps the rules of P4_16.
-use Rattle.std.proofs.Common.{◌≡◌, refl, sym, subst, ap, ◌∙◌, ℕ, ◌%◌, Bool, true, not, List, [], ◌∷◌, ◌++◌, length, map, ◌||◌}
+use Rattle.std.proofs.Common.{◌≡◌, refl, ap, ◌∙◌, ℕ, ◌%◌, Bool, true, not, List, [], ◌∷◌, ◌++◌, length, map, ◌||◌}
 use Rattle.std.specs.Prelude.{◌&&◌, ◌==◌, nat_le, nat_eq, codes, sum_by}
 use Rattle.std.specs.List.{list_all, list_any}
 use Rattle.std.specs.Str.{bytes_eq}
 use Rattle.std.proofs.lemmas.Bool.{and_parts, and_from}
 use Rattle.std.proofs.lemmas.List.{length-map}
 use Rattle.state_store.specs.Ports.{drop_port}
-use Rattle.p416_ast.specs.declared.program.Syntax16.{Syntax16 as Grammar16}
 use Rattle.p416_rules.specs.Breaks.{BreaksNone, program_rules}
 use Rattle.p414_one_table.specs.declared.program.Field.{Field}
 use Rattle.p414_one_table.specs.declared.program.OneTable14.{OneTable14}
 use Rattle.p414_one_table.specs.Programs.{is_one_table, are_fields, is_id, is_width, repeats}
-use Rattle.one_table_rules.specs.Lawful.{has_width, is_header, is_lawful}
-use Rattle.one_table_rules.proofs.Rules.{breaks_none}
-use Rattle.p4x_cmd.specs.Forms16.{program16}
-use Rattle.p4x_cmd.specs.Extended16.{extended}
+use Rattle.one_table_text.specs.Lawful.{has_width, is_header, is_lawful}
+use Rattle.one_table_text.proofs.Rules.{breaks_none}
+use Rattle.one_table_text.specs.Programs.{program16}
 use Rattle.p4x_cmd.specs.internal.Lowering.{lowered, lowered_field}
-use Rattle.p4x_cmd.proofs.Extending.{extended_is}
 use Rattle.p4x_cmd.proofs.Sizes.{lowered_sum}
 
 widths_are : (fields : List Field) → list_all (λ f. is_id f.name && is_width f.width) fields ≡ true → list_all has_width (map lowered_field fields) ≡ true
@@ -49,7 +46,7 @@ header_is fields h =
     (and_from (not (repeats all)) sound (ap (λ (b : Bool). not b) (repeats_is fields) ∙ third.1)
     (ap (λ (n : ℕ). nat_eq (n % 8) 0) (lowered_sum fields) ∙ last.1)))
 
-lawful_is : (p : OneTable14) → is_one_table p ≡ true → is_lawful (lowered p) ≡ true
+pub lawful_is : (p : OneTable14) → is_one_table p ≡ true → is_lawful (lowered p) ≡ true
 lawful_is p h =
     let to_table = and_parts (are_fields p.fields && is_id p.action && nat_le p.port drop_port) (is_id p.table) h in
     let to_port = and_parts (are_fields p.fields && is_id p.action) (nat_le p.port drop_port) to_table.0 in
@@ -57,6 +54,5 @@ lawful_is p h =
     and_from (is_header (map lowered_field p.fields)) (nat_le p.port drop_port) (header_is p.fields to_action.0) to_port.1
 
 -- the translation of a program of the form breaks no rule
-pub keeps_rules : (p : OneTable14) → is_one_table p ≡ true → BreaksNone (extended (program16 (lowered p))) program_rules
-keeps_rules p h =
-    subst (λ (s : Grammar16). BreaksNone s program_rules) (sym (extended_is (lowered p))) (breaks_none (lowered p) (lawful_is p h))
+pub keeps_rules : (p : OneTable14) → is_one_table p ≡ true → BreaksNone (program16 (lowered p)) program_rules
+keeps_rules p h = breaks_none (lowered p) (lawful_is p h)

@@ -3,7 +3,6 @@ pub mod Captured
 pub mod Carrying
 pub mod Causes
 pub mod Delivering
-pub mod Extending
 pub mod Filling
 pub mod HeaderLaws
 pub mod Judging

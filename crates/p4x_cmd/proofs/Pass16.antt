@@ -13,11 +13,11 @@ use Rattle.match_core.specs.declared.entries.Entries.{Entries}
 use Rattle.match_core.specs.declared.entries.DefaultCall.{DefaultCall}
 use Rattle.p4x_cmd.specs.Passes.{Pass, dropped, leaves}
 use Rattle.p4x_cmd.specs.internal.Plain.{plain_pass}
-use Rattle.p4x_cmd.specs.Forms16.{program16, bit_field}
+use Rattle.one_table_text.specs.Programs.{program16, bit_field}
 use Rattle.p4x_cmd.specs.Meaning16.{Moment, Member, Scope, parse16, start16, parser_of, main_at, block16, control16, control_scope, verified16, standard_number, dropped16, egress16, after_egress16, pass16, signature16}
 
 abbrev pub field_widths : OneTable16 → List ℕ
-field_widths q = map (λ x. x.width) (map bit_field q.fields)
+field_widths q = map (λ x. x.width.value) (map bit_field q.fields)
 
 abbrev the_member : OneTable16 → Member
 the_member q = record { called = codes "h"; fields = map (λ x. x.name) (map bit_field q.fields); widths = field_widths q }

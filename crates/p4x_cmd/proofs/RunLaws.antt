@@ -8,7 +8,7 @@ use Rattle.p4x_bits.specs.BitLists.{IsOctets}
 use Rattle.fabric.specs.declared.packets.Arrival.{Arrival}
 use Rattle.p414_one_table.specs.declared.program.Field.{Field}
 use Rattle.one_table_text.specs.declared.one_table.OneTable16.{OneTable16}
-use Rattle.p4x_cmd.specs.Forms16.{program16, bit_field}
+use Rattle.one_table_text.specs.Programs.{program16, bit_field}
 use Rattle.p4x_cmd.specs.Entries.{no_entries, fill_at}
 use Rattle.run_stream.specs.Runs.{Ran, followed}
 use Rattle.run_stream.specs.Runs as running
@@ -38,10 +38,10 @@ pub run_done : (f : Arrival → Pass) (number : ℕ) (arrivals : List Arrival) �
     → run_left f number arrivals ≡ record { sent = []; store = no_store; cut = 0; work = 0 }
 run_done f number arrivals past = ap (run_from f default_bound no_store number) (drop_all number arrivals past)
 
-pub sum_of_widths : (fields : List Field) → sum (map (λ x. x.width) (map bit_field fields)) ≡ sum_by (λ f. f.width) fields
+pub sum_of_widths : (fields : List Field) → sum (map (λ x. x.width.value) (map bit_field fields)) ≡ sum_by (λ f. f.width) fields
 sum_of_widths [] = refl
 sum_of_widths (f ∷ fields) =
-    sum_by-cons (λ x. x) f.width (map (λ x. x.width) (map bit_field fields)) ∙ ap (λ (n : ℕ). f.width + n) (sum_of_widths fields) ∙ sym (sum_by-cons (λ x. x.width) f fields)
+    sum_by-cons (λ x. x) f.width (map (λ x. x.width.value) (map bit_field fields)) ∙ ap (λ (n : ℕ). f.width + n) (sum_of_widths fields) ∙ sym (sum_by-cons (λ x. x.width) f fields)
 
 takes_none : (q : OneTable16) → TakesAction (fill_at (no_entries (signature16 (program16 q))) 0).default
 takes_none q = rw (no_default q) tt

@@ -4,12 +4,11 @@ use Rattle.p414_one_table.specs.declared.program.OneTable14.{OneTable14}
 use Rattle.one_table_text.specs.declared.one_table.OneTable16.{OneTable16}
 use Rattle.p4x_cmd.specs.Carries.{Carries}
 use Rattle.p4x_cmd.specs.Carry.{ProgramIs, Written}
-use Rattle.p4x_cmd.specs.Extended16.{extended}
 use Rattle.p4x_cmd.specs.FirstCut.{is_first_cut}
 use Rattle.p414_one_table.specs.Programs.{is_one_table}
 use Rattle.p416_rules.specs.Breaks.{BreaksNone, program_rules}
 use Rattle.p414_one_table.proofs.Forms.{form_is}
-use Rattle.p4x_cmd.specs.Forms16.{program16}
+use Rattle.one_table_text.specs.Programs.{program16}
 use Rattle.p4x_cmd.specs.internal.Lowering.{lowered}
 use Rattle.p4x_cmd.specs.internal.Phases.{IsTextOf}
 use Rattle.p4x_cmd.proofs.Carrying.{carries_is}
@@ -29,7 +28,7 @@ written_is program p q text is same is_text =
     record {
       reads = is_text.reads;
       only = is_text.only;
-      typed = subst (λ (x : OneTable16). BreaksNone (extended (program16 x)) program_rules) (sym same) (keeps_rules p form);
+      typed = subst (λ (x : OneTable16). BreaksNone (program16 x) program_rules) (sym same) (keeps_rules p form);
       whole = first_cut_is q;
       carries = subst (λ (x : OneTable16). Carries p (program16 x)) (sym same) (carries_is p form);
     }

@@ -1,6 +1,6 @@
 -- That a program of P4_16 carries a program of P4_14: both do the same with every packet (this project's own).
 use Rattle.std.specs.Prelude.{◌≡◌, ℕ, List, All}
-use Rattle.p4x_cmd.specs.Trees16.{Syntax16}
+use Rattle.p416_ast.specs.declared.program.Syntax16.{Syntax16}
 use Rattle.match_core.specs.declared.entries.Entries.{Entries}
 use Rattle.match_core.specs.Fits.{Fits}
 use Rattle.fabric.specs.Numbers.{IsArrival, IsBound}

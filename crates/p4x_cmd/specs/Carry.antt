@@ -1,7 +1,6 @@
 -- The command `carry`: what is due for what its input files hold (this project's own).
 use Rattle.std.specs.Prelude.{◌≡◌, ◌⊎◌, ℕ, nat_lt, if◌then◌else◌, true, List, [], ◌∷◌, length, Option, Some, None, option_to_list, Result, Ok, Err}
-use Rattle.p4x_cmd.specs.Trees16.{Syntax16}
-use Rattle.p416_ast.specs.declared.program.Syntax16.{Syntax16 as Grammar16}
+use Rattle.p416_ast.specs.declared.program.Syntax16.{Syntax16}
 use Rattle.p416_reader.specs.Reading.{Reads16}
 use Rattle.p416_rules.specs.Breaks.{BreaksNone, program_rules}
 use Rattle.p4x_fault.specs.declared.Fault.{Fault as Refusal}
@@ -16,7 +15,6 @@ use Rattle.file_work.specs.declared.stop.Stop.{Stop}
 use Rattle.file_work.specs.declared.stop.Stop.TheVariants.{Fault, Program, Judged, Entries, Refused, Limit}
 use Rattle.p4x_cmd.specs.Carries.{Carries}
 use Rattle.p4x_cmd.specs.FirstCut.{is_first_cut}
-use Rattle.p4x_cmd.specs.Extended16.{extended}
 use Rattle.file_work.specs.Phases.{Loosely, StopsOrGoesOn}
 use Rattle.file_work.specs.Works.{Held, Due, Tells, AllKept}
 use Rattle.run_stream.specs.Captured.{Reports, reports_over}
@@ -147,9 +145,9 @@ pub record KeepsInOrder (f : CarryFiles) (old new : DeskView) (end : Result (Lis
 -- By the grammar of the whole of P4_16 the text reads as this program, and as no other; the program breaks none of the rules
 -- T1 to T12, it is one on which the meaning is whole, and it carries the program of P4_14.
 pub record Written (p : OneTable14) (text : List ℕ) (s : Syntax16) : Type 0 where
-  pub reads : Reads16 text (extended s)
-  pub only : (other : Grammar16) → Reads16 text other → other ≡ extended s
-  pub typed : BreaksNone (extended s) program_rules
+  pub reads : Reads16 text s
+  pub only : (other : Syntax16) → Reads16 text other → other ≡ s
+  pub typed : BreaksNone s program_rules
   pub whole : is_first_cut s ≡ true
   pub carries : Carries p s
 

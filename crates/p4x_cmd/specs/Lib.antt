@@ -7,7 +7,8 @@
 --   Runs       the run over the capture
 --   Reports    the line of a run (`run_stream` says what its files are)
 --
--- What the written text is:
+-- What the written text is (`p416_ast` has the syntax of P4_16; `Reads16` of `p416_reader` says which text reads as which
+-- syntax, and `BreaksNone` of `p416_rules` that it is well-typed):
 --   Carries    both programs do the same on all entries, under every bound, for every list of arrivals
 --   Passes     what a run over arrivals gives
 --   Meaning14  what the P4_14 program does with a packet
@@ -15,19 +16,13 @@
 --   FirstCut   the programs on which that is the whole meaning
 --   Entries    what stands in the tables
 --   Headers    the bits of a header's fields
---   Trees16    the part of the syntax that this meaning is told of
---   Forms16    the syntax of the programs that are written
---   Extended16 the same in the syntax of the whole language (`Reads16` of `p416_reader` says which text reads as it, and
---              `BreaksNone` of `p416_rules` that it is well-typed)
 --
 -- `internal` has what only private functions and proofs name.
 pub mod Calls
 pub mod Carries
 pub mod Carry
 pub mod Entries
-pub mod Extended16
 pub mod FirstCut
-pub mod Forms16
 pub mod Headers
 pub mod internal
 pub mod Meaning14
@@ -35,4 +30,3 @@ pub mod Meaning16
 pub mod Passes
 pub mod Reports
 pub mod Runs
-pub mod Trees16

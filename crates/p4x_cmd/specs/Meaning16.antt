@@ -1,6 +1,7 @@
 -- What a P4_16 program does with a packet, by cases on its syntax, for programs whose headers are those of one struct,
--- whose parser has no further states, and whose tables have no keys. P4_16 1.2, "Operations on headers", "Statements",
--- "Packet parsing", "Control blocks" and "Deparsing"; v1model.p4 (blocks, standard_metadata_t, mark_to_drop).
+-- whose parser has no further states, and whose tables have no keys: what isn't told of here does nothing and has the
+-- value 0, and `FirstCut` says which programs have none of it. P4_16 1.2, "Operations on headers", "Statements", "Packet
+-- parsing", "Control blocks" and "Deparsing"; v1model.p4 (blocks, standard_metadata_t, mark_to_drop).
 use Rattle.std.specs.Prelude.{ℕ, zero, suc, ◌+◌, ◌*◌, ◌/◌, ◌%◌, ◌^◌, Bool, true, false, ◌==◌, ◌&&◌, if◌then◌else◌, nat_lt, List, [], ◌∷◌, ◌++◌, length, map, sum, drop, codes, Option, Some, None, slice_index_or}
 use Rattle.std.specs.Str.{bytes_eq}
 use Rattle.p4x_bits.specs.BitLists.{octet_bits}
@@ -11,7 +12,27 @@ use Rattle.match_core.specs.declared.signatures.Signature.{Signature}
 use Rattle.match_core.specs.declared.entries.DefaultCall.{DefaultCall}
 use Rattle.match_core.specs.declared.entries.Entries.{Entries}
 use Rattle.match_core.specs.Stores.{first_store}
-use Rattle.p4x_cmd.specs.Trees16.{Exp16, literal, name, error, member, binary, call, no_arguments, argument, Stmt16, no_statements, then, block, assign, expression, if_else, StateTree, ParserTree, ActionTree, PropertyTree, actions, default_action, TableTree, LocalTree, action_local, table_local, ControlTree, Syntax16, Decl16, Header, Struct, Parser, Control, StructField, BitField, Param, Note, Name, Type16, Bit, Named, Equal, ActionName, Declared, NoAction}
+use Rattle.p416_ast.specs.declared.node.BinaryOperator.TheVariants.{Equal}
+use Rattle.p416_ast.specs.declared.parts.BitField.{BitField}
+use Rattle.p416_ast.specs.declared.parts.Param.{Param}
+use Rattle.p416_ast.specs.declared.parts.StructField.{StructField}
+use Rattle.p416_ast.specs.declared.parts.Type16.{Type16}
+use Rattle.p416_ast.specs.declared.parts.Type16.TheVariants.{Bit, Named}
+use Rattle.p416_ast.specs.declared.parsers.Parser16.{Parser16}
+use Rattle.p416_ast.specs.declared.parsers.State.{State}
+use Rattle.p416_ast.specs.declared.controls.Action16.{Action16}
+use Rattle.p416_ast.specs.declared.controls.ActionName.{ActionName}
+use Rattle.p416_ast.specs.declared.controls.ActionName.TheVariants.{Declared, NoAction}
+use Rattle.p416_ast.specs.declared.controls.Table16.{Table16}
+use Rattle.p416_ast.specs.declared.controls.Local.{Local}
+use Rattle.p416_ast.specs.declared.controls.Local.TheVariants.{Action, Table}
+use Rattle.p416_ast.specs.declared.controls.Control16.{Control16}
+use Rattle.p416_ast.specs.declared.program.Decl16.{Decl16}
+use Rattle.p416_ast.specs.declared.program.Decl16.TheVariants.{Header, Struct, Parser, Control}
+use Rattle.p416_ast.specs.declared.program.Syntax16.{Syntax16}
+use Rattle.p416_ast.specs.Properties.{actions_of, default_action_of}
+use Rattle.p416_ast.specs.Tree.{Exp16, literal, name, error, member, binary, call, no_arguments, argument, Stmt16, no_statements, then, block, assign, expression, if_else}
+use Rattle.p416_rules.specs.Scopes.{plane_name}
 use Rattle.fabric.specs.declared.packets.Arrival.{Arrival}
 use Rattle.p4x_cmd.specs.Headers.{numbers_in, bits_in, octets_in, zeros}
 use Rattle.run_stream.specs.Runs.{Ran}
@@ -99,7 +120,7 @@ member_value c m _ word = 0
 
 -- the number of an expression; a truth value is 1 or 0, an error its number
 abbrev pub value16 : Scope → Moment → Exp16 → ℕ
-value16 c m (literal width value) = value
+value16 c m (literal number) = number.value
 value16 c m (member of word) = member_value c m of word
 value16 c m (binary Equal a b) = if value16 c m a == value16 c m b then 1 else 0
 value16 c m _ = 0
@@ -190,65 +211,49 @@ run16 tables c (assign target e) m = put16 c target (value16 c (tick m) e) (tick
 run16 tables c (expression e) m = expression16 tables c e (tick m)
 run16 tables c (if_else condition positive negative) m =
     if value16 c (tick m) condition == 1 then run16 tables c positive (tick m) else run16 tables c negative (tick m)
-
--- the control-plane name: the text of `@name`, else the name itself
-abbrev pub plane_name : List Note → List ℕ → List ℕ
-plane_name [] own = own
-plane_name (Name text ∷ notes) own = text
+run16 tables c _ m = m
 
 -- the action of a name among the locals of a control
-abbrev pub action_named : List LocalTree → List ℕ → Option ActionTree
+abbrev pub action_named : List Local → List ℕ → Option Action16
 action_named [] text = None
-action_named (action_local a ∷ locals) text = if bytes_eq a.name text then Some a else action_named locals text
-action_named (table_local t ∷ locals) text = action_named locals text
+action_named (Action a ∷ locals) text = if bytes_eq a.name text then Some a else action_named locals text
+action_named (other ∷ locals) text = action_named locals text
 
 -- the table of a name among them
-abbrev pub table_named : List LocalTree → List ℕ → Option TableTree
+abbrev pub table_named : List Local → List ℕ → Option Table16
 table_named [] text = None
-table_named (table_local t ∷ locals) text = if bytes_eq t.name text then Some t else table_named locals text
-table_named (action_local a ∷ locals) text = table_named locals text
-
--- the actions that a table lists
-abbrev pub actions_of : List PropertyTree → List ActionName
-actions_of [] = []
-actions_of (actions names ∷ properties) = names
-actions_of (default_action a given ∷ properties) = actions_of properties
-
--- the action that `default_action` names
-abbrev pub default_of : List PropertyTree → Option ActionName
-default_of [] = None
-default_of (default_action a given ∷ properties) = Some a
-default_of (actions names ∷ properties) = default_of properties
+table_named (Table t ∷ locals) text = if bytes_eq t.name text then Some t else table_named locals text
+table_named (other ∷ locals) text = table_named locals text
 
 -- no table is applied inside an action
 abbrev pub no_tables : List ℕ → Moment → Moment
 no_tables text m = m
 
 -- the body of an action of the control
-abbrev pub action16 : Scope → List LocalTree → Option ActionName → Moment → Moment
+abbrev pub action16 : Scope → List Local → Option ActionName → Moment → Moment
 action16 c locals (Some (Declared text)) m = body_of (action_named locals text)
   where
-    body_of : Option ActionTree → Moment
+    body_of : Option Action16 → Moment
     body_of None = m
     body_of (Some a) = run16 no_tables c a.body m
 action16 c locals _ m = m
 
 -- A table without keys misses, so the default of the entries file runs, which names one of the table's actions by its
 -- number; or else `default_action`, or none.
-abbrev pub chosen16 : TableTree → Option DefaultCall → Option ActionName
+abbrev pub chosen16 : Table16 → Option DefaultCall → Option ActionName
 chosen16 t (Some given) = at given.action (actions_of t.properties)
   where
     at : ℕ → List ActionName → Option ActionName
     at n [] = None
     at zero (a ∷ names) = Some a
     at (suc n) (a ∷ names) = at n names
-chosen16 t None = default_of t.properties
+chosen16 t None = default_action_of t.properties
 
 -- t.apply() in a control whose only table is t
-abbrev pub apply16 : Scope → List LocalTree → Entries → List ℕ → Moment → Moment
+abbrev pub apply16 : Scope → List Local → Entries → List ℕ → Moment → Moment
 apply16 c locals e text m = applied (table_named locals text)
   where
-    applied : Option TableTree → Moment
+    applied : Option Table16 → Moment
     applied None = m
     applied (Some t) = action16 c locals (chosen16 t (fill_at e 0).default) m
 
@@ -256,44 +261,36 @@ apply16 c locals e text m = applied (table_named locals text)
 abbrev pub header_of : List Decl16 → List ℕ → List BitField
 header_of [] text = []
 header_of (Header h ∷ decls) text = if bytes_eq h.name text then h.fields else header_of decls text
-header_of (Struct s ∷ decls) text = header_of decls text
-header_of (Parser p ∷ decls) text = header_of decls text
-header_of (Control c ∷ decls) text = header_of decls text
+header_of (other ∷ decls) text = header_of decls text
 
 -- the fields of the struct type of a name
 abbrev pub struct_of : List Decl16 → List ℕ → List StructField
 struct_of [] text = []
 struct_of (Struct s ∷ decls) text = if bytes_eq s.name text then s.fields else struct_of decls text
-struct_of (Header h ∷ decls) text = struct_of decls text
-struct_of (Parser p ∷ decls) text = struct_of decls text
-struct_of (Control c ∷ decls) text = struct_of decls text
+struct_of (other ∷ decls) text = struct_of decls text
 
 -- the parser of a name
-abbrev pub parser_of : List Decl16 → List ℕ → Option ParserTree
+abbrev pub parser_of : List Decl16 → List ℕ → Option Parser16
 parser_of [] text = None
 parser_of (Parser p ∷ decls) text = if bytes_eq p.name text then Some p else parser_of decls text
-parser_of (Header h ∷ decls) text = parser_of decls text
-parser_of (Struct s ∷ decls) text = parser_of decls text
-parser_of (Control c ∷ decls) text = parser_of decls text
+parser_of (other ∷ decls) text = parser_of decls text
 
 -- the control of a name
-abbrev pub control_of : List Decl16 → List ℕ → Option ControlTree
+abbrev pub control_of : List Decl16 → List ℕ → Option Control16
 control_of [] text = None
 control_of (Control c ∷ decls) text = if bytes_eq c.name text then Some c else control_of decls text
-control_of (Header h ∷ decls) text = control_of decls text
-control_of (Struct s ∷ decls) text = control_of decls text
-control_of (Parser p ∷ decls) text = control_of decls text
+control_of (other ∷ decls) text = control_of decls text
 
--- the name of a type, [] for one that has no name
+-- the name of a type, [] for one that has no name, and for a stack
 abbrev pub type_name : Type16 → List ℕ
-type_name (Named text) = text
-type_name (Bit w) = []
+type_name (Named text None) = text
+type_name _ = []
 
 -- a field of H as a member
 abbrev pub member_of : List Decl16 → StructField → Member
 member_of decls f =
     let fields = header_of decls (type_name f.of) in
-    record { called = f.name; fields = map (λ x. x.name) fields; widths = map (λ x. x.width) fields }
+    record { called = f.name; fields = map (λ x. x.name) fields; widths = map (λ x. x.width.value) fields }
 
 -- the name of the parameter at a place
 abbrev pub parameter_at : List Param → ℕ → List ℕ
@@ -340,21 +337,21 @@ deparser_scope s parameters = record {
 
 -- The state `start`, and its transition, which ends the parser and counts one where no error stopped the state before.
 -- An error stops the parser alone.
-abbrev pub parse16 : Syntax16 → Option ParserTree → Moment → Moment
+abbrev pub parse16 : Syntax16 → Option Parser16 → Moment → Moment
 parse16 s None m = m
 parse16 s (Some p) m = started p.states
   where
     ends : Moment → Moment
     ends now = if now.stopped then record now { stopped = false } else tick now
 
-    started : List StateTree → Moment
+    started : List State → Moment
     started [] = m
     started (x ∷ states) =
         if bytes_eq x.name (codes "start") then ends (run16 no_tables (parser_scope s p.parameters) x.body m)
         else started states
 
 -- a control block in its scope
-abbrev pub control16 : (List Param → Scope) → Entries → Option ControlTree → Moment → Moment
+abbrev pub control16 : (List Param → Scope) → Entries → Option Control16 → Moment → Moment
 control16 scope e None m = m
 control16 scope e (Some c) m = run16 (apply16 (scope c.parameters) c.locals e) (scope c.parameters) c.body m
 
@@ -363,7 +360,7 @@ abbrev pub main_at : Syntax16 → ℕ → List ℕ
 main_at s n = slice_index_or s.main n []
 
 -- the control at a place of `main`
-abbrev pub block16 : Syntax16 → ℕ → Option ControlTree
+abbrev pub block16 : Syntax16 → ℕ → Option Control16
 block16 s n = control_of s.decls (main_at s n)
 
 -- headers that are invalid, with fields 0
@@ -371,12 +368,12 @@ abbrev pub invalid_headers : List Member → List Header_now
 invalid_headers members = map (λ x. record { valid = false; numbers = zeros x.widths }) members
 
 -- the members of H, as the parser has it
-abbrev pub members_of : Syntax16 → Option ParserTree → List Member
+abbrev pub members_of : Syntax16 → Option Parser16 → List Member
 members_of s None = []
 members_of s (Some p) = members_at s p.parameters 1
 
 -- as a pass begins: all headers invalid, all octets unparsed, `parser_error` NoError
-abbrev pub start16 : Syntax16 → Option ParserTree → Arrival → Moment
+abbrev pub start16 : Syntax16 → Option Parser16 → Arrival → Moment
 start16 s p a = record {
   headers = invalid_headers (members_of s p);
   standard = a.port ∷ 0 ∷ 0 ∷ length a.octets % 2 ^ 32 ∷ 0 ∷ 0 ∷ 0 ∷ [];
@@ -435,8 +432,8 @@ pass16 s e a =
     let m = ingress16 s e a in
     if standard_number m (codes "egress_spec") == drop_port then dropped16 m else after_egress16 s e (egress16 s e m)
 
--- a table of a control: its control-plane name, its actions by theirs
-abbrev pub action_sig : List LocalTree → ActionName → ActionSig
+-- an action that a table of a control names: its control-plane name, and the widths of its parameters
+abbrev pub action_sig : List Local → ActionName → ActionSig
 action_sig locals NoAction = record { name = codes "NoAction"; widths = [] }
 action_sig locals (Declared text) = of (action_named locals text)
   where
@@ -444,32 +441,30 @@ action_sig locals (Declared text) = of (action_named locals text)
     width p = of_type p.of
       where
         of_type : Type16 → ℕ
-        of_type (Bit w) = w
-        of_type (Named t) = 0
+        of_type (Bit w) = w.value
+        of_type _ = 0
 
-    of : Option ActionTree → ActionSig
+    of : Option Action16 → ActionSig
     of None = record { name = text; widths = [] }
     of (Some a) = record { name = plane_name a.notes a.name; widths = map width a.parameters }
 
 -- the tables among the locals of a control
-abbrev pub tables_in : List LocalTree → List LocalTree → List TableSig
+abbrev pub tables_in : List Local → List Local → List TableSig
 tables_in all [] = []
-tables_in all (action_local a ∷ locals) = tables_in all locals
-tables_in all (table_local t ∷ locals) = record {
+tables_in all (Table t ∷ locals) = record {
   name = plane_name t.notes t.name;
   keys = [];
   actions = map (action_sig all) (actions_of t.properties);
   size = 1024;
   direct = None;
 } ∷ tables_in all locals
+tables_in all (other ∷ locals) = tables_in all locals
 
 -- the tables of all controls
 abbrev pub tables_of : List Decl16 → List TableSig
 tables_of [] = []
 tables_of (Control c ∷ decls) = tables_in c.locals c.locals ++ tables_of decls
-tables_of (Header h ∷ decls) = tables_of decls
-tables_of (Struct s ∷ decls) = tables_of decls
-tables_of (Parser p ∷ decls) = tables_of decls
+tables_of (other ∷ decls) = tables_of decls
 
 -- the signature of a program that has one table, whose size is 1024 since no property gives it, and no object
 abbrev pub signature16 : Syntax16 → Signature

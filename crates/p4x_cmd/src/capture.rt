@@ -7,7 +7,7 @@ ghost use Rattle.file_work.specs.Works.{Blames};
 ghost use Rattle.file_work.specs.Phases.{line_view};
 ghost use Rattle.run_stream.specs.Captured.{StopsRun};
 ghost use Rattle.p4x_cmd.specs.Carry.{capture_reports};
-ghost use Rattle.p4x_cmd.specs.Forms16.{program16};
+ghost use Rattle.one_table_text.specs.Programs.{program16};
 ghost use Rattle.p4x_cmd.specs.Reports.{carried_line_of};
 ghost use Rattle.p4x_cmd.specs.internal.Phases.{Delivers};
 ghost use Rattle.p4x_cmd.specs.internal.Plain.{IsSized};

@@ -7,7 +7,7 @@ ghost use Rattle.p4x_cmd.specs.Calls.{PacketsFit};
 ghost use Rattle.p4x_cmd.specs.Carry.{ProgramIs, entries_stop, ports_in, ports_end, StopsBefore, Begins, CarryDue, InOrder, KeepsInOrder};
 ghost use Rattle.p414_one_table.specs.Programs.{is_one_table};
 ghost use Rattle.program_commands.specs.Programs.{ReadsOnce};
-ghost use Rattle.p4x_cmd.specs.Forms16.{program16};
+ghost use Rattle.one_table_text.specs.Programs.{program16};
 ghost use Rattle.p4x_cmd.specs.internal.Lowering.{lowered};
 ghost use Rattle.p4x_cmd.specs.internal.Phases.{AnswersFile, IsPortsStop, IsTextOf};
 ghost use Rattle.file_work.specs.Works.{Blames, DeskRose, ReadsRose, Tells, Works, IsPart};

@@ -1,7 +1,7 @@
 -- What the wrong programs send of one packet, beside what the sample sends.
 use Rattle.std.proofs.Common.{◌≡◌, ◌<◌, ℕ, zero, suc, All, List, [], ◌∷◌, ◌++◌, length, drop, Some, refl, sym, ◌∙◌, ap, arith}
 use Rattle.std.proofs.lemmas.List.Elements.{All-cons}
-use Rattle.p4x_cmd.specs.Trees16.{Syntax16}
+use Rattle.p416_ast.specs.declared.program.Syntax16.{Syntax16}
 use Rattle.fabric.specs.Numbers.{IsArrival}
 use Rattle.fabric.specs.declared.packets.Arrival.{Arrival}
 use Rattle.fabric.specs.declared.packets.Sent.{Sent}
@@ -9,7 +9,7 @@ use Rattle.p4x_bits.specs.BitLists.{octet_bits, IsOctets}
 use Rattle.p4x_cmd.specs.Carries.{Carries}
 use Rattle.p4x_cmd.specs.Entries.{no_entries}
 use Rattle.p414_one_table.specs.Form.{one_table_of}
-use Rattle.p4x_cmd.specs.Forms16.{program16}
+use Rattle.one_table_text.specs.Programs.{program16}
 use Rattle.p4x_cmd.specs.Headers.{numbers_in, bits_in, octets_in}
 use Rattle.p4x_cmd.specs.internal.Lowering.{lowered}
 use Rattle.p4x_cmd.specs.Meaning14.{Run14, signature14, widths14}

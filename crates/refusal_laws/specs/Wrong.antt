@@ -1,6 +1,5 @@
 -- The first sample program, and programs of P4_16 that are each wrong in one place (this project's own).
 use Rattle.std.specs.Prelude.{ℕ, List, [], ◌∷◌, Option, Some, None, codes}
-use Rattle.p4x_cmd.specs.Trees16.{name, member, call, no_arguments, Stmt16, no_statements, then, expression, LocalTree, action_local, BitField, Plain, In, Name, Decl16, Header, Control, Syntax16}
 use Rattle.p414_ast.specs.declared.parts.Inst.{Inst}
 use Rattle.p414_ast.specs.declared.headers.Field.{Field as DeclaredField}
 use Rattle.p414_ast.specs.declared.headers.FieldWidth.TheVariants.{Bits}
@@ -12,7 +11,13 @@ use Rattle.p414_ast.specs.declared.syntax.Decl.TheVariants as decl
 use Rattle.p414_ast.specs.declared.syntax.Syntax14.{Syntax14}
 use Rattle.p414_ast.specs.Tree.{no_statements as nothing, then as behind, apply}
 use Rattle.p414_one_table.specs.declared.program.OneTable14.{OneTable14}
-use Rattle.p4x_cmd.specs.Forms16.{header_struct, metadata_struct, param, checksum_params, switch_params, call_with, parser16, plain_control, action16, table16, apply_or_drop, deparser16}
+use Rattle.p414_one_table.specs.declared.program.Field.{Field}
+use Rattle.p416_ast.specs.declared.parts.Note.TheVariants.{Name}
+use Rattle.p416_ast.specs.declared.controls.Local.{Local}
+use Rattle.p416_ast.specs.declared.controls.Local.TheVariants as local
+use Rattle.p416_ast.specs.declared.program.Syntax16.{Syntax16}
+use Rattle.p416_ast.specs.Tree.{Stmt16, no_statements}
+use Rattle.one_table_text.specs.Programs.{header16, header_struct, metadata_struct, checksum_params, switch_params, deparser_params, only_statement, header_body, parser16, control16, empty_control, action16, table16, packet_dropped, table_applied, apply_or_drop, block_names}
 
 -- A header of 14 octets; each packet that has them is sent to port 3.
 abbrev pub sample : OneTable14
@@ -67,58 +72,47 @@ sample_syntax = record {
       ∷ decl.Control record { name = codes "ingress"; body = behind nothing (apply (codes "t")) } ∷ [];
 }
 
--- the header type of the written program
-abbrev pub fields16 : List BitField
+-- the fields of the written program
+abbrev pub fields16 : List Field
 fields16 =
-    record { width = 48; name = codes "f_a" } ∷ record { width = 48; name = codes "f_b" }
-    ∷ record { width = 16; name = codes "f_c" } ∷ []
+    record { name = codes "f_a"; width = 48 } ∷ record { name = codes "f_b"; width = 48 }
+    ∷ record { name = codes "f_c"; width = 16 } ∷ []
 
--- the written program with this action, this body of the ingress control, and this deparser
-abbrev pub written_with : LocalTree → Stmt16 → Decl16 → Syntax16
+-- the written program with this action, this body of the ingress control, and this body of the deparser
+abbrev pub written_with : Local → Stmt16 → Stmt16 → Syntax16
 written_with action ingress deparser = record {
-  decls = Header record { name = codes "h_t"; fields = fields16 } ∷ header_struct ∷ metadata_struct
-      ∷ parser16 ∷ plain_control (codes "V") checksum_params no_statements
-      ∷ Control record {
-        name = codes "I";
-        parameters = switch_params;
-        locals = action ∷ table16 (codes "t") ∷ [];
-        body = ingress;
-      }
-      ∷ plain_control (codes "E") switch_params no_statements
-      ∷ plain_control (codes "C") checksum_params no_statements ∷ deparser ∷ [];
-  main = codes "P" ∷ codes "V" ∷ codes "I" ∷ codes "E" ∷ codes "C" ∷ codes "D" ∷ [];
+  decls = header16 fields16 ∷ header_struct ∷ metadata_struct ∷ parser16 ∷ empty_control (codes "V") checksum_params
+      ∷ control16 (codes "I") switch_params (action ∷ table16 (codes "t") ∷ []) ingress
+      ∷ empty_control (codes "E") switch_params ∷ empty_control (codes "C") checksum_params
+      ∷ control16 (codes "D") deparser_params [] deparser ∷ [];
+  main = block_names;
 }
 
--- its ingress body: the table where no error stopped the parser
-abbrev pub asking : Stmt16
-asking = then no_statements apply_or_drop
-
 -- its action: sm.egress_spec = 9w3;
-abbrev pub to_port_3 : LocalTree
+abbrev pub to_port_3 : Local
 to_port_3 = action16 (codes "out3") 3
 
--- mark_to_drop(sm); in its place
+-- what its deparser does: p.emit(hdr.h);
+abbrev pub emitting : Stmt16
+emitting = header_body (codes "emit")
+
+-- mark_to_drop(sm); in place of the action's statement
 abbrev pub dropping : Syntax16
-dropping = written_with (action_local record {
+dropping = written_with (local.Action record {
   notes = Name (codes "out3") ∷ [];
   name = codes "a";
   parameters = [];
-  body = then no_statements (call_with (name (codes "mark_to_drop")) (name (codes "sm")));
-}) asking deparser16
+  body = only_statement packet_dropped;
+}) apply_or_drop emitting
 
 -- sm.egress_spec = 9w4; in its place
 abbrev pub next_port : Syntax16
-next_port = written_with (action16 (codes "out3") 4) asking deparser16
+next_port = written_with (action16 (codes "out3") 4) apply_or_drop emitting
 
 -- the deparser emits nothing
 abbrev pub emitting_nothing : Syntax16
-emitting_nothing =
-    written_with to_port_3 asking
-    (plain_control (codes "D")
-    (param Plain (codes "packet_out") (codes "p") ∷ param In (codes "hs") (codes "hdr") ∷ []) no_statements)
+emitting_nothing = written_with to_port_3 apply_or_drop no_statements
 
 -- t.apply(); without a question
 abbrev pub not_asking : Syntax16
-not_asking =
-    written_with to_port_3
-    (then no_statements (expression (call (member (name (codes "t")) (codes "apply")) no_arguments))) deparser16
+not_asking = written_with to_port_3 (only_statement table_applied) emitting

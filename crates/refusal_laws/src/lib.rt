@@ -5,7 +5,7 @@
 ghost use Rattle.std.specs.Prelude.{◌≡◌, Some};
 ghost use Rattle.p414_one_table.specs.Form.{one_table_of};
 ghost use Rattle.p4x_cmd.specs.Carries.{Carries};
-ghost use Rattle.p4x_cmd.specs.Forms16.{program16};
+ghost use Rattle.one_table_text.specs.Programs.{program16};
 ghost use Rattle.p4x_cmd.specs.internal.Lowering.{lowered};
 ghost use Rattle.refusal_laws.specs.Wrong.{sample, sample_syntax, dropping, next_port, emitting_nothing, not_asking};
 

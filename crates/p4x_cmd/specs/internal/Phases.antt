@@ -1,7 +1,6 @@
 -- What the phases of `carry` answer.
 use Rattle.std.specs.Prelude.{◌≡◌, ◌⊎◌, ℕ, List, Option, Result, Ok, Err}
-use Rattle.p4x_cmd.specs.Trees16.{Syntax16}
-use Rattle.p416_ast.specs.declared.program.Syntax16.{Syntax16 as Grammar16}
+use Rattle.p416_ast.specs.declared.program.Syntax16.{Syntax16}
 use Rattle.p416_reader.specs.Reading.{Reads16}
 use Rattle.p4x_io.specs.Desk.{grown}
 use Rattle.p4x_fault.specs.declared.Fault.{Fault as Refusal}
@@ -13,7 +12,6 @@ use Rattle.file_work.specs.Works.{IsLoose}
 use Rattle.run_stream.specs.Captured.{Reports}
 use Rattle.p414_one_table.specs.declared.program.OneTable14.{OneTable14}
 use Rattle.p4x_cmd.specs.Carry.{ProgramIs}
-use Rattle.p4x_cmd.specs.Extended16.{extended}
 use Rattle.p4x_cmd.specs.Reports.{lined}
 
 -- this is what the program's file comes to, and nothing else is
@@ -39,5 +37,5 @@ Delivers r end sent sent' report report' =
 
 -- the text is that of this program of P4_16, and of no other
 pub record IsTextOf (text : List ℕ) (s : Syntax16) : Type 0 where
-  pub reads : Reads16 text (extended s)
-  pub only : (other : Grammar16) → Reads16 text other → other ≡ extended s
+  pub reads : Reads16 text s
+  pub only : (other : Syntax16) → Reads16 text other → other ≡ s

@@ -8,7 +8,7 @@ use Rattle.fabric.specs.declared.packets.Out.{Out}
 use Rattle.run_stream.specs.Runs.{Outcome, AreFew}
 use Rattle.one_table_text.specs.declared.one_table.OneTable16.{OneTable16}
 use Rattle.p4x_cmd.specs.Entries.{no_entries}
-use Rattle.p4x_cmd.specs.Forms16.{program16}
+use Rattle.one_table_text.specs.Programs.{program16}
 use Rattle.p4x_cmd.specs.Meaning16.{pass16, signature16}
 use Rattle.p4x_cmd.specs.Passes.{PassEnd, Pass, dropped, leaves}
 

@@ -4,7 +4,7 @@ use Rattle.p4x_io.specs.Desk.{put}
 use Rattle.file_work.specs.declared.stop.Stop.TheVariants.{Fault}
 use Rattle.p4x_cmd.specs.Carry.{capture_reports}
 use Rattle.p4x_cmd.specs.internal.Phases.{Delivers}
-use Rattle.p4x_cmd.specs.Forms16.{program16}
+use Rattle.one_table_text.specs.Programs.{program16}
 use Rattle.file_work.specs.Works.{IsPart}
 use Rattle.file_work.specs.Phases.{line_view}
 use Rattle.command_words.specs.Views.{files_of}

@@ -7,5 +7,5 @@ returns c =
     on_ok_weaker c.put_tokens-3.result
     (λ e. control_written _ _ _ _ _ _ _ _ c.args.self.now
     c.in_ok-write_heading.ensures (rw c.as_slice.ensures at c.in_ok-write_params.ensures) c.in_ok-put_tokens.ensures
-    (rw c.as_slice-2.ensures at c.in_ok-write_all.ensures) c.in_ok-put_tokens-2.ensures c.in_ok-write_block.ensures e)
+    (rw c.as_slice-locals.ensures at c.in_ok-write_all.ensures) c.in_ok-put_tokens-2.ensures c.in_ok-write_block.ensures e)
     c.put_tokens-3.ensures

@@ -6,6 +6,6 @@ pub returns : goal.returns
 returns c =
     on_ok_weaker c.put_tokens-2.result
     (λ e. table_written _ _ _ _ _ _ c.args.self.now
-    (rw c.as_slice.ensures at c.in_ok-write_all.ensures) c.in_ok-write_heading.ensures c.in_ok-put_tokens.ensures
-    (rw c.as_slice-2.ensures at c.in_ok-write_all-2.ensures) e)
+    (rw c.as_slice.ensures at c.in_ok-line.ensures) c.in_ok-write_heading.ensures c.in_ok-put_tokens.ensures
+    (rw c.as_slice-2.ensures at c.in_ok-write_all.ensures) e)
     c.put_tokens-2.ensures

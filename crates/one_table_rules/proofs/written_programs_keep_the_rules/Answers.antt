@@ -1,5 +1,0 @@
-use Rattle.one_table_rules.proofs.Rules.{breaks_none}
-use Rattle.one_table_rules.proofs.written_programs_keep_the_rules.Goals as goal
-
-pub returns : goal.returns
-returns c = breaks_none
