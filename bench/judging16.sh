@@ -18,6 +18,7 @@ for _ in 1 2 3; do out/bench_judging16; done | awk '
         row("types", "header and struct types, controls of them"); row("actions", "actions, tables, statements that apply them")
         row("states", "states with selects"); row("expressions", "one control, expressions 300 deep")
         row("parameters", "actions with many parameters"); row("variables", "variables in blocks within blocks")
+        row("labels", "one table with many actions, many switches over it"); row("listed", "one action with many parameters, in many tables")
         for (shape in broken) { print shape ": T" broken[shape] " is broken"; wrong = 1 }
         exit wrong
     }'

@@ -5,13 +5,15 @@ ghost use Rattle.p416_ast.specs.declared.program.Decl16.{Decl16};
 ghost use Rattle.p416_rules.specs.Declarations.{top_scope, declaration_uses};
 ghost use Rattle.p416_expression_uses.specs.Found.{counted_of};
 ghost use Rattle.p416_expression_uses.specs.Seen.{seen_counted};
+ghost use Rattle.p416_listed_check.specs.Pairs.{is_same_pair};
 ghost use Rattle.p416_counter_check.specs.Counting.{is_counted_use};
-ghost use Rattle.p416_counter_check.specs.internal.Pairs.{is_same_pair, is_missing};
+ghost use Rattle.p416_counter_check.specs.internal.Pairs.{is_missing};
 
-use crate::pairs::{PairSet, pairs_of};
+use crate::pairs::pairs_of;
 use p4x_bits::OutOfMemory;
 use p416_ast::Decl16;
 use p416_expression_uses::Counted;
+use p416_listed_check::PairSet;
 use std::alloc::Global;
 
 /// Whether a counter isn't among these with the action that counts it.

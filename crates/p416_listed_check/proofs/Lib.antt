@@ -1,2 +1,4 @@
+pub mod Entering
 pub mod Labelling
-pub mod Mixing
+mod Mixing
+pub mod Pairing

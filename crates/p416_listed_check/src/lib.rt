@@ -3,8 +3,10 @@
 
 mod actions;
 mod labels;
+mod pairs;
 mod planes;
 mod tables;
 
-pub use labels::has_outside_label;
+pub use labels::{Listings, has_outside_label};
+pub use pairs::{PairSet, add_actions};
 pub use tables::is_bad_table;

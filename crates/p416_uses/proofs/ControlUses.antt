@@ -1,5 +1,5 @@
 -- Controls and their actions.
-use Rattle.std.proofs.Common.{◌≡◌, ℕ, ◌+◌, ◌-◌, Option, Some, None, List, [], ◌∷◌, ◌++◌, length, drop, map, flat_map, filter_map, option_to_list, refl, sym, ap, ◌∙◌, arith}
+use Rattle.std.proofs.Common.{◌≡◌, ℕ, ◌+◌, ◌-◌, Option, Some, None, List, [], ◌∷◌, ◌++◌, length, drop, map, flat_map, filter_map, option_to_list, Result, Ok, Err, OnOk, refl, sym, ap, ◌∙◌, subst, arith}
 use Rattle.std.proofs.Math.Seq.{drop-append_seam}
 use Rattle.std.proofs.lemmas.List.{append_assoc, map-append, length-append}
 use Rattle.p416_ast.specs.declared.program.Decl16.{Decl16}
@@ -8,9 +8,10 @@ use Rattle.p416_ast.specs.declared.controls.Local.{Local}
 use Rattle.p416_ast.specs.declared.controls.Local.TheVariants as local
 use Rattle.p416_ast.specs.declared.controls.Control16.{Control16}
 use Rattle.p416_rules.specs.Names.{Name}
-use Rattle.p416_rules.specs.Scopes.{Scope, Known, called_of, known_parameter, Part, in_apply, inside}
-use Rattle.p416_rules.specs.Uses.{Use, names_of_scope, some_parameters, some_counters, of_block_parameter, of_action_parameter}
+use Rattle.p416_rules.specs.Scopes.{Scope, Known, called_of, known_parameter, in_apply}
+use Rattle.p416_rules.specs.Uses.{names_of_scope, some_parameters, some_counters, of_block_parameter, of_action_parameter}
 use Rattle.p416_rules.specs.Declarations.{known_local, parameter_name, control_names, control_scope, parameter_uses, note_uses, body_uses, action_scope, action_uses, local_uses, control_uses, counters_in, table_in, tables_in}
+use Rattle.p416_listed_check.specs.Listings.{AreGiven}
 use Rattle.p416_scopes.specs.declared.scope.Scope.{Scope as CodeScope}
 use Rattle.p416_scopes.specs.Seen.{seen_scope, seen_part}
 use Rattle.p416_visits.specs.Left.{height, shortened}
@@ -73,6 +74,18 @@ action_told f g h s a of_head of_body = after_then f g h (head_uses s a) (body_u
 
 pub part_stays : (old new : CodeScope) → seen_scope new ≡ seen_scope old → seen_part old.part ≡ in_apply → seen_part new.part ≡ in_apply
 part_stays old new same so = ap (λ (s : Scope). s.part) same ∙ so
+
+-- names of actions whose parameters can be given
+
+pub given_on : (s t : Scope) (names : List Name) → t ≡ s → AreGiven t names → AreGiven s names
+given_on s t names same are = subst (λ (u : Scope). AreGiven u names) same are
+
+pub given_at : (s t : Scope) (names : List Name) → t ≡ s → AreGiven s names → AreGiven t names
+given_at s t names same are = subst (λ (u : Scope). AreGiven u names) (sym same) are
+
+pub given_still : {E : Type 0} (r : Result (Unit {0}) E) (s : Scope) (names : List Name) → AreGiven s names → OnOk r (AreGiven s names)
+given_still (Ok x) s names are = are
+given_still (Err e) s names are = tt
 
 pub local_turn : (f g whole : Found) (s t : Scope) (x : Local) (rest : List Local) → t ≡ s → g ≡ after_all f (local_uses t x)
     → after_all f (local_uses s x ++ flat_map (local_uses s) rest) ≡ whole → after_all g (flat_map (local_uses s) rest) ≡ whole

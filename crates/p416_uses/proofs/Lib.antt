@@ -1,5 +1,6 @@
 pub mod BodyUses
 pub mod ControlUses
+pub mod KeptTables
 pub mod KeysetUses
 pub mod Loops
 pub mod ParserUses

@@ -7,6 +7,7 @@ ghost use Rattle.p416_rules.specs.Names.{repeats};
 ghost use Rattle.p416_rules.specs.Tables as rule_tables;
 ghost use Rattle.p416_rules.specs.Declarations as rules;
 ghost use Rattle.p416_scopes.specs.Seen.{seen_part, seen_scope};
+ghost use Rattle.p416_listed_check.specs.Listings.{AreGiven};
 ghost use Rattle.p416_expression_uses.specs.Found.{after, after_all};
 ghost use Rattle.p416_visits.specs.Left.{height, shortened};
 ghost use Rattle.p416_uses.specs.Parts.{local_name, head_uses, counters_by};
@@ -20,7 +21,7 @@ use crate::types::{push_parameters, see_parameters};
 use p4x_bits::{OutOfMemory, Text};
 use p416_ast::{Action16, Control16, Local, Param};
 use p416_expression_uses::{Findings, TypePlace};
-use p416_name_set::is_repeated;
+use p416_name_set::{NameSet, is_repeated};
 use p416_names::{Top, instance_name};
 use p416_rules::ProgramRule;
 use p416_scopes::{Part, Scope};
@@ -132,14 +133,18 @@ pub fn see_action<'a>(
     Ok(())
 }
 
-/// Judges what a control declares, in its scope.
+/// Judges what a control declares, in its scope, given names of actions each of whose parameters an entry of a table can give.
+#[tactic(auto, using(crate::proofs::ControlUses::given_still))]
 fn see_local<'a>(
     alloc: Global,
+    given: &mut NameSet<'a>,
     scope: &mut Scope<'_, 'a>,
     declared: &'a Local,
     found: &mut Findings<'a>,
 ) -> Result<(), OutOfMemory>
-    requires { seen_part scope.old.part ≡ in_apply }
+    requires part { seen_part scope.old.part ≡ in_apply }
+    requires given { AreGiven (seen_scope scope.old) given.old }
+    ensures given { OnOk result (AreGiven (seen_scope scope.old) given.new) }
     ensures found { OnOk result (found.new ≡ after_all found.old (rules.local_uses (seen_scope scope.old) declared.now)) }
     ensures scope { OnOk result (seen_scope scope.new ≡ seen_scope scope.old) }
     ensures top { scope.new.top ≡ scope.old.top }
@@ -150,7 +155,7 @@ fn see_local<'a>(
         }
         Local::Var(var) => see_var(alloc, scope, var, found),
         Local::Action(action) => see_action(alloc, scope, action, found),
-        Local::Table(table) => see_table(alloc, scope, table, found),
+        Local::Table(table) => see_table(alloc, given, scope, table, found),
     }
 }
 
@@ -167,8 +172,9 @@ fn see_locals<'a>(
     ensures scope { OnOk result (seen_scope scope.new ≡ seen_scope scope.old) }
     ensures top { scope.new.top ≡ scope.old.top }
 {
+    let mut given = NameSet::new(alloc);
     for declared in locals {
-        see_local(alloc, scope, declared, found)?;
+        see_local(alloc, &mut given, scope, declared, found)?;
     }
     Ok(())
 }

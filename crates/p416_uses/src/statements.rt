@@ -8,6 +8,7 @@ ghost use Rattle.p416_rules.specs.Uses.{a_name, a_switch, some_table, names_of_s
 ghost use Rattle.p416_kinds.specs.Seen.{seen_kind};
 ghost use Rattle.p416_calls.specs.Seen.{seen_place};
 ghost use Rattle.p416_scopes.specs.Seen.{seen_scope};
+ghost use Rattle.p416_listed_check.specs.Listings.{ListsScope};
 ghost use Rattle.p416_expression_uses.specs.Found.{after, after_all};
 ghost use Rattle.p416_uses.specs.Parts.{switch_rule};
 
@@ -19,7 +20,7 @@ use p416_calls::Place;
 use p416_expression_check::applies_nothing;
 use p416_expression_uses::{Findings, Places, TypePlace, see_expression, see_type};
 use p416_kinds::Kind;
-use p416_listed_check::has_outside_label;
+use p416_listed_check::{Listings, has_outside_label};
 use p416_rules::ProgramRule;
 use p416_scopes::Scope;
 use p416_visits::Visits;
@@ -84,18 +85,20 @@ pub(crate) fn see_initial<'a>(
 }
 
 /// The first rule that a `switch` breaks, which applies its table, by where it stands and by its labels.
-fn broken_switch(
-    alloc: Global,
-    scope: &Scope<'_, '_>,
-    table: &Text,
+fn broken_switch<'a>(
+    listed: &mut Listings<'a>,
+    scope: &Scope<'_, 'a>,
+    table: &'a Text,
     cases: &StmtView<'_>,
 ) -> Result<Option<ProgramRule>, OutOfMemory>
-    ensures { IfOk result (λ rule. rule ≡ switch_rule (seen_scope scope.now) table.now (labels_of cases.now)) }
+    requires { ListsScope (seen_scope scope.now) listed.old }
+    ensures listed { OnOk result (ListsScope (seen_scope scope.now) listed.new) }
+    ensures rule { IfOk result (λ rule. rule ≡ switch_rule (seen_scope scope.now) table.now (labels_of cases.now)) }
 {
     if applies_nothing(scope.part) {
         return Ok(Some(ProgramRule::T8));
     }
-    if has_outside_label(alloc, scope, table, cases)? {
+    if has_outside_label(listed, scope, table, cases)? {
         Ok(Some(ProgramRule::T9))
     } else {
         Ok(None)
@@ -104,32 +107,36 @@ fn broken_switch(
 
 /// Judges a `switch` by where it stands and by its labels.
 #[tactic(auto, using(p416_expression_uses::proofs::Lowest::switch_rule))]
-fn see_application(
-    alloc: Global,
-    scope: &Scope<'_, '_>,
-    table: &Text,
+fn see_application<'a>(
+    listed: &mut Listings<'a>,
+    scope: &Scope<'_, 'a>,
+    table: &'a Text,
     cases: &StmtView<'_>,
     found: &mut Findings<'_>,
 ) -> Result<(), OutOfMemory>
-    ensures { OnOk result (found.new ≡ after found.old (a_switch (seen_scope scope.now) table.now (labels_of cases.now))) }
+    requires { ListsScope (seen_scope scope.now) listed.old }
+    ensures listed { OnOk result (ListsScope (seen_scope scope.now) listed.new) }
+    ensures found { OnOk result (found.new ≡ after found.old (a_switch (seen_scope scope.now) table.now (labels_of cases.now))) }
 {
-    let rule = broken_switch(alloc, scope, table, cases)?;
+    let rule = broken_switch(listed, scope, table, cases)?;
     found.see_listed(rule);
     Ok(())
 }
 
 /// Judges a `switch` over a table, but for the cases.
-fn see_switch(
-    alloc: Global,
-    scope: &Scope<'_, '_>,
-    table: &Text,
+fn see_switch<'a>(
+    listed: &mut Listings<'a>,
+    scope: &Scope<'_, 'a>,
+    table: &'a Text,
     cases: &StmtView<'_>,
     found: &mut Findings<'_>,
 ) -> Result<(), OutOfMemory>
-    ensures { OnOk result (found.new ≡ after_all found.old (a_name (seen_scope scope.now) some_table table.now ∷ a_switch (seen_scope scope.now) table.now (labels_of cases.now) ∷ [])) }
+    requires { ListsScope (seen_scope scope.now) listed.old }
+    ensures listed { OnOk result (ListsScope (seen_scope scope.now) listed.new) }
+    ensures found { OnOk result (found.new ≡ after_all found.old (a_name (seen_scope scope.now) some_table table.now ∷ a_switch (seen_scope scope.now) table.now (labels_of cases.now) ∷ [])) }
 {
     see_name(scope, Wanted::Table, table.as_slice(), found);
-    see_application(alloc, scope, table, cases, found)?;
+    see_application(listed, scope, table, cases, found)?;
     Ok(())
 }
 
@@ -159,14 +166,18 @@ fn see_case(
     Ok(())
 }
 
-/// Judges a statement, but for the statements within it.
+/// Judges a statement, but for the statements within it, given the tables in scope that were gone through.
+#[tactic(auto, using(crate::proofs::KeptTables::listed_still))]
 fn see_statement<'a>(
     alloc: Global,
+    listed: &mut Listings<'a>,
     scope: &Scope<'_, 'a>,
     statement: &StmtView<'a>,
     found: &mut Findings<'a>,
 ) -> Result<(), OutOfMemory>
-    ensures { OnOk result (found.new ≡ after_all found.old (own_uses (seen_scope scope.now) statement.now)) }
+    requires { ListsScope (seen_scope scope.now) listed.old }
+    ensures listed { OnOk result (ListsScope (seen_scope scope.now) listed.new) }
+    ensures found { OnOk result (found.new ≡ after_all found.old (own_uses (seen_scope scope.now) statement.now)) }
 {
     match statement.head() {
         StmtHead::Block(body) => see_scope(alloc, &body, found),
@@ -180,13 +191,14 @@ fn see_statement<'a>(
         StmtHead::IfElse(condition, _, _) => {
             see_at(alloc, scope, Place::Value(Kind::Boolean), &condition, found)
         }
-        StmtHead::Switch(table, cases) => see_switch(alloc, scope, table, &cases, found),
+        StmtHead::Switch(table, cases) => see_switch(listed, scope, table, &cases, found),
         StmtHead::Case(_, label, body) => see_case(alloc, scope, label, &body, found),
         _ => Ok(()),
     }
 }
 
-/// Judges all statements within a list of statements, each in its scope.
+/// Judges all statements within a list of statements, each in its scope. A table that several of them choose by is gone through
+/// once.
 #[tactic(auto, using(crate::proofs::Turns::statement_turn, crate::proofs::Turns::statements_over))]
 pub(crate) fn see_statements<'a>(
     alloc: Global,
@@ -198,9 +210,10 @@ pub(crate) fn see_statements<'a>(
     ensures scope { OnOk result (seen_scope scope.new ≡ seen_scope scope.old) }
     ensures top { scope.new.top ≡ scope.old.top }
 {
+    let mut listed = Listings::new(alloc);
     let mut left = Visits::new(alloc, scope, body)?;
     while let Some(statement) = left.next(scope)? {
-        see_statement(alloc, scope, &statement, found)?;
+        see_statement(alloc, &mut listed, scope, &statement, found)?;
     }
     Ok(())
 }

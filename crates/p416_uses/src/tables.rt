@@ -10,6 +10,7 @@ ghost use Rattle.p416_rules.specs.Declarations as rules;
 ghost use Rattle.p416_names.specs.Seen.{seen_sort};
 ghost use Rattle.p416_scopes.specs.Seen.{seen_scope};
 ghost use Rattle.p416_expression_check.specs.Judged.{first_broken};
+ghost use Rattle.p416_listed_check.specs.Listings.{AreGiven};
 ghost use Rattle.p416_expression_uses.specs.Found.{after, after_all};
 ghost use Rattle.p416_uses.specs.Parts.{key_uses_in, rest_uses};
 
@@ -21,6 +22,7 @@ use p416_ast::{ActionName, Exp, ExpHead, ExpView, Literal16, Table16, TableKey};
 use p416_calls::Place;
 use p416_expression_uses::{Arguments, Findings, Places, see_expression, see_number};
 use p416_listed_check::is_bad_table;
+use p416_name_set::NameSet;
 use p416_names::Sort;
 use p416_rules::ProgramRule;
 use p416_scopes::{Part, Scope};
@@ -284,12 +286,15 @@ fn see_properties<'a>(
 /// The rule that a table breaks by its keys and actions together.
 fn broken_table<'a>(
     alloc: Global,
+    given: &mut NameSet<'a>,
     scope: &Scope<'_, 'a>,
     table: &'a Table16,
 ) -> Result<Option<ProgramRule>, OutOfMemory>
-    ensures { IfOk result (λ rule. rule ≡ (if is_bad_table (seen_scope scope.now) table.now then Some T9 else None)) }
+    requires { AreGiven (seen_scope scope.now) given.old }
+    ensures given { OnOk result (AreGiven (seen_scope scope.now) given.new) }
+    ensures rule { IfOk result (λ rule. rule ≡ (if is_bad_table (seen_scope scope.now) table.now then Some T9 else None)) }
 {
-    if is_bad_table(alloc, scope, table)? {
+    if is_bad_table(alloc, given, scope, table)? {
         Ok(Some(ProgramRule::T9))
     } else {
         Ok(None)
@@ -300,31 +305,37 @@ fn broken_table<'a>(
 #[tactic(auto, using(p416_expression_uses::proofs::Lowest::table_rule))]
 fn see_whole<'a>(
     alloc: Global,
+    given: &mut NameSet<'a>,
     scope: &Scope<'_, 'a>,
     table: &'a Table16,
     found: &mut Findings<'_>,
 ) -> Result<(), OutOfMemory>
-    ensures { OnOk result (found.new ≡ after found.old (a_table_of (seen_scope scope.now) table.now)) }
+    requires { AreGiven (seen_scope scope.now) given.old }
+    ensures given { OnOk result (AreGiven (seen_scope scope.now) given.new) }
+    ensures found { OnOk result (found.new ≡ after found.old (a_table_of (seen_scope scope.now) table.now)) }
 {
-    let rule = broken_table(alloc, scope, table)?;
+    let rule = broken_table(alloc, given, scope, table)?;
     found.see_listed(rule);
     Ok(())
 }
 
-/// Judges a table.
+/// Judges a table, given names of actions each of whose parameters an entry can give; those of its actions are put there.
 #[tactic(auto, using(crate::proofs::TableUses::table_told))]
 pub(crate) fn see_table<'a>(
     alloc: Global,
+    given: &mut NameSet<'a>,
     scope: &mut Scope<'_, 'a>,
     table: &'a Table16,
     found: &mut Findings<'a>,
 ) -> Result<(), OutOfMemory>
+    requires { AreGiven (seen_scope scope.old) given.old }
+    ensures given { OnOk result (AreGiven (seen_scope scope.old) given.new) }
     ensures found { OnOk result (found.new ≡ after_all found.old (rules.table_uses (seen_scope scope.old) table.now)) }
     ensures scope { OnOk result (seen_scope scope.new ≡ seen_scope scope.old) }
     ensures top { scope.new.top ≡ scope.old.top }
 {
     see_notes(table.notes.as_slice(), found);
-    see_whole(alloc, scope, table, found)?;
+    see_whole(alloc, given, scope, table, found)?;
     see_keys(alloc, scope, table.keys(), found)?;
     see_properties(alloc, scope, table, found)?;
     Ok(())

@@ -1,29 +1,12 @@
 -- Counters with the actions that their tables list.
-use Rattle.std.specs.Prelude.{Bool, false, not, ◌&&◌, List, Option, Some, None}
-use Rattle.std.specs.Borrow.{Bor}
+use Rattle.std.specs.Prelude.{Bool, false, not, List, Option, Some, None}
 use Rattle.std.specs.List.{list_any}
-use Rattle.std.specs.Str.{bytes_eq}
 use Rattle.p416_ast.specs.declared.controls.ActionName.{ActionName}
-use Rattle.p416_ast.specs.declared.controls.ActionName.TheVariants as action_name
 use Rattle.p416_ast.specs.declared.controls.Table16.{Table16}
 use Rattle.p416_ast.specs.Properties.{actions_of, counters_of}
 use Rattle.p416_rules.specs.Names.{Name}
 use Rattle.p416_expression_uses.specs.Found.{CountedIn}
-
--- a counter and an action
-abbrev pub Pair : Type 0
-Pair = Name × Name
-
-abbrev pub shown_pair : Bor Name × Bor Name → Pair
-shown_pair k = (k.0.now, k.1.now)
-
-abbrev pub is_same_pair : Pair → Pair → Bool
-is_same_pair a b = bytes_eq a.0 b.0 && bytes_eq a.1 b.1
-
--- a pair is that of this counter and an action that is listed
-abbrev pub is_listed_pair : Pair → Name → ActionName → Bool
-is_listed_pair p counter (action_name.Declared text) = is_same_pair p (counter, text)
-is_listed_pair p counter action_name.NoAction = false
+use Rattle.p416_listed_check.specs.Pairs.{Pair, is_same_pair, is_listed_pair}
 
 -- a pair is that of a table's counter and an action that it lists
 abbrev pub is_pair_by : Pair → Option Name → List ActionName → Bool

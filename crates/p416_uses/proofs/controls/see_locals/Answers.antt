@@ -2,7 +2,7 @@ use Rattle.p416_rules.specs.Declarations.{local_uses}
 use Rattle.p416_scopes.specs.Seen.{seen_scope}
 use Rattle.p416_uses.proofs.Loops.{scoped_on}
 use Rattle.std.proofs.Common.{◌∙◌}
-use Rattle.p416_uses.proofs.ControlUses.{part_stays}
+use Rattle.p416_uses.proofs.ControlUses.{part_stays, given_on, given_at}
 use Rattle.p416_uses.proofs.controls.see_locals.Goals as goal
 
 pub loop-declared-preserved : goal.loop-declared-preserved
@@ -13,4 +13,8 @@ loop-declared-preserved c = record {
   scope = c.in_ok-see_local.ensures.scope ∙ c.loop-declared.invariant.scope;
   top = c.see_local.ensures.top ∙ c.loop-declared.invariant.top;
   part = part_stays c.loop-declared.scope c.see_local.new.scope c.in_ok-see_local.ensures.scope c.loop-declared.invariant.part;
+  given = given_on _ _ _ c.loop-declared.invariant.scope c.in_ok-see_local.ensures.given;
 }
+
+pub see_local-requires-clause-given : goal.see_local-requires-clause-given
+see_local-requires-clause-given c = given_at _ _ _ c.loop-declared.invariant.scope c.loop-declared.invariant.given

@@ -2,6 +2,7 @@ use Rattle.std.proofs.Common.{◌≡◌, flat_map, drop}
 use Rattle.p416_rules.specs.Scopes.{in_apply}
 use Rattle.p416_rules.specs.Declarations.{local_uses}
 use Rattle.p416_scopes.specs.Seen.{seen_part, seen_scope}
+use Rattle.p416_listed_check.specs.Listings.{AreGiven}
 use Rattle.p416_expression_uses.specs.Found.{after_all}
 use Rattle.p416_uses.proofs.controls.see_locals.Given as goal
 
@@ -11,4 +12,5 @@ invariant-loop-declared l = record {
   scope : seen_scope l.scope ≡ seen_scope l.fn.scope;
   top : l.scope.top ≡ l.fn.scope.top;
   part : seen_part l.scope.part ≡ in_apply;
+  given : AreGiven (seen_scope l.fn.scope) l.given;
 }
