@@ -124,7 +124,7 @@ fn expect_carried(
     rt: &(impl Abort + AllocGlobal),
     name: &str,
     other: &[u8],
-    text: Output<'_>,
+    text: Output<'static>,
 ) -> Result<(), Fail> {
     assert!(rt; other != program(), "{name} is the common program");
     let mut desk = desk(rt.alloc(), other, b"", capture())?;

@@ -1,18 +1,16 @@
 -- Packets that take more than one pass.
-use Rattle.std.proofs.Common.{◌≡◌, ℕ, List, [], ◌∷◌, ◌++◌, map, Option, Some, None, refl}
+use Rattle.std.proofs.Common.{◌≡◌, ℕ, List, [], ◌∷◌, map, refl}
 use Rattle.std.specs.Prelude.{codes}
 use Rattle.p4x_bits.specs.BitLists.{num, bits}
 use Rattle.match_core.specs.declared.entries.Entries.{Entries}
 use Rattle.fabric.specs.declared.packets.Arrival.{Arrival}
 use Rattle.fabric.specs.Queue.{run}
-use Rattle.p414_ast.specs.declared.headers.Field.{Field}
 use Rattle.p414_ast.specs.declared.actions.Call.{Call}
 use Rattle.p414_ast.specs.declared.syntax.Decl.{Decl}
 use Rattle.p414_ast.specs.declared.syntax.Rule14.TheVariants.{Sequential}
-use Rattle.p414_ast.specs.Tree.{Stmt, no_statements, apply}
+use Rattle.p414_ast.specs.Tree.{apply}
 use Rattle.p414_ast.specs.declared.parsers.Return.TheVariants as end_of
 use Rattle.p414_rules.specs.Arguments.{actions, invocations_of}
-use Rattle.p414_rules.specs.Expansion.{lists, items_in}
 use Rattle.p414_sem.specs.Expanded.{Expanded}
 use Rattle.p414_sem.specs.Controls.{Setting}
 use Rattle.p414_sem.specs.Parsing.{parsed}

@@ -3,8 +3,9 @@ use Rattle.std.proofs.Common.{◌≡◌, ℕ, List, [], ◌∷◌, Option, Some,
 use Rattle.std.specs.Prelude.{codes}
 use Rattle.p4x_bits.specs.BitLists.{num, bits}
 use Rattle.state_store.specs.State.{Contents}
-use Rattle.state_store.specs.State.{read as cell_of}
+use Rattle.state_store.specs.State.{pair, read as cell_of}
 use Rattle.p414_ast.specs.declared.actions.Call.{Call}
+use Rattle.p414_ast.specs.declared.objects.CounterType.TheVariants.{PacketsAndBytes}
 use Rattle.p414_ast.specs.declared.objects.StateAttr.TheVariants as state_attr
 use Rattle.p414_ast.specs.declared.parsers.PValue.TheVariants as pvalue
 use Rattle.p414_ast.specs.declared.parsers.Masked.{Masked}
@@ -21,7 +22,7 @@ use Rattle.p414_sem.specs.Signatures.{signature14}
 use Rattle.p414_sem.specs.Passes.{ingress14, egress14}
 use Rattle.p414_sem.specs.Controls.{Setting}
 use Rattle.p414_sem_examples.specs.Parts.{plain, named, of, call, n, minus, at, by_name, field, to_port_3, type, header, state, action, table}
-use Rattle.p414_sem_examples.specs.Programs.{simply, four, p3, p3_saturating, applies_t, register_r, meter_m, next_label, bos_is_1, else_start}
+use Rattle.p414_sem_examples.specs.Programs.{simply, four, p3, p3_saturating, applies_t, register_r, meter_m, list_l, calculation_c, next_label, bos_is_1, else_start}
 use Rattle.p414_sem_examples.specs.Packets.{setting, first, pass, sent}
 
 abbrev packet : List ℕ
@@ -195,3 +196,69 @@ never_matches = refl
 matches_and_stops : sends (selecting 0) Sequential ≡ None
 unfolding num bits parsed signature14 ingress14 egress14
 matches_and_stops = refl
+
+-- modify_field_with_hash_based_offset(f.y, base, c, size): the base alone where the size is 0, and a sum past the field
+abbrev hashing : ℕ → ℕ → List Decl
+hashing base size =
+    four (field (codes "y") 8)
+    (call (codes "modify_field_with_hash_based_offset") (at (codes "f") (codes "y") ∷ n base ∷ by_name (codes "c") ∷ n size ∷ [])
+    ∷ [])
+    (list_l ∷ calculation_c ∷ [])
+
+hashes_by_nothing : sends (hashing 10 0) Sequential ≡ on_3 10
+unfolding num bits parsed signature14 ingress14 egress14
+hashes_by_nothing = refl
+
+hashes_past_the_field : sends (hashing 255 16) Sequential ≡ on_3 3
+unfolding num bits parsed signature14 ingress14 egress14
+hashes_past_the_field = refl
+
+-- modify_field(f.y, 255); modify_field(f.y, 0, 0x0f): the bits that stay are those of the moment that is read
+abbrev keeping_bits : List Decl
+keeping_bits =
+    p3
+    (call (codes "modify_field") (at (codes "f") (codes "y") ∷ n 255 ∷ [])
+    ∷ call (codes "modify_field") (at (codes "f") (codes "y") ∷ n 0 ∷ n 0x0f ∷ [])
+    ∷ [])
+
+keeps_bits_of_the_write : sends keeping_bits Sequential ≡ on_3 0xf0
+unfolding num bits parsed signature14 ingress14 egress14
+keeps_bits_of_the_write = refl
+
+keeps_bits_of_the_entry : sends keeping_bits Parallel ≡ on_3 0
+unfolding num bits parsed signature14 ingress14 egress14
+keeps_bits_of_the_entry = refl
+
+-- add_to_field(f.y, 200); add_to_field(f.y, 100), where y is saturating
+abbrev adding : List Decl
+adding =
+    p3_saturating
+    (call (codes "add_to_field") (at (codes "f") (codes "y") ∷ n 200 ∷ [])
+    ∷ call (codes "add_to_field") (at (codes "f") (codes "y") ∷ n 100 ∷ [])
+    ∷ [])
+
+adds_up_to_the_end : sends adding Sequential ≡ on_3 0xff
+unfolding num bits parsed signature14 ingress14 egress14
+adds_up_to_the_end = refl
+
+adds_to_the_entry : sends adding Parallel ≡ on_3 100
+unfolding num bits parsed signature14 ingress14 egress14
+adds_to_the_entry = refl
+
+-- count(k, 1); count(k, 0), where k has one cell: the packet and its four octets, once
+abbrev counting : List Decl
+counting =
+    four (field (codes "y") 8)
+    (call (codes "count") (by_name (codes "k") ∷ n 1 ∷ []) ∷ call (codes "count") (by_name (codes "k") ∷ n 0 ∷ []) ∷ [])
+    (decl.Counter (record {
+      name = codes "k";
+      attributes = state_attr.Counts PacketsAndBytes ∷ state_attr.InstanceCount (plain 1) ∷ [];
+    })
+    ∷ [])
+
+abbrev counting_setting : Setting
+counting_setting = setting counting (simply counting applies_t) Sequential []
+
+counts_once : pair (pass counting_setting (first counting_setting) packet).store 0 0 ≡ (1, 4)
+unfolding num bits parsed signature14 ingress14 egress14
+counts_once = refl

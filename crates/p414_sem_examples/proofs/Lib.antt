@@ -3,3 +3,4 @@ mod Further
 mod Conditional
 mod Routes
 mod Again
+mod Passing

@@ -1,0 +1,4 @@
+mod Steps
+mod Counting
+mod Actions
+mod Told

@@ -1,0 +1,8 @@
+use Rattle.std.proofs.Common.{◌≡◌, ◌++◌, map, drop}
+use Rattle.p416_rules.specs.Declarations.{bit_field}
+use Rattle.p416_kinds.specs.Seen.{seen_kind}
+use Rattle.v1_layout.specs.Left.{kind_of_field}
+use Rattle.v1_layout.proofs.fields.bit_kinds.Given as goal
+
+abbrev pub invariant-loop-field : goal.invariant-loop-field
+invariant-loop-field l = map seen_kind l.kinds.items ++ map kind_of_field (map bit_field (drop l.field-index l.fields)) ≡ map kind_of_field (map bit_field l.fields)

@@ -1,0 +1,52 @@
+-- That a ready expression gives what the expression means.
+use Rattle.std.specs.Prelude.{◌≡◌, List, IfSome, None}
+use Rattle.p416_ast.specs.declared.program.Syntax16.{Syntax16}
+use Rattle.p416_ast.specs.Tree.{Exp16}
+use Rattle.p416_rules.specs.Names.{Name}
+use Rattle.p416_rules.specs.Scopes.{Scope}
+use Rattle.p416_rules.specs.Calls.{Place}
+use Rattle.p416_rules.specs.Declarations.{layouts_of}
+use Rattle.v1_sem.specs.Frames.{Moment, read}
+use Rattle.v1_sem.specs.Surroundings.{World, named}
+use Rattle.v1_sem.specs.Expressions.{value_of}
+use Rattle.v1_sem.specs.Numbered.{InScope, frame_in}
+use Rattle.v1_frames.specs.Cells.{Cells}
+use Rattle.v1_frame_values.specs.Programs.{frame_kinds, numbered16}
+use Rattle.v1_frame_values.specs.Frames.{IsFrameOf}
+use Rattle.v1_ready_expressions.specs.Ready.{ready_value}
+use Rattle.v1_ready_forms.specs.Named.{NamedSeat, seats_in}
+use Rattle.v1_ready_forms.specs.Ways.{Way}
+use Rattle.v1_ready_forms.specs.Expressions.{name_ready, asked_ready}
+use Rattle.v1_ready_laws.specs.Asked.{asked_value, Gives}
+use Rattle.v1_ready_laws.specs.Operands.{OperandsFit}
+use Rattle.v1_ready_laws.specs.Widths.{TypesNarrow, KindsNarrow}
+
+-- what is asked of a name is asked of the value that it means
+abbrev pub NamesGive : World → Scope → List NamedSeat → Cells → Moment → Type 0
+NamesGive w s seats c m =
+    (way : Way) (text : Name) →
+    IfSome (name_ready s.layouts seats way text)
+    (λ r. ready_value c m.unparsed r ≡ asked_value way (read m.frame (named w.around m.frame text)))
+
+-- where an expression is ready, its ready form gives what is asked of it
+abbrev pub ReadyGives : Type 0
+ReadyGives =
+    (w : World) (s : Scope) (seats : List NamedSeat) (c : Cells) (m : Moment) (p : Place) (way : Way) (e : Exp16) →
+    m.stopped ≡ None → NamesGive w s seats c m → OperandsFit w s m p e →
+    IfSome (asked_ready s seats p way e) (λ r. Gives (ready_value c m.unparsed r) way (value_of w s p e m) m)
+
+-- in a frame of a program, with these variables in scope, names mean what stands at their seats
+abbrev pub ProgramNamesGive : Type 0
+ProgramNamesGive =
+    (syntax : Syntax16) (c : Cells) (w : World) (s : Scope) (who : InScope) (m : Moment) → IsFrameOf syntax c →
+    TypesNarrow (layouts_of syntax.decls) → KindsNarrow (frame_kinds syntax) → s.layouts ≡ layouts_of syntax.decls →
+    m.frame ≡ frame_in who (numbered16 syntax c) → NamesGive w s (seats_in syntax w.around.roots who) c m
+
+-- so the ready expressions of a program give what its expressions mean
+abbrev pub ProgramReadyGives : Type 0
+ProgramReadyGives =
+    (syntax : Syntax16) (c : Cells) (w : World) (s : Scope) (who : InScope) (m : Moment) (p : Place) (way : Way) (e : Exp16) →
+    IsFrameOf syntax c → TypesNarrow (layouts_of syntax.decls) → KindsNarrow (frame_kinds syntax) →
+    s.layouts ≡ layouts_of syntax.decls → m.frame ≡ frame_in who (numbered16 syntax c) → m.stopped ≡ None →
+    OperandsFit w s m p e →
+    IfSome (asked_ready s (seats_in syntax w.around.roots who) p way e) (λ r. Gives (ready_value c m.unparsed r) way (value_of w s p e m) m)
