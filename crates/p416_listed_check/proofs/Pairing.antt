@@ -110,4 +110,3 @@ listed_is called wanted action (action_name.Declared text ∷ actions) =
     ∙ (ap (λ (b : Bool). (b && bytes_eq action text) || (bytes_eq called wanted && list_any (is_same_action (action_name.Declared action)) actions)) (bytes_either called wanted)
     ∙ ap (λ (b : Bool). (bytes_eq wanted called && bytes_eq action text) || b) (listed_is called wanted action actions))
 listed_is called wanted action (action_name.NoAction ∷ actions) = listed_is called wanted action actions
-
