@@ -10,6 +10,7 @@ pub mod OfKinds
 pub mod Typed
 pub mod Rules
 pub mod Scoped
+pub mod Seated
 pub mod Narrow
 pub mod Declared
 pub mod Accepted

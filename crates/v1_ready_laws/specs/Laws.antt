@@ -1,16 +1,17 @@
 -- That a ready expression gives what the expression means.
 use Rattle.std.specs.Prelude.{◌≡◌, List, IfSome, None}
+use Rattle.std.specs.List.{AllZip}
 use Rattle.p416_ast.specs.declared.program.Syntax16.{Syntax16}
 use Rattle.p416_ast.specs.Tree.{Exp16}
 use Rattle.p416_rules.specs.Names.{Name}
-use Rattle.p416_rules.specs.Scopes.{Scope}
+use Rattle.p416_rules.specs.Scopes.{Known, Scope, inside}
 use Rattle.p416_rules.specs.Calls.{Place}
 use Rattle.p416_rules.specs.Declarations.{layouts_of}
 use Rattle.p416_rules.specs.Breaks.{BreaksNone, program_rules}
 use Rattle.v1_sem.specs.Frames.{Moment, read}
-use Rattle.v1_sem.specs.Surroundings.{World, named}
+use Rattle.v1_sem.specs.Surroundings.{Root, World, named}
 use Rattle.v1_sem.specs.Expressions.{value_of}
-use Rattle.v1_sem.specs.Numbered.{InScope, frame_in}
+use Rattle.v1_sem.specs.Numbered.{Variable, InScope, frame_in}
 use Rattle.v1_frames.specs.Cells.{Cells}
 use Rattle.v1_frame_values.specs.Programs.{frame_kinds, numbered16}
 use Rattle.v1_frame_values.specs.Frames.{IsFrameOf}
@@ -22,7 +23,7 @@ use Rattle.v1_ready_laws.specs.Asked.{asked_value, Gives}
 use Rattle.v1_ready_laws.specs.Operands.{OperandsFit}
 use Rattle.v1_ready_laws.specs.Widths.{TypesNarrow, KindsNarrow}
 use Rattle.v1_ready_laws.specs.Kinds.{TypesSized, NamesAreOf}
-use Rattle.v1_ready_laws.specs.Rules.{AppliesNone, Keeps, NamesSeated}
+use Rattle.v1_ready_laws.specs.Rules.{AppliesNone, Keeps, NamesSeated, IsVariable, with_inner_ones}
 
 -- what is asked of a name is asked of the value that it means
 abbrev pub NamesGive : World → Scope → List NamedSeat → Cells → Moment → Type 0
@@ -74,3 +75,10 @@ abbrev pub AcceptedNarrow : Type 0
 AcceptedNarrow =
     (syntax : Syntax16) → BreaksNone syntax program_rules →
     TypesNarrow (layouts_of syntax.decls) × TypesSized (layouts_of syntax.decls) × KindsNarrow (frame_kinds syntax)
+
+-- names stay declared as what stands at their seats where variables or parameters of an action come in front of them
+abbrev pub DeclaredStaySeated : Type 0
+DeclaredStaySeated =
+    (syntax : Syntax16) (s : Scope) (roots : List Root) (who : InScope) (vs : List Variable) (ks : List Known) →
+    AllZip (IsVariable syntax) vs ks → NamesSeated s (seats_in syntax roots who) →
+    NamesSeated (inside s ks) (seats_in syntax roots (with_inner_ones vs who))

@@ -1,16 +1,19 @@
 -- Expressions that keep the rules on types and sizes, and apply no table; and names that are declared as what stands at their
 -- seats.
-use Rattle.std.specs.Prelude.{◌≡◌, false, List, Option, Some, None}
+use Rattle.std.specs.Prelude.{◌≡◌, ◌<◌, Bool, false, List, ◌++◌, length, slice_index_or, Option, Some, None}
 use Rattle.std.specs.List.{list_any}
+use Rattle.p416_ast.specs.declared.program.Syntax16.{Syntax16}
 use Rattle.p416_ast.specs.Tree.{Exp16, member, index, slice, call, cast, unary, binary, choice}
 use Rattle.p416_rules.specs.Names.{Name}
-use Rattle.p416_rules.specs.Kinds.{Kind, packet_in, packet_out}
-use Rattle.p416_rules.specs.Scopes.{Sort, a_value, Scope, sort_of}
+use Rattle.p416_rules.specs.Kinds.{Kind, packet_in, packet_out, unknown}
+use Rattle.p416_rules.specs.Scopes.{Sort, a_value, Known, Scope, sort_of}
 use Rattle.p416_rules.specs.Calls.{Place}
 use Rattle.p416_rules.specs.Expressions.{kind_of}
 use Rattle.p416_rules.specs.Uses.{Use, uses}
 use Rattle.p416_rules.specs.Types.{is_mistyped}
 use Rattle.p416_rules.specs.Sizes.{leaves_size}
+use Rattle.v1_sem.specs.Slots.{variable_kinds}
+use Rattle.v1_sem.specs.Numbered.{Variable, InScope}
 use Rattle.v1_frame_values.specs.Seats.{form_of, Seat}
 use Rattle.v1_ready_forms.specs.Named.{NamedSeat, seat_of_name}
 use Rattle.v1_ready_laws.specs.Kinds.{IsNoTable}
@@ -49,3 +52,14 @@ SortSeated sort seat = Unit {0}
 
 abbrev pub NamesSeated : Scope → List NamedSeat → Type 0
 NamesSeated s seats = (text : Name) → SortSeated (sort_of s text) (seat_of_name seats text)
+
+-- a variable or a parameter of an action by its number, as it is declared
+pub record IsVariable (syntax : Syntax16) (v : Variable) (k : Known) : Type 0 where
+  pub called : v.called ≡ k.called
+  pub number : v.number < length (variable_kinds syntax)
+  pub can : Bool
+  pub sort : k.sort ≡ a_value (slice_index_or (variable_kinds syntax) v.number unknown) can
+
+-- with these in scope too, the innermost
+abbrev pub with_inner_ones : List Variable → InScope → InScope
+with_inner_ones vs who = record who { inner = vs ++ who.inner }

@@ -2,7 +2,7 @@
 //! that does nothing.
 #![tactic(auto)]
 
-ghost use Rattle.v1_ready_laws.specs.Laws.{ReadyGives, ProgramNamesGive, ProgramReadyGives, OperandsAlwaysFit, JudgedReadyGives, AcceptedNarrow};
+ghost use Rattle.v1_ready_laws.specs.Laws.{ReadyGives, ProgramNamesGive, ProgramReadyGives, OperandsAlwaysFit, JudgedReadyGives, AcceptedNarrow, DeclaredStaySeated};
 
 /// A ready expression gives the value of the expression, or the error that ends its evaluation, where names mean what stands
 /// at their seats and operands have the widths that the rules allow.
@@ -34,4 +34,9 @@ pub fn ready_expressions_that_keep_the_rules_give_their_values()
 /// In a program that keeps the rules no bits are wider than 128, and each field of a type has a width of its own.
 pub fn accepted_programs_are_narrow()
     ensures { AcceptedNarrow }
+{}
+
+/// Names stay declared as what stands at their seats where variables, or parameters of an action, come in front of them.
+pub fn declared_names_stay_seated()
+    ensures { DeclaredStaySeated }
 {}
