@@ -1,0 +1,7 @@
+mod Accepted
+mod Giving
+mod Held
+mod Loops
+mod Same
+mod Summing
+mod Turns
