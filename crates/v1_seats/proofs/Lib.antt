@@ -1,0 +1,6 @@
+mod First
+mod Naming
+mod Reaching
+mod Stepping
+mod Turns
+pub mod Seating

@@ -1,0 +1,6 @@
+use Rattle.std.proofs.Common.{◌≡◌, ◌++◌, map, drop}
+use Rattle.p416_rules.specs.Declarations.{member_name}
+use Rattle.v1_seats.proofs.rows.typed_names.Given as goal
+
+abbrev pub invariant-loop-field : goal.invariant-loop-field
+invariant-loop-field l = map (λ name. name.now) l.names.items ++ map member_name (drop l.field-index l.fields) ≡ map member_name l.fields
