@@ -11,7 +11,6 @@ use Rattle.p416_ast.specs.declared.parts.Note.TheVariants.{Name}
 use Rattle.p416_ast.specs.declared.parts.StructField.{StructField}
 use Rattle.p416_ast.specs.declared.parts.Type16.{Type16}
 use Rattle.p416_ast.specs.declared.parts.Type16.TheVariants as kind
-use Rattle.p416_ast.specs.declared.parsers.Parser16.{Parser16}
 use Rattle.p416_ast.specs.declared.parsers.State.{State}
 use Rattle.p416_ast.specs.declared.parsers.Target.TheVariants.{Accept}
 use Rattle.p416_ast.specs.declared.parsers.Transition.{Transition}
