@@ -1,7 +1,7 @@
 // Lists of ports, and the packets that come in on them.
 use crate::setting::{FRAME, LITTLE_HEADER, LITTLE_RECORD, is_the_frame, joined};
 use p4x_fault::{Fault, Place, Rule};
-use pcap_io::{CaptureReader, PortFault, Record, arrive, read_capture, read_ports};
+use pcap_io::{CaptureReader, PortFault, arrive, read_capture, read_ports};
 use std::alloc::Global;
 use std::test::Fail;
 
@@ -30,22 +30,18 @@ fn are_on_their_ports(alloc: Global) -> Result<bool, Fail> {
 }
 
 /// Whether a record comes in on the first port, and the second is left.
-fn comes_on_the_first(record: Option<Record>, ports: &[u128]) -> bool {
-    match record {
-        Some(one) => {
-            let (arrival, behind) = arrive(one, ports);
-            is_the_frame(&arrival, 510) && matches!(behind, [5])
-        }
-        None => false,
-    }
-}
-
 fn is_on_the_next_port(alloc: Global) -> Result<bool, Fail> {
     let octets = joined(alloc, &[LITTLE_HEADER, LITTLE_RECORD, FRAME])?;
     let ports = read_ports(alloc, b"510\n5\n")?;
     let mut reader = CaptureReader::new(alloc);
     reader.feed(&octets)?;
-    Ok(comes_on_the_first(reader.next(), ports.list.as_slice()))
+    Ok(match reader.next() {
+        Some(one) => {
+            let (arrival, behind) = arrive(one, ports.list.as_slice());
+            is_the_frame(&arrival, 510) && matches!(behind, [5])
+        }
+        None => false,
+    })
 }
 
 #[test]

@@ -14,6 +14,7 @@ mod walk;
 pub use first::lower;
 pub use found::{Counted, Findings};
 pub use numbers::{see_number, see_width};
+pub use operands::{cast_place, chosen_place, left_place, right_place, unary_place};
 pub use places::{Arguments, Places};
 pub use types::{TypePlace, see_type};
 pub use walk::see_expression;

@@ -33,7 +33,7 @@ fn compared_place<'a>(a: Kind<'a>, b: Kind<'a>) -> Place<'a>
 }
 
 /// The place of both values of `c ? a : b`.
-pub(crate) fn chosen_place<'a>(place: Place<'a>, a: Kind<'a>, b: Kind<'a>) -> Place<'a>
+pub fn chosen_place<'a>(place: Place<'a>, a: Kind<'a>, b: Kind<'a>) -> Place<'a>
     ensures { seen_place result ≡ rules.chosen_place (seen_place place.entry) (seen_kind a.entry) (seen_kind b.entry) }
 {
     if a.is_chosen() {
@@ -48,11 +48,7 @@ pub(crate) fn chosen_place<'a>(place: Place<'a>, a: Kind<'a>, b: Kind<'a>) -> Pl
 }
 
 /// The place of an operand behind its operator.
-pub(crate) fn unary_place<'a>(
-    place: Place<'a>,
-    operator: UnaryOperator,
-    kind: Kind<'a>,
-) -> Place<'a>
+pub fn unary_place<'a>(place: Place<'a>, operator: UnaryOperator, kind: Kind<'a>) -> Place<'a>
     ensures { seen_place result ≡ rules.unary_place (seen_place place.entry) operator (seen_kind kind.entry) }
 {
     match operator {
@@ -63,7 +59,7 @@ pub(crate) fn unary_place<'a>(
 }
 
 /// The place of a left operand, given that of the whole and what the operands are.
-pub(crate) fn left_place<'a>(
+pub fn left_place<'a>(
     place: Place<'a>,
     operator: BinaryOperator,
     a: Kind<'a>,
@@ -95,7 +91,7 @@ pub(crate) fn left_place<'a>(
 }
 
 /// The place of a right operand: that of the left one, but the right side of a shift has any width.
-pub(crate) fn right_place<'a>(
+pub fn right_place<'a>(
     place: Place<'a>,
     operator: BinaryOperator,
     a: Kind<'a>,
@@ -111,7 +107,7 @@ pub(crate) fn right_place<'a>(
 }
 
 /// The place of what is cast.
-pub(crate) fn cast_place<'a>(to: CastType) -> Place<'a>
+pub fn cast_place<'a>(to: CastType) -> Place<'a>
     ensures { seen_place result ≡ rules.cast_place to }
 {
     match to {

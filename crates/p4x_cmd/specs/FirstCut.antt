@@ -11,7 +11,6 @@ use Rattle.p416_ast.specs.declared.parts.Note.TheVariants.{Name}
 use Rattle.p416_ast.specs.declared.parts.StructField.{StructField}
 use Rattle.p416_ast.specs.declared.parts.Type16.{Type16}
 use Rattle.p416_ast.specs.declared.parts.Type16.TheVariants as kind
-use Rattle.p416_ast.specs.declared.parsers.Parser16.{Parser16}
 use Rattle.p416_ast.specs.declared.parsers.State.{State}
 use Rattle.p416_ast.specs.declared.parsers.Target.TheVariants.{Accept}
 use Rattle.p416_ast.specs.declared.parsers.Transition.{Transition}
@@ -33,6 +32,12 @@ is_field c (member (name text) word) = bytes_eq text c.standard
 is_field c (member (member (name text) h) word) = bytes_eq text c.headers
 is_field c _ = false
 
+-- what may be written: a field of a header of H, and of the standard metadata `egress_spec` alone
+abbrev pub is_target : Scope → Exp16 → Bool
+is_target c (member (name text) word) = bytes_eq text c.standard && bytes_eq word (codes "egress_spec")
+is_target c (member (member (name text) h) word) = bytes_eq text c.headers
+is_target c _ = false
+
 -- a literal, an error, a field, or whether two of these are equal
 abbrev pub is_value : Scope → Exp16 → Bool
 is_value c (literal number) = true
@@ -53,7 +58,7 @@ abbrev pub is_simple : Scope → Stmt16 → Bool
 is_simple c no_statements = true
 is_simple c ((then) before last) = is_simple c before && is_simple c last
 is_simple c (block statements) = is_simple c statements
-is_simple c (assign target e) = is_field c target && is_value c e
+is_simple c (assign target e) = is_target c target && is_value c e
 is_simple c (expression e) = is_simple_call c e
 is_simple c (if_else condition positive negative) =
     is_value c condition && is_simple c positive && is_simple c negative

@@ -36,10 +36,10 @@ fn run<D: Desk, K: Sink>(alloc: Global, words: &[String], desk: &mut D, out: &mu
 ///
 /// The words are `carry PROGRAM ENTRIES CAPTURE --text F --sent F --report F [--ports F]`, with the options in any order, `check PROGRAM` or
 /// `order PROGRAM`. The status is 0 where the program was carried, or is accepted; 1 after a fault of a file that the words name or of the sink;
-/// 2 where the words are no form of a command; 3 where the program isn't taken: by `carry` where it isn't one of the one-table form of P4_14, by
-/// the others where its text breaks one of the rules L1 to L4, S1 and C1 to C28; 4 where the entries file has an octet; 5 where the ports break
-/// one of the rules P1 and P2, or the capture one of the rules K1 to K5; 6 where the ports file, the capture or the program of `check` or
-/// `order` is over its limit; and 7 for want of memory. Of a program that is accepted `check` prints `accepted`, and `order` the names of its
+/// 2 where the words are no form of a command; 3 where the program isn't taken: where its text breaks one of the rules L1 to L4, S1 and C1 to
+/// C28, and by `carry` also where it isn't of the one-table form; 4 where the entries file has an octet; 5 where the ports break one of the
+/// rules P1 and P2, or the capture one of the rules K1 to K5; 6 where the program, the ports file or the capture is over its limit; and 7 for
+/// want of memory. Of a program that is accepted `check` prints `accepted`, and `order` the names of its
 /// headers, one a line, in the order in which they leave.
 pub fn p4x<D: Desk, K: Sink>(alloc: Global, words: &[String], desk: &mut D, out: &mut K) -> u8
     // Status 0: the text reads as one program that carries the program of P4_14, and the files and the line are this run's.

@@ -1,5 +1,5 @@
 -- The first sample program, and programs of P4_16 that are each wrong in one place (this project's own).
-use Rattle.std.specs.Prelude.{ℕ, List, [], ◌∷◌, Option, Some, None, codes}
+use Rattle.std.specs.Prelude.{ℕ, List, [], ◌∷◌, Some, None, codes}
 use Rattle.p414_ast.specs.declared.parts.Inst.{Inst}
 use Rattle.p414_ast.specs.declared.headers.Field.{Field as DeclaredField}
 use Rattle.p414_ast.specs.declared.headers.FieldWidth.TheVariants.{Bits}

@@ -1,4 +1,4 @@
-use Rattle.std.proofs.Common.{◌≡◌, ◌∙◌, ap, sym, subst}
+use Rattle.std.proofs.Common.{◌∙◌, ap, sym, subst}
 use Rattle.p416_ast.specs.declared.program.Syntax16.{Syntax16}
 use Rattle.p416_ast.specs.Spelt.{is_spelt16}
 use Rattle.p416_rules.specs.Breaks.{BreaksNone, program_rules}

@@ -1,0 +1,7 @@
+mod Naming
+mod Spotting
+mod Walking
+mod Asking
+mod Valuing
+mod Building
+mod Turning

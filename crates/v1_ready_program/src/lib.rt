@@ -1,0 +1,17 @@
+//! The expressions of a P4_16 program made ready: every name is found once, and what is left speaks of slots, headers and stacks
+//! of the program's frames alone.
+#![tactic(auto)]
+
+mod asks;
+mod build;
+mod expressions;
+mod leaves;
+mod names;
+mod plans;
+mod scope;
+mod spots;
+mod ways;
+
+pub use expressions::ready_expression;
+pub use names::NamedSeats;
+pub use plans::Around;
