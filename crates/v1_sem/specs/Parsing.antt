@@ -28,7 +28,7 @@ use Rattle.p416_rules.specs.Declarations.{parameter_name, parser_scope, layouts_
 use Rattle.p416_rules.specs.Main.{headers_kind}
 use Rattle.p416_rules.specs.Breaks.{scope_of}
 use Rattle.v1_sem.specs.declared.parser_error.ParserError.{ParserError}
-use Rattle.v1_sem.specs.declared.parser_error.ParserError.TheVariants.{NoError, NoMatch}
+use Rattle.v1_sem.specs.declared.parser_error.ParserError.TheVariants.{NoError, PacketTooShort, NoMatch}
 use Rattle.v1_sem.specs.Values.{Value, a_truth, an_error, no_members, no_value, number_in, zero_value}
 use Rattle.v1_sem.specs.Numbers.{is_equal}
 use Rattle.v1_sem.specs.Frames.{Moment, ticked, is_stopped, raised, error_number, Owner, of_headers, of_metadata, of_standard, of_nothing, with_standard, with_inner}
@@ -146,9 +146,9 @@ followed parse (finished m) = m
 
 -- Parsing from a state on, in so many states at most. No walk of an accepted program is longer than `most_states`: a cycle
 -- of states extracts, and an extraction takes at least one octet or stops, so between two extractions each state stands
--- once at most.
+-- once at most. Where no more states may run, the packet counts as too short.
 abbrev pub parse_from : World → List State → ℕ → Name → Moment → Moment
-parse_from w states zero text m = m
+parse_from w states zero text m = raised PacketTooShort m
 parse_from w states (suc left) text m =
     if is_stopped m then m
     else followed (parse_from w states left) (from_state w (state_called states text) m)
