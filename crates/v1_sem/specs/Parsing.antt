@@ -110,6 +110,7 @@ to_target (target.State text) m = onward text m
 to_target target.Accept m = finished m
 to_target target.Reject m = finished m
 
+-- the transition of the case that was found, or the error
 abbrev pub to_found : Option Target → Moment → Onward
 to_found (Some t) m = to_target t m
 to_found None m = finished (raised NoMatch m)
@@ -136,6 +137,7 @@ abbrev pub state_called : List State → Name → Option State
 state_called [] text = None
 state_called (x ∷ states) text = if bytes_eq x.name text then Some x else state_called states text
 
+-- from the state that was called; no accepted program calls one that isn't there
 abbrev pub from_state : World → Option State → Moment → Onward
 from_state w None m = finished m
 from_state w (Some x) m = in_state w x m
@@ -187,6 +189,7 @@ without_headers c m =
 abbrev pub run_states : World → Parser16 → Moment → Moment
 run_states w p m = ended (parse_from w p.states (most_states p.states m) (codes "start") (begun w p.vars m))
 
+-- the parser of the program, which begins with all headers invalid
 abbrev pub run_parser : Setting → Option Parser16 → Moment → Moment
 run_parser c None m = m
 run_parser c (Some p) m = run_states (quiet_world (around_parser c p)) p (without_headers c m)
