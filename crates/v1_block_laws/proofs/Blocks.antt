@@ -155,9 +155,9 @@ parser_seated syntax p keeps found =
     let of_vars : List Use = flat_map (var_uses t) p.vars in
     let of_states : List Use = flat_map (state_uses t) p.states in
     let no_types : list_any is_type (parameters ++ vars ++ states) ≡ false =
-        none_joined is_type (parameters ++ vars) states
-        (none_joined is_type parameters vars (none_mapped is_type (known_parameter tops) (λ x. refl) p.parameters) (none_mapped is_type (known_var tops) (λ x. refl) p.vars))
-        (none_mapped is_type known_state (λ x. refl) p.states) in
+    none_joined is_type (parameters ++ vars) states
+    (none_joined is_type parameters vars (none_mapped is_type (known_parameter tops) (λ x. refl) p.parameters) (none_mapped is_type (known_var tops) (λ x. refl) p.vars))
+    (none_mapped is_type known_state (λ x. refl) p.states) in
     subst (λ (names : List Known). Seated names (parser_seats syntax p)) (sym (in_order parameters vars states tops))
     (parser_roots_seated syntax (main_kept syntax keeps) p (vars ++ (states ++ tops)) _ found
     (vars_seated syntax t tops (parser_from syntax p) p.vars (states ++ tops) (λ v k. var_at_top t (parameters ++ vars ++ states) tops v refl no_types k)
@@ -179,7 +179,7 @@ control_seated syntax block c keeps found =
     let of_locals : List Use = flat_map (local_uses t) c.locals in
     let of_body : List Use = body_uses t 1 c.body in
     let no_types : list_any is_type (parameters ++ locals) ≡ false =
-        none_joined is_type parameters locals (none_mapped is_type (known_parameter tops) (λ x. refl) c.parameters) (none_mapped is_type (known_local tops) (local_no_type tops) c.locals) in
+    none_joined is_type parameters locals (none_mapped is_type (known_parameter tops) (λ x. refl) c.parameters) (none_mapped is_type (known_local tops) (local_no_type tops) c.locals) in
     subst (λ (names : List Known). Seated names (control_seats syntax block c)) (sym (append_assoc parameters locals tops))
     (control_roots_seated syntax (main_kept syntax keeps) block c (locals ++ tops) _ found
     (locals_seated syntax t tops (control_from syntax c) c.locals tops (λ v k. var_at_top t (parameters ++ locals) tops v refl no_types k)

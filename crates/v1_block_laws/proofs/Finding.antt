@@ -85,7 +85,7 @@ control_found syntax (decl.Control k ∷ ds) text c e = by (bytes_eq k.name text
 pub found_stands : (syntax : Syntax16) (test : Decl16 → Bool) (d : Decl16) → Found syntax test syntax.decls d → AreOfKinds (variable_kinds syntax) (count_before syntax test syntax.decls) (kinds_of syntax d)
 found_stands syntax test d found =
     let all : flat_map (kinds_of syntax) syntax.decls ≡ flat_map (kinds_of syntax) found.before ++ (kinds_of syntax d ++ flat_map (kinds_of syntax) found.after) =
-        ap (flat_map (kinds_of syntax)) found.is ∙ flat_map-append (kinds_of syntax) found.before (d ∷ found.after) in
+    ap (flat_map (kinds_of syntax)) found.is ∙ flat_map-append (kinds_of syntax) found.before (d ∷ found.after) in
     subst (λ (n : ℕ). AreOfKinds (variable_kinds syntax) n (kinds_of syntax d)) (sym found.count)
     (subst (λ (l : List Kind). AreOfKinds l (length (flat_map (kinds_of syntax) found.before)) (kinds_of syntax d)) (sym all)
     (in_the_middle (flat_map (kinds_of syntax) found.before) (kinds_of syntax d) (flat_map (kinds_of syntax) found.after)))

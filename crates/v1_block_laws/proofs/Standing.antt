@@ -16,7 +16,7 @@ in_the_middle front (k ∷ kinds) back =
     } in (
       first,
       subst (λ (n : ℕ). AreOfKinds (front ++ (k ∷ (kinds ++ back))) n kinds) longer
-      (subst (λ (all : List Kind). AreOfKinds all (length (front ++ k ∷ [])) kinds) (append_assoc front (k ∷ []) (kinds ++ back)) rest),
+          (subst (λ (all : List Kind). AreOfKinds all (length (front ++ k ∷ [])) kinds) (append_assoc front (k ∷ []) (kinds ++ back)) rest),
     )
 
 pub apart : (all : List Kind) (n : ℕ) (front back : List Kind) → AreOfKinds all n (front ++ back) → AreOfKinds all n front × AreOfKinds all (n + length front) back
