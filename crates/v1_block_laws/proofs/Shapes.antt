@@ -136,11 +136,11 @@ standard_owned syntax d k can same = ap form_of (struct_same standard_name k sam
 -- parameters one behind another
 
 pub roots_seated : (syntax : Syntax16) (tops names : List Known) (seats : List NamedSeat) (owners : List Owner) (shapes : List Shape) (ps : List Param) → AllZip (Owns syntax) owners shapes → are_same_shapes shapes (map (parameter_shape tops) ps) ≡ true → Seated names seats → Seated (map (known_parameter tops) ps ++ names) (map (seat_of_root syntax) (rooted (map parameter_name ps) owners) ++ seats)
-roots_seated syntax tops names seats [] [] [] owns same seated = seated
-roots_seated syntax tops names seats [] [] (p ∷ ps) owns same seated = absurd (cc same)
-roots_seated syntax tops names seats [] (x ∷ shapes) ps owns same seated = absurd owns
-roots_seated syntax tops names seats (o ∷ owners) [] ps owns same seated = absurd owns
-roots_seated syntax tops names seats (o ∷ owners) (x ∷ shapes) [] owns same seated = absurd (cc same)
+roots_seated syntax tops names seats [] [] [] owns same seated text = seated text
+roots_seated syntax tops names seats [] [] (p ∷ ps) owns same seated text = absurd (cc same)
+roots_seated syntax tops names seats [] (x ∷ shapes) ps owns same seated text = absurd owns
+roots_seated syntax tops names seats (o ∷ owners) [] ps owns same seated text = absurd owns
+roots_seated syntax tops names seats (o ∷ owners) (x ∷ shapes) [] owns same seated text = absurd (cc same)
 roots_seated syntax tops names seats (o ∷ owners) (x ∷ shapes) (p ∷ ps) owns same seated text =
     by (bytes_eq p.name text) (roots_seated syntax tops names seats owners shapes ps owns.1 (right_true first more same) seated text) where
       first : Bool
