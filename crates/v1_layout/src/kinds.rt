@@ -14,9 +14,10 @@ use std::alloc::Global;
 
 const STANDARD_METADATA: &[u8] = b"standard_metadata_t";
 
-/// The kinds of the variables of a declaration behind the others.
+/// The kinds of the variables and of the parameters of actions of a declaration, behind the others. Want of memory is the one
+/// error.
 #[tactic(auto, using(crate::proofs::Told::declared_parser, crate::proofs::Told::declared_control))]
-fn add_declared<'a>(
+pub fn add_declared<'a>(
     alloc: Global,
     top: &Top<'a>,
     syntax: &Syntax16,

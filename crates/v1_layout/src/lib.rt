@@ -11,5 +11,6 @@ mod variables;
 
 pub use depth::depth_of;
 pub use fields::field_kinds;
-pub use kinds::frame_kinds;
+pub use kinds::{add_declared, frame_kinds};
 pub use program::{layout_of_kinds, layout_of_program};
+pub use variables::add_local;

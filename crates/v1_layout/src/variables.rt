@@ -186,8 +186,9 @@ fn add_action<'a>(
     Ok(())
 }
 
-/// Those of what a control declares, in its scope, which is then what it was.
-fn add_local<'a>(
+/// The kinds of the variables and of the parameters of actions that stand in what a control declares, behind the others. The
+/// scope is that of the control, and is then what it was. Want of memory is the one error.
+pub fn add_local<'a>(
     alloc: Global,
     scope: &mut Scope<'_, 'a>,
     local: &'a Local,

@@ -45,7 +45,7 @@ seat_stands c types (k ∷ kinds) b zero laid wide narrow =
 seat_stands c types (k ∷ kinds) b (suc number) laid wide narrow =
     seat_stands c types kinds (behind types (length types) (form_of k) b) number laid.1 wide.1 narrow.1
 
-owner_stands : (syntax : Syntax16) (c : Cells) (owner : PartOwner) → c.layout ≡ layout16 syntax → KindsNarrow (frame_kinds syntax) → IfSome (owner_seat syntax owner) (At c (layouts_of syntax.decls) (owner_value (numbered16 syntax c) owner))
+pub owner_stands : (syntax : Syntax16) (c : Cells) (owner : PartOwner) → c.layout ≡ layout16 syntax → KindsNarrow (frame_kinds syntax) → IfSome (owner_seat syntax owner) (At c (layouts_of syntax.decls) (owner_value (numbered16 syntax c) owner))
 owner_stands syntax c owner layout narrow =
     let types = layouts_of syntax.decls in
     subst (λ (v : Value). IfSome (owner_seat syntax owner) (At c types v)) (sym (numbered_is syntax c owner))

@@ -27,7 +27,7 @@ variable_seated syntax v k is =
     (kind_seated (layouts_of syntax.decls) (frame_kinds syntax) first_start (suc (suc (suc v.number))) is.can (omega (arith, is.number)))
 
 -- one name more
-one_more : (syntax : Syntax16) (v : Variable) (k : Known) (names : List Known) (seats : List NamedSeat) → IsVariable syntax v k → ((text : Name) → SortSeated (sort_in names text) (seat_of_name seats text)) → (text : Name) → SortSeated (sort_in (k ∷ names) text) (seat_of_name (seat_of_variable syntax v ∷ seats) text)
+pub one_more : (syntax : Syntax16) (v : Variable) (k : Known) (names : List Known) (seats : List NamedSeat) → IsVariable syntax v k → ((text : Name) → SortSeated (sort_in names text) (seat_of_name seats text)) → (text : Name) → SortSeated (sort_in (k ∷ names) text) (seat_of_name (seat_of_variable syntax v ∷ seats) text)
 one_more syntax v k names seats is seated text =
     subst (λ (called : Name). SortSeated (cond (bytes_eq k.called text) k.sort (sort_in names text)) (cond (bytes_eq called text) (owner_seat syntax (the_variable v.number)) (seat_of_name seats text))) (sym is.called)
     (by (bytes_eq k.called text)) where

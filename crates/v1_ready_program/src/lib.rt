@@ -9,7 +9,7 @@ mod leaves;
 mod names;
 mod plans;
 mod scope;
-mod spots;
+pub mod spots;
 mod ways;
 
 pub use expressions::ready_expression;

@@ -41,7 +41,8 @@ fn with<'a>(told: Option<Told>, seat: Option<Seat<'a>>) -> Option<Spot<'a>>
     }
 }
 
-/// The field or the member of this name of what stands there.
+/// The field or the member of this name of what stands there; none exactly where it has none. Errors as those of
+/// `TypeTable::behind`.
 pub fn member<'a>(
     types: &TypeTable<'_, 'a>,
     spot: Spot<'a>,
@@ -53,7 +54,7 @@ pub fn member<'a>(
     Ok(with(spot.told, seat))
 }
 
-/// The element with a number of what stands there.
+/// The element with a number of what stands there; as `member`.
 pub fn element<'a>(
     types: &TypeTable<'_, 'a>,
     spot: Spot<'a>,
@@ -88,7 +89,8 @@ fn told_at<'a>(
     }
 }
 
-/// The element that the place of the stack tells which stands there. An element has no stack in it.
+/// The element that the place of the stack tells which stands there; none exactly where no stack does: an element has no stack in
+/// it. Errors as those of `member`.
 #[tactic(auto, using(crate::proofs::Spotting::told_once))]
 pub fn told_element<'a>(
     types: &TypeTable<'_, 'a>,

@@ -1,0 +1,9 @@
+pub mod Tests
+pub mod Standing
+pub mod Finding
+pub mod Accepted
+pub mod Keeping
+pub mod Calling
+pub mod Naming
+pub mod Shapes
+pub mod Blocks
