@@ -1,6 +1,6 @@
 -- Entries of each kind of key, the action that ran as a `switch` sees it, the applications that are noted, and which table a
 -- direct counter counts for. The packet is 12 34 00 00, but where another one stands.
-use Rattle.std.proofs.Common.{◌≡◌, ℕ, List, [], ◌∷◌, ◌++◌, refl}
+use Rattle.std.proofs.Common.{◌≡◌, ℕ, List, [], ◌∷◌, refl}
 use Rattle.std.specs.Prelude.{codes, Option, Some, None}
 use Rattle.p4x_bits.specs.BitLists.{num, bits}
 use Rattle.state_store.specs.declared.cells.Cells.TheVariants.{Counts}
@@ -28,9 +28,12 @@ use Rattle.v1_sem.specs.Blocks.{control16}
 use Rattle.v1_sem.specs.Parsing.{parse16}
 use Rattle.v1_sem.specs.Passes.{ingress16, reparse16, egress16}
 use Rattle.v1_sem.specs.Runs.{Run16}
-use Rattle.v1_sem_examples.specs.Parts.{n, bits_type, param, action, table, key, an_action, method, calls, given, does, statements, var as variable}
-use Rattle.v1_sem_examples.specs.Samples.{small, doing, program, to_port_3, h_x, h_y, h_z, packet}
+use Rattle.v1_sem_examples.specs.Parts.{n, bits_type, param, field, action, table, key, an_action, method, calls, given, does, statements, var as variable}
+use Rattle.v1_sem_examples.specs.Samples.{doing, program, h_x, h_y, h_z, packet}
 use Rattle.v1_sem_examples.specs.Packets.{Outcome, plainly, filled, outcome, sends, cells, ingress_events, egress_events}
+
+abbrev i_x : Exp16
+i_x = field (codes "i") (codes "x")
 
 abbrev applies : List ℕ → Stmt16
 applies text = does (method (variable text) (codes "apply") [])
@@ -70,6 +73,18 @@ smallest_priority = refl
 ranges : with_entries (key h_x (codes "range") ∷ key h_y (codes "exact") ∷ []) (entry (Range 0 0x11 ∷ Exact 0x34 ∷ []) 1 4 ∷ entry (Range 0x12 0x12 ∷ Exact 0x34 ∷ []) 7 5 ∷ entry (Range 0 255 ∷ Exact 0x34 ∷ []) 3 6 ∷ []) packet ≡ sends 3 (0x12 ∷ 6 ∷ 0 ∷ 0 ∷ []) 8
 unfolding num bits run signature16 control16 parse16 ingress16 reparse16 egress16 Run16
 ranges = refl
+
+-- a field of an invalid header is the key 0, also behind hdr.i.x = 8w5
+abbrev of_an_invalid_header : Syntax16
+of_an_invalid_header =
+    program (record (doing (assign i_x (n 8 5) ∷ applies (codes "t") ∷ [])) {
+      ingress_locals =
+          action_a ∷ table (codes "t") (property.Key (key i_x (codes "exact") ∷ []) ∷ property.Actions (an_action (codes "a") ∷ []) ∷ []) ∷ [];
+    })
+
+matches_0 : outcome (filled of_an_invalid_header (record { entries = entry (Exact 5 ∷ []) 0 1 ∷ entry (Exact 0 ∷ []) 0 2 ∷ []; default = None } ∷ [])) packet ≡ sends 3 (0x12 ∷ 2 ∷ 0 ∷ 0 ∷ []) 9
+unfolding num bits run signature16 control16 parse16 ingress16 reparse16 egress16 Run16
+matches_0 = refl
 
 -- the action that ran: switch (t.apply().action_run) { a: { hdr.h.z = 16w1; } default: { hdr.h.z = 16w2; } } on a miss
 

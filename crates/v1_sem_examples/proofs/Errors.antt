@@ -18,7 +18,7 @@ use Rattle.v1_sem.specs.Blocks.{control16}
 use Rattle.v1_sem.specs.Parsing.{parse16}
 use Rattle.v1_sem.specs.Passes.{ingress16, reparse16, egress16}
 use Rattle.v1_sem.specs.Runs.{Run16}
-use Rattle.v1_sem_examples.specs.Parts.{n, hdr, field, sm, is_error, bits_type, method, does, extract, state, accept, statements, var as variable}
+use Rattle.v1_sem_examples.specs.Parts.{n, hdr, field, sm, is_error, bits_type, method, does, extract, state, accept, statements}
 use Rattle.v1_sem_examples.specs.Samples.{Sample, small, parsing, program, to_port_3, h_x, h_y, packet}
 use Rattle.v1_sem_examples.specs.Packets.{Outcome, plainly, outcome, sends}
 
@@ -63,6 +63,11 @@ in_an_initial_value = refl
 in_an_operand : behind (assign h_x (binary Add h_y last_v) ∷ []) ≡ sends 3 (0x12 ∷ 0x34 ∷ 0 ∷ 0 ∷ 2 ∷ 0 ∷ 0 ∷ 0 ∷ []) 11
 unfolding num bits run signature16 control16 parse16 ingress16 reparse16 egress16 Run16
 in_an_operand = refl
+
+-- p.extract(hdr.s.last); the place is asked for before the bits, of which there are none
+in_extract : behind (extract last ∷ []) ≡ sends 3 (0x12 ∷ 0x34 ∷ 0 ∷ 0 ∷ 2 ∷ 0 ∷ 0 ∷ 0 ∷ []) 11
+unfolding num bits run signature16 control16 parse16 ingress16 reparse16 egress16 Run16
+in_extract = refl
 
 -- hdr.s.last.setValid(); hdr.h.x = 8w1;
 in_set_valid : behind (does (method last (codes "setValid") []) ∷ assign h_x (n 8 1) ∷ []) ≡ sends 3 (0x12 ∷ 0x34 ∷ 0 ∷ 0 ∷ 2 ∷ 0 ∷ 0 ∷ 0 ∷ []) 11

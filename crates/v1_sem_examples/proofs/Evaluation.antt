@@ -1,6 +1,6 @@
 -- In which order things are evaluated, copied and run: operands, arguments, branches, variables, and a control that runs twice.
 -- The packet is 12 34 00 00.
-use Rattle.std.proofs.Common.{◌≡◌, ℕ, List, [], ◌∷◌, ◌++◌, refl}
+use Rattle.std.proofs.Common.{◌≡◌, List, [], ◌∷◌, refl}
 use Rattle.std.specs.Prelude.{codes, true, false, Some, None}
 use Rattle.p4x_bits.specs.BitLists.{num, bits}
 use Rattle.state_store.specs.declared.cells.Cells.TheVariants.{Counts}
@@ -14,14 +14,14 @@ use Rattle.p416_ast.specs.declared.controls.Local.TheVariants as local
 use Rattle.p416_ast.specs.declared.controls.Property.TheVariants as property
 use Rattle.p416_ast.specs.declared.node.BinaryOperator.TheVariants.{Add, Concatenate}
 use Rattle.p416_ast.specs.declared.program.Syntax16.{Syntax16}
-use Rattle.p416_ast.specs.Tree.{Exp16, truth, member, binary, choice, Stmt16, assign, if_then, if_else}
+use Rattle.p416_ast.specs.Tree.{Exp16, truth, member, binary, choice, Stmt16, assign, if_else}
 use Rattle.v1_sem.specs.Signatures.{signature16}
 use Rattle.v1_sem.specs.Blocks.{control16}
 use Rattle.v1_sem.specs.Parsing.{parse16}
 use Rattle.v1_sem.specs.Passes.{ingress16, reparse16, egress16}
 use Rattle.v1_sem.specs.Runs.{Run16}
 use Rattle.v1_sem_examples.specs.Parts.{n, named, bits_type, param, hdr, action, table, an_action, method, calls, given, does, statements, var as variable}
-use Rattle.v1_sem_examples.specs.Samples.{Sample, small, doing, program, h_x, h_y, h_z, packet}
+use Rattle.v1_sem_examples.specs.Samples.{doing, program, h_x, h_z, packet}
 use Rattle.v1_sem_examples.specs.Packets.{Outcome, plainly, outcome, sends, sends_of, cells}
 
 -- action s() { hdr.h.x = 8w9; }

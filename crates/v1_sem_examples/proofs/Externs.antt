@@ -13,16 +13,16 @@ use Rattle.p416_ast.specs.declared.controls.Local.TheVariants as local
 use Rattle.p416_ast.specs.declared.node.BinaryOperator.TheVariants.{Equal}
 use Rattle.p416_ast.specs.declared.node.CastType.TheVariants.{Bit}
 use Rattle.p416_ast.specs.declared.program.Syntax16.{Syntax16}
-use Rattle.p416_ast.specs.Tree.{Exp16, truth, name, member, slice, cast, binary, listed, Stmt16, assign, block, if_then}
+use Rattle.p416_ast.specs.Tree.{Exp16, truth, slice, cast, binary, listed, Stmt16, assign, block, if_then}
 use Rattle.v1_sem.specs.Surroundings.{Setting}
 use Rattle.v1_sem.specs.Signatures.{signature16}
 use Rattle.v1_sem.specs.Blocks.{control16}
 use Rattle.v1_sem.specs.Parsing.{parse16}
 use Rattle.v1_sem.specs.Passes.{ingress16, reparse16, egress16}
 use Rattle.v1_sem.specs.Runs.{Run16}
-use Rattle.v1_sem_examples.specs.Parts.{n, number, field, meta, sm, is_kind, algorithm, hashes, method, calls, clones_to, given, does, statements, var as variable}
+use Rattle.v1_sem_examples.specs.Parts.{n, number, meta, sm, is_kind, algorithm, hashes, method, calls, clones_to, given, does, statements, var as variable}
 use Rattle.v1_sem_examples.specs.Samples.{Sample, small, doing, program, to_port_3, h_x, h_y, h_z, packet}
-use Rattle.v1_sem_examples.specs.Packets.{Outcome, plainly, with_session, outcome, sends, sends_nothing, cells, sends_of}
+use Rattle.v1_sem_examples.specs.Packets.{plainly, with_session, outcome, sends, sends_nothing, cells, sends_of}
 
 -- mark_to_drop(sm): the packet goes to port 511, which drops; `emit` doesn't run
 drops : outcome (plainly (program (record small { ingress = does (calls (codes "mark_to_drop") (variable (codes "sm") ∷ [])) ∷ [] }))) packet ≡ sends_nothing 3

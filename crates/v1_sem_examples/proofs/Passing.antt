@@ -1,7 +1,7 @@
 -- Passes: the port, what each further item begins with, what is preserved, and the order of what follows a block. The packet
 -- is 12 34 00 00, and session 7 is on port 9.
 use Rattle.std.proofs.Common.{◌≡◌, ℕ, List, [], ◌∷◌, refl}
-use Rattle.std.specs.Prelude.{codes}
+use Rattle.std.specs.Prelude.{codes, true}
 use Rattle.p4x_bits.specs.BitLists.{num, bits}
 use Rattle.fabric.specs.Queue.{run}
 use Rattle.p416_ast.specs.declared.parts.Note.TheVariants as note
@@ -10,13 +10,13 @@ use Rattle.p416_ast.specs.declared.node.BinaryOperator.TheVariants.{Add, Concate
 use Rattle.p416_ast.specs.declared.node.CastType.TheVariants.{Bit}
 use Rattle.p416_ast.specs.declared.program.Decl16.{Decl16}
 use Rattle.p416_ast.specs.declared.program.Decl16.TheVariants as decl
-use Rattle.p416_ast.specs.Tree.{Exp16, name, member, cast, binary, Stmt16, assign, block, if_then, if_else}
+use Rattle.p416_ast.specs.Tree.{Exp16, truth, member, cast, binary, listed, Stmt16, assign, block, if_then, if_else}
 use Rattle.v1_sem.specs.Signatures.{signature16}
 use Rattle.v1_sem.specs.Blocks.{control16}
 use Rattle.v1_sem.specs.Parsing.{parse16}
 use Rattle.v1_sem.specs.Passes.{ingress16, reparse16, egress16}
 use Rattle.v1_sem.specs.Runs.{Run16}
-use Rattle.v1_sem_examples.specs.Parts.{n, number, named, bits_type, struct_field, listed_field, hdr, field, sm, sm_octet, is_kind, is_error, meta, statements, extract, state, accept, drops_it, clones_to, resubmits_with, recirculates_with}
+use Rattle.v1_sem_examples.specs.Parts.{n, number, named, bits_type, struct_field, listed_field, hdr, sm, sm_octet, is_kind, is_error, meta, algorithm, given, calls, method, does, statements, extract, state, accept, drops_it, clones_to, resubmits_with, recirculates_with}
 use Rattle.v1_sem_examples.specs.Samples.{Sample, types_with, small, doing, program, to_port_3, h_x, h_y, h_z, packet}
 use Rattle.v1_sem_examples.specs.Packets.{Outcome, plainly, with_session, ran, ran_from, told, outcome, sends, sends_nothing, sends_both}
 
@@ -90,6 +90,11 @@ does_not_verify_a_clone : leaves_with_session (record (doing (clones_to (codes "
 unfolding num bits run signature16 control16 parse16 ingress16 reparse16 egress16 Run16
 does_not_verify_a_clone = refl
 
+-- a clone's parser sees its kind: it writes `instance_type` to x
+parser_sees_kind : leaves_with_session (record (doing (clones_to (codes "I2E") 7 1 ∷ [])) { states = state (codes "start") (extract (hdr (codes "h")) ∷ assign h_x (sm_octet (codes "instance_type")) ∷ []) accept ∷ [] }) ≡ sends_both 3 (0 ∷ 0x34 ∷ 0 ∷ 0 ∷ []) 9 (1 ∷ 0x34 ∷ 0 ∷ 0 ∷ []) 14
+unfolding num bits run signature16 control16 parse16 ingress16 reparse16 egress16 Run16
+parser_sees_kind = refl
+
 -- clones of egress
 
 abbrev clones_of_egress : Stmt16
@@ -104,6 +109,11 @@ clones_before_it_drops = refl
 clones_at_the_end_of_egress : leaves_with_session (record small { egress = if_else (is_kind 0) (all_of (clones_of_egress ∷ assign k (n 8 5) ∷ [])) (assign h_x k) ∷ [] }) ≡ sends_both 3 packet 9 (5 ∷ 0x34 ∷ 0 ∷ 0 ∷ []) 14
 unfolding num bits run signature16 control16 parse16 ingress16 reparse16 egress16 Run16
 clones_at_the_end_of_egress = refl
+
+-- a clone's pass comes before that of the recirculated packet, whichever was asked for first; x tells the kind
+clones_before_it_recirculates : leaves_with_session (record small { egress = if_then (is_kind 0) (all_of (recirculates_with 1 ∷ clones_of_egress ∷ [])) ∷ assign h_x (sm_octet (codes "instance_type")) ∷ [] }) ≡ sends_both 9 (2 ∷ 0x34 ∷ 0 ∷ 0 ∷ []) 3 (4 ∷ 0x34 ∷ 0 ∷ 0 ∷ []) 23
+unfolding num bits run signature16 control16 parse16 ingress16 reparse16 egress16 Run16
+clones_before_it_recirculates = refl
 
 -- The clone has the port of arrival, 6, though egress wrote 2 to `ingress_port`, the length as egress left it, 77, and its
 -- session's port: x, y and z become these.
@@ -134,6 +144,11 @@ clones_before_it_computes : leaves_with_session (record small { egress = if_then
 unfolding num bits run signature16 control16 parse16 ingress16 reparse16 egress16 Run16
 clones_before_it_computes = refl
 
+-- the sum of a clone is over the octets that it carries too: update_checksum_with_payload(true, { x, y }, z, csum16) over 00 01
+clone_is_summed_with_payload : outcome (with_session (program (record small { egress = if_then (is_kind 0) clones_of_egress ∷ []; compute = does (calls (codes "update_checksum_with_payload") (truth true ∷ listed (given (h_x ∷ h_y ∷ [])) ∷ h_z ∷ algorithm (codes "csum16") ∷ [])) ∷ [] }))) (0x12 ∷ 0x34 ∷ 0 ∷ 0 ∷ 0 ∷ 1 ∷ []) ≡ sends_both 3 (0x12 ∷ 0x34 ∷ 0xed ∷ 0xca ∷ 0 ∷ 1 ∷ []) 9 (0x12 ∷ 0x34 ∷ 0xed ∷ 0xca ∷ 0 ∷ 1 ∷ []) 14
+unfolding num bits run signature16 control16 parse16 ingress16 reparse16 egress16 Run16
+clone_is_summed_with_payload = refl
+
 -- a recirculated packet has those behind it, and is computed again
 recirculates_what_was_computed : leaves (record small { egress = if_then (is_kind 0) (recirculates_with 1) ∷ []; compute = adds_1_to_y ∷ [] }) ≡ sends 3 (0x12 ∷ 0x36 ∷ 0 ∷ 0 ∷ []) 17
 unfolding num bits run signature16 control16 parse16 ingress16 reparse16 egress16 Run16
@@ -143,6 +158,11 @@ recirculates_what_was_computed = refl
 preserves_in_front_of_compute : leaves (record small { egress = if_else (is_kind 0) (all_of (assign k (n 8 5) ∷ recirculates_with 1 ∷ [])) (assign h_x k) ∷ []; compute = assign k (n 8 9) ∷ [] }) ≡ sends 3 (5 ∷ 0x34 ∷ 0 ∷ 0 ∷ []) 19
 unfolding num bits run signature16 control16 parse16 ingress16 reparse16 egress16 Run16
 preserves_in_front_of_compute = refl
+
+-- its length is that of what was put together: hdr.i becomes valid in the first pass, and x is the length in the second
+counts_what_was_put_together : outcome (plainly (program (record small { egress = if_else (is_kind 0) (all_of (does (method (hdr (codes "i")) (codes "setValid") []) ∷ recirculates_with 0 ∷ [])) (assign h_x (sm_octet (codes "packet_length"))) ∷ [] }))) (0x12 ∷ 0x34 ∷ 0 ∷ 0 ∷ 0xff ∷ []) ≡ sends 3 (9 ∷ 0x34 ∷ 0 ∷ 0 ∷ 0 ∷ 0 ∷ 0 ∷ 0 ∷ 0xff ∷ []) 17
+unfolding num bits run signature16 control16 parse16 ingress16 reparse16 egress16 Run16
+counts_what_was_put_together = refl
 
 -- what a list preserves
 

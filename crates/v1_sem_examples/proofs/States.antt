@@ -1,6 +1,6 @@
 -- What a parser does with stacks, variables and keys, seen in the packet that leaves.
 use Rattle.std.proofs.Common.{◌≡◌, ℕ, List, [], ◌∷◌, refl}
-use Rattle.std.specs.Prelude.{codes, true, false, None, Some}
+use Rattle.std.specs.Prelude.{codes, true, false, Some}
 use Rattle.p4x_bits.specs.BitLists.{num, bits}
 use Rattle.fabric.specs.Queue.{run}
 use Rattle.p416_ast.specs.declared.parsers.Var.{Var}

@@ -1,7 +1,7 @@
 -- Hashes and sums of short and long lists, sums to slices and to invalid headers, counters of each kind, and a register over
 -- two packets. The packet is 12 34 00 00, but where others stand.
 use Rattle.std.proofs.Common.{◌≡◌, ℕ, List, [], ◌∷◌, refl}
-use Rattle.std.specs.Prelude.{codes, true}
+use Rattle.std.specs.Prelude.{codes, true, false}
 use Rattle.p4x_bits.specs.BitLists.{num, bits}
 use Rattle.state_store.specs.declared.cells.Cells.TheVariants.{Counts, Numbers}
 use Rattle.fabric.specs.Queue.{run}
@@ -10,15 +10,16 @@ use Rattle.p416_ast.specs.declared.parts.CounterType.TheVariants.{Packets, Bytes
 use Rattle.p416_ast.specs.declared.controls.Instance.TheVariants as instance
 use Rattle.p416_ast.specs.declared.controls.Local.{Local}
 use Rattle.p416_ast.specs.declared.controls.Local.TheVariants as local
+use Rattle.p416_ast.specs.declared.controls.Property.TheVariants as property
 use Rattle.p416_ast.specs.declared.program.Syntax16.{Syntax16}
-use Rattle.p416_ast.specs.Tree.{Exp16, truth, slice, listed, Stmt16}
+use Rattle.p416_ast.specs.Tree.{Exp16, truth, member, slice, choice, listed, Stmt16, assign}
 use Rattle.v1_sem.specs.Signatures.{signature16}
 use Rattle.v1_sem.specs.Blocks.{control16}
 use Rattle.v1_sem.specs.Parsing.{parse16}
 use Rattle.v1_sem.specs.Passes.{ingress16, reparse16, egress16}
 use Rattle.v1_sem.specs.Runs.{Run16}
-use Rattle.v1_sem_examples.specs.Parts.{n, number, field, algorithm, hashes, method, calls, given, does, var as variable}
-use Rattle.v1_sem_examples.specs.Samples.{small, doing, program, h_x, h_y, h_z, packet}
+use Rattle.v1_sem_examples.specs.Parts.{n, number, field, action, table, an_action, algorithm, hashes, method, calls, given, does, statements, var as variable}
+use Rattle.v1_sem_examples.specs.Samples.{doing, program, h_x, h_y, h_z, packet}
 use Rattle.v1_sem_examples.specs.Packets.{Outcome, plainly, outcome, sends, sends_of, sends_both, told, ran_all, cells}
 
 -- the whole result in z
@@ -75,6 +76,21 @@ updates_a_slice = refl
 updates_no_invalid_header : updating (field (codes "i") (codes "z")) ≡ sends 3 packet 7
 unfolding num bits run signature16 control16 parse16 ingress16 reparse16 egress16 Run16
 updates_no_invalid_header = refl
+
+-- All arguments are evaluated, though the condition is false: update_checksum(false, { t.apply().hit ? 8w1 : 8w2 }, hdr.h.z, ..);
+-- with action s() { hdr.h.y = 8w1; } and table t { actions = { s; } default_action = s(); }
+abbrev applying : List Local
+applying =
+    action (codes "s") [] (statements (assign h_y (n 8 1) ∷ []))
+    ∷ table (codes "t") (property.Actions (an_action (codes "s") ∷ []) ∷ property.DefaultAction (an_action (codes "s")) (given []) ∷ [])
+    ∷ []
+
+abbrev by_hit : Exp16
+by_hit = choice (member (method (variable (codes "t")) (codes "apply") []) (codes "hit")) (n 8 1) (n 8 2)
+
+evaluates_all : outcome (plainly (program (record (doing []) { compute_locals = applying; compute = does (calls (codes "update_checksum") (truth false ∷ listed (given (by_hit ∷ [])) ∷ h_z ∷ algorithm (codes "identity") ∷ [])) ∷ [] }))) packet ≡ sends 3 (0x12 ∷ 1 ∷ 0 ∷ 0 ∷ []) 8
+unfolding num bits run signature16 control16 parse16 ingress16 reparse16 egress16 Run16
+evaluates_all = refl
 
 -- counter(32w1, CounterType.packets) c; counter(32w1, CounterType.bytes) b; both count, and b comes first by its name
 abbrev on : List ℕ → List ℕ → List Exp16 → Stmt16

@@ -28,7 +28,7 @@ use Rattle.v1_sem.specs.Blocks.{control16}
 use Rattle.v1_sem.specs.Parsing.{parse16}
 use Rattle.v1_sem.specs.Passes.{ingress16, reparse16, egress16}
 use Rattle.v1_sem.specs.Runs.{Run16}
-use Rattle.v1_sem_examples.specs.Parts.{n, number, bits_type, param, hdr, field, action, table, key, an_action, method, calls, given, does, statements, var as variable}
+use Rattle.v1_sem_examples.specs.Parts.{n, number, bits_type, param, hdr, action, table, key, an_action, method, calls, given, does, statements, var as variable}
 use Rattle.v1_sem_examples.specs.Samples.{doing, program, h_x, h_y, h_z, packet}
 use Rattle.v1_sem_examples.specs.Packets.{Outcome, filled, outcome, sends, cells}
 
