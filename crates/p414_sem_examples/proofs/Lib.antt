@@ -4,3 +4,5 @@ mod Conditional
 mod Routes
 mod Again
 mod Passing
+mod Entries
+mod Parsers

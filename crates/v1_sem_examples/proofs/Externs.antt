@@ -13,31 +13,16 @@ use Rattle.p416_ast.specs.declared.controls.Local.TheVariants as local
 use Rattle.p416_ast.specs.declared.node.BinaryOperator.TheVariants.{Equal}
 use Rattle.p416_ast.specs.declared.node.CastType.TheVariants.{Bit}
 use Rattle.p416_ast.specs.declared.program.Syntax16.{Syntax16}
-use Rattle.p416_ast.specs.Tree.{Exp16, truth, name, member, slice, cast, binary, listed, Stmt16, assign, block, if_then}
+use Rattle.p416_ast.specs.Tree.{Exp16, truth, slice, cast, binary, listed, Stmt16, assign, block, if_then}
 use Rattle.v1_sem.specs.Surroundings.{Setting}
 use Rattle.v1_sem.specs.Signatures.{signature16}
 use Rattle.v1_sem.specs.Blocks.{control16}
 use Rattle.v1_sem.specs.Parsing.{parse16}
 use Rattle.v1_sem.specs.Passes.{ingress16, reparse16, egress16}
 use Rattle.v1_sem.specs.Runs.{Run16}
-use Rattle.v1_sem_examples.specs.Parts.{n, number, field, meta, sm, method, calls, given, does, statements, var as variable}
-use Rattle.v1_sem_examples.specs.Samples.{Sample, small, doing, program, to_port_3}
-use Rattle.v1_sem_examples.specs.Packets.{Outcome, plainly, outcome, sends, sends_nothing, cells}
-
-abbrev packet : List ℕ
-packet = 0x12 ∷ 0x34 ∷ 0 ∷ 0 ∷ []
-
-abbrev h_x : Exp16
-h_x = field (codes "h") (codes "x")
-
-abbrev h_y : Exp16
-h_y = field (codes "h") (codes "y")
-
-abbrev h_z : Exp16
-h_z = field (codes "h") (codes "z")
-
-abbrev sends_of : List Stmt16 → Outcome
-sends_of xs = outcome (plainly (program (doing xs))) packet
+use Rattle.v1_sem_examples.specs.Parts.{n, number, meta, sm, is_kind, algorithm, hashes, method, calls, clones_to, given, does, statements, var as variable}
+use Rattle.v1_sem_examples.specs.Samples.{Sample, small, doing, program, to_port_3, h_x, h_y, h_z, packet}
+use Rattle.v1_sem_examples.specs.Packets.{plainly, with_session, outcome, sends, sends_nothing, cells, sends_of}
 
 -- mark_to_drop(sm): the packet goes to port 511, which drops; `emit` doesn't run
 drops : outcome (plainly (program (record small { ingress = does (calls (codes "mark_to_drop") (variable (codes "sm") ∷ [])) ∷ [] }))) packet ≡ sends_nothing 3
@@ -45,14 +30,6 @@ unfolding num bits run signature16 control16 parse16 ingress16 reparse16 egress1
 drops = refl
 
 -- hashes
-
-abbrev algorithm : List ℕ → Exp16
-algorithm text = member (name (codes "HashAlgorithm")) text
-
--- hash(hdr.h.z, HashAlgorithm.A, BASE, { ITEMS }, BOUND)
-abbrev hashes : Exp16 → List ℕ → Exp16 → List Exp16 → Exp16 → Stmt16
-hashes to text base items bound =
-    does (calls (codes "hash") (to ∷ algorithm text ∷ base ∷ listed (given items) ∷ bound ∷ []))
 
 -- the octets of 123456789
 abbrev digits : Exp16
@@ -186,18 +163,8 @@ takes_colours = refl
 
 -- further passes
 
-abbrev with_session : Syntax16 → Setting
-with_session syntax = record {
-  syntax = syntax;
-  entries = record { tables = []; sessions = record { number = 7; port = 9 } ∷ []; colours = [] };
-}
-
-abbrev clone_type : List ℕ → Exp16
-clone_type text = member (name (codes "CloneType")) text
-
--- clone_preserving_field_list(CloneType.X, 32w7, 8w1)
 abbrev clones : List ℕ → Stmt16
-clones text = does (calls (codes "clone_preserving_field_list") (clone_type text ∷ n 32 7 ∷ n 8 1 ∷ []))
+clones text = clones_to text 7 1
 
 -- egress writes its kind to x, k to y and l to z
 abbrev tells : List Stmt16
@@ -222,7 +189,7 @@ clones_nothing = refl
 
 -- An e2e clone has the packet as egress left it and kind 2, and asks for no clone itself: it goes through egress alone.
 abbrev if_first : Stmt16 → Stmt16
-if_first x = if_then (binary Equal (sm (codes "instance_type")) (n 32 0)) x
+if_first x = if_then (is_kind 0) x
 
 clones_at_egress : outcome (with_session (program (record (doing (assign h_z (n 16 7) ∷ [])) { egress = if_first (clones (codes "E2E")) ∷ assign h_x (slice (sm (codes "instance_type")) (number 7) (number 0)) ∷ [] }))) packet ≡ record { sent = (3, 0 ∷ 0x34 ∷ 0 ∷ 7 ∷ []) ∷ (9, 2 ∷ 0x34 ∷ 0 ∷ 7 ∷ []) ∷ []; work = 15 }
 unfolding num bits run signature16 control16 parse16 ingress16 reparse16 egress16 Run16
@@ -238,7 +205,7 @@ unfolding num bits run signature16 control16 parse16 ingress16 reparse16 egress1
 resubmits = refl
 
 -- The same in egress: the second pass has the packet as it was put together, with kind 4.
-recirculates : outcome (plainly (program (record small { egress = if_first (block (statements (assign h_z (n 16 7) ∷ asks (again (codes "recirculate_preserving_field_list"))))) ∷ if_then (binary Equal (sm (codes "instance_type")) (n 32 4)) (assign h_y (meta (codes "k"))) ∷ [] }))) packet ≡ sends 3 (0x12 ∷ 5 ∷ 0 ∷ 7 ∷ []) 21
+recirculates : outcome (plainly (program (record small { egress = if_first (block (statements (assign h_z (n 16 7) ∷ asks (again (codes "recirculate_preserving_field_list"))))) ∷ if_then (is_kind 4) (assign h_y (meta (codes "k"))) ∷ [] }))) packet ≡ sends 3 (0x12 ∷ 5 ∷ 0 ∷ 7 ∷ []) 21
 unfolding num bits run signature16 control16 parse16 ingress16 reparse16 egress16 Run16
 recirculates = refl
 

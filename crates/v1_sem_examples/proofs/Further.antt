@@ -1,6 +1,6 @@
 -- Further examples: variables of blocks, structs, standard metadata, objects at the top, defaults with arguments, and what
 -- clones and repeated packets carry. The packet is 12 34 00 00.
-use Rattle.std.proofs.Common.{◌≡◌, ℕ, List, [], ◌∷◌, refl}
+use Rattle.std.proofs.Common.{◌≡◌, List, [], ◌∷◌, refl}
 use Rattle.std.specs.Prelude.{codes, true, false, Some, None}
 use Rattle.p4x_bits.specs.BitLists.{num, bits}
 use Rattle.state_store.specs.declared.cells.Cells.TheVariants.{Counts}
@@ -20,31 +20,16 @@ use Rattle.p416_ast.specs.declared.node.BinaryOperator.TheVariants.{Add, Equal, 
 use Rattle.p416_ast.specs.declared.node.CastType.TheVariants.{Bit}
 use Rattle.p416_ast.specs.declared.program.Decl16.TheVariants as decl
 use Rattle.p416_ast.specs.declared.program.Syntax16.{Syntax16}
-use Rattle.p416_ast.specs.Tree.{Exp16, truth, name, member, index, slice, cast, binary, choice, Stmt16, assign, if_then, var, var_is}
+use Rattle.p416_ast.specs.Tree.{truth, name, member, index, slice, cast, binary, choice, assign, if_then, var, var_is}
 use Rattle.p416_ast.specs.Tree as tree
 use Rattle.v1_sem.specs.Signatures.{signature16}
 use Rattle.v1_sem.specs.Blocks.{control16}
 use Rattle.v1_sem.specs.Parsing.{parse16}
 use Rattle.v1_sem.specs.Passes.{ingress16, reparse16, egress16}
 use Rattle.v1_sem.specs.Runs.{Run16}
-use Rattle.v1_sem_examples.specs.Parts.{n, number, named, bits_type, param, key, action, table, an_action, hdr, field, sm, method, calls, given, does, statements, extract, emit, state, accept, var as variable}
-use Rattle.v1_sem_examples.specs.Samples.{small_types, small, doing, program, to_port_3}
-use Rattle.v1_sem_examples.specs.Packets.{Outcome, plainly, filled, ran_from, ran, told, outcome, sends, cells}
-
-abbrev packet : List ℕ
-packet = 0x12 ∷ 0x34 ∷ 0 ∷ 0 ∷ []
-
-abbrev h_x : Exp16
-h_x = field (codes "h") (codes "x")
-
-abbrev h_y : Exp16
-h_y = field (codes "h") (codes "y")
-
-abbrev h_z : Exp16
-h_z = field (codes "h") (codes "z")
-
-abbrev sends_of : List Stmt16 → Outcome
-sends_of xs = outcome (plainly (program (doing xs))) packet
+use Rattle.v1_sem_examples.specs.Parts.{n, number, named, bits_type, param, key, action, table, an_action, hdr, sm, method, calls, given, does, statements, extract, emit, state, accept, var as variable}
+use Rattle.v1_sem_examples.specs.Samples.{small_types, small, doing, program, to_port_3, h_x, h_y, h_z, packet}
+use Rattle.v1_sem_examples.specs.Packets.{plainly, filled, ran_from, ran, told, outcome, sends, cells, sends_of}
 
 -- standard_metadata_t v = sm; v.egress_spec = 9w5; sm = v; and then the port is read: a struct is taken whole
 takes_struct_whole : outcome (plainly (program (record small { ingress = var_is (named (codes "standard_metadata_t")) (codes "v") (name (codes "sm")) ∷ assign (member (variable (codes "v")) (codes "egress_spec")) (n 9 5) ∷ assign (name (codes "sm")) (variable (codes "v")) ∷ [] }))) packet ≡ sends 5 packet 8

@@ -16,23 +16,8 @@ use Rattle.v1_sem.specs.Parsing.{parse16}
 use Rattle.v1_sem.specs.Passes.{ingress16, reparse16, egress16}
 use Rattle.v1_sem.specs.Runs.{Run16}
 use Rattle.v1_sem_examples.specs.Parts.{n, number, plain, bits_type, param, hdr, field, meta, action, method, calls, does, extract, state, accept, statements, var as variable}
-use Rattle.v1_sem_examples.specs.Samples.{Sample, small, doing, program}
-use Rattle.v1_sem_examples.specs.Packets.{Outcome, plainly, outcome, sends}
-
-abbrev packet : List ℕ
-packet = 0x12 ∷ 0x34 ∷ 0 ∷ 0 ∷ []
-
-abbrev sends_of : List Stmt16 → Outcome
-sends_of xs = outcome (plainly (program (doing xs))) packet
-
-abbrev h_x : Exp16
-h_x = field (codes "h") (codes "x")
-
-abbrev h_y : Exp16
-h_y = field (codes "h") (codes "y")
-
-abbrev h_z : Exp16
-h_z = field (codes "h") (codes "z")
+use Rattle.v1_sem_examples.specs.Samples.{Sample, small, doing, program, h_x, h_y, h_z, packet}
+use Rattle.v1_sem_examples.specs.Packets.{Outcome, plainly, outcome, sends, sends_of}
 
 abbrev i_x : Exp16
 i_x = field (codes "i") (codes "x")

@@ -1,8 +1,14 @@
 pub mod Operators
 pub mod Whole
 pub mod Parsers
+pub mod Errors
+pub mod States
 pub mod Headers
+pub mod Evaluation
 pub mod Tables
+pub mod Entries
 pub mod Externs
+pub mod Sums
 pub mod Further
+pub mod Passing
 pub mod Slots

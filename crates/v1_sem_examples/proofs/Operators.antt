@@ -1,5 +1,5 @@
 -- Operators at the widths 1, 8, 16, 64, 127 and 128, on the least and the greatest numbers of each.
-use Rattle.std.proofs.Common.{◌≡◌, ℕ, List, [], ◌∷◌, refl}
+use Rattle.std.proofs.Common.{◌≡◌, ℕ, ◌-◌, ◌/◌, List, [], ◌∷◌, refl}
 use Rattle.std.specs.Prelude.{true, false, map}
 use Rattle.p416_ast.specs.declared.node.CastType.TheVariants.{Bit, Bool as Truth}
 use Rattle.p416_ast.specs.declared.node.UnaryOperator.TheVariants.{Not, Complement, Negate}
@@ -165,3 +165,127 @@ writes_slice = refl
 
 writes_whole : spliced (record { low = 0; width = 128 }) 340282366920938463463374607431768211455 7 ≡ 7
 writes_whole = refl
+
+-- The least and the greatest number of each width, as a table: an operator of 0 and 0, of 0 and g, of g and 0, and of g and g.
+
+abbrev of_limits : BinaryOperator → ℕ → ℕ → List Value
+of_limits operator w g = both operator w 0 0 ∷ both operator w 0 g ∷ both operator w g 0 ∷ both operator w g g ∷ []
+
+abbrev Row : Type 0
+Row = BinaryOperator × List Value
+
+abbrev numbers : ℕ → List ℕ → List Value
+numbers w ns = map (a_number w) ns
+
+abbrev rows : ℕ → ℕ → List Row
+rows w g =
+    (Add, numbers w (0 ∷ g ∷ g ∷ (g - 1) ∷ []))
+    ∷ (Subtract, numbers w (0 ∷ 1 ∷ g ∷ 0 ∷ []))
+    ∷ (Multiply, numbers w (0 ∷ 0 ∷ 0 ∷ 1 ∷ []))
+    ∷ (SaturatingAdd, numbers w (0 ∷ g ∷ g ∷ g ∷ []))
+    ∷ (SaturatingSubtract, numbers w (0 ∷ 0 ∷ g ∷ 0 ∷ []))
+    ∷ (BitAnd, numbers w (0 ∷ 0 ∷ 0 ∷ g ∷ []))
+    ∷ (BitOr, numbers w (0 ∷ g ∷ g ∷ g ∷ []))
+    ∷ (BitXor, numbers w (0 ∷ g ∷ g ∷ 0 ∷ []))
+    ∷ (Less, map a_truth (false ∷ true ∷ false ∷ false ∷ []))
+    ∷ (LessEqual, map a_truth (true ∷ true ∷ false ∷ true ∷ []))
+    ∷ (Greater, map a_truth (false ∷ false ∷ true ∷ false ∷ []))
+    ∷ (GreaterEqual, map a_truth (true ∷ false ∷ true ∷ true ∷ []))
+    ∷ (Equal, map a_truth (true ∷ false ∷ false ∷ true ∷ []))
+    ∷ (NotEqual, map a_truth (false ∷ true ∷ true ∷ false ∷ []))
+    ∷ []
+
+abbrev computed : ℕ → ℕ → Row → List Value
+computed w g row = of_limits row.0 w g
+
+abbrev told : Row → List Value
+told row = row.1
+
+at_the_limits : map (λ (p : ℕ × ℕ). map (computed p.0 p.1) (rows p.0 p.1)) greatest ≡ map (λ (p : ℕ × ℕ). map told (rows p.0 p.1)) greatest
+at_the_limits = refl
+
+-- each width with the number of its first bit
+abbrev firsts : List (ℕ × ℕ)
+firsts =
+    (1, 1) ∷ (8, 128) ∷ (16, 32768) ∷ (64, 9223372036854775808) ∷ (127, 85070591730234615865843651857942052864)
+    ∷ (128, 170141183460469231731687303715884105728) ∷ []
+
+abbrev at_each : (ℕ → ℕ → Value) → List Value
+at_each f = map (λ (p : ℕ × ℕ). f p.0 p.1) firsts
+
+shifts_1_up : at_each (λ w first. shifts ShiftLeft w 1 (w - 1)) ≡ at_each (λ w first. a_number w first)
+shifts_1_up = refl
+
+shifts_the_greatest_up : each (λ w g. shifts ShiftLeft w g (w - 1)) ≡ at_each (λ w first. a_number w first)
+shifts_the_greatest_up = refl
+
+shifts_the_first_down : at_each (λ w first. shifts ShiftRight w first (w - 1)) ≡ at_each (λ w first. a_number w 1)
+shifts_the_first_down = refl
+
+shifts_the_greatest_down : each (λ w g. shifts ShiftRight w g (w - 1)) ≡ each (λ w g. a_number w 1)
+shifts_the_greatest_down = refl
+
+shifts_up_by_1 : each (λ w g. shifts ShiftLeft w g 1) ≡ each (λ w g. a_number w (g - 1))
+shifts_up_by_1 = refl
+
+shifts_0 : each (λ w g. shifts ShiftLeft w 0 1) ≡ each (λ w g. a_number w 0)
+shifts_0 = refl
+
+shifts_up_by_0 : each (λ w g. shifts ShiftLeft w g 0) ≡ each (λ w g. a_number w g)
+shifts_up_by_0 = refl
+
+complements_the_greatest : each (λ w g. unary_value Complement (a_number w g)) ≡ each (λ w g. a_number w 0)
+complements_the_greatest = refl
+
+negates_the_greatest : each (λ w g. unary_value Negate (a_number w g)) ≡ each (λ w g. a_number w 1)
+negates_the_greatest = refl
+
+-- truth values and errors
+
+truths_differ : map (λ operator. binary_value operator (a_truth true) (a_truth false)) (Equal ∷ NotEqual ∷ []) ≡ map a_truth (false ∷ true ∷ [])
+truths_differ = refl
+
+is_true_again : unary_value Not (a_truth false) ≡ a_truth true
+is_true_again = refl
+
+errors_are_equal : binary_value Equal (an_error 0) (an_error 0) ≡ a_truth true
+errors_are_equal = refl
+
+-- `++` of one bit and 127 and of 127 bits and one, the left one in front
+
+joins_to_128 : map (λ (p : Value × Value). binary_value Concatenate p.0 p.1) ((a_number 1 1, a_number 1 0) ∷ (a_number 1 1, a_number 127 0) ∷ (a_number 1 0, a_number 127 170141183460469231731687303715884105727) ∷ (a_number 127 170141183460469231731687303715884105727, a_number 1 0) ∷ (a_number 127 0, a_number 1 1) ∷ []) ≡ a_number 2 2 ∷ a_number 128 170141183460469231731687303715884105728 ∷ a_number 128 170141183460469231731687303715884105727 ∷ a_number 128 340282366920938463463374607431768211454 ∷ a_number 128 1 ∷ []
+joins_to_128 = refl
+
+-- casts of the greatest number to its own width, to one bit and to 128 bits; of 2 to one bit; and of the other truth value
+
+casts_to_itself : each (λ w g. cast_value (Bit (number w)) (a_number w g)) ≡ each (λ w g. a_number w g)
+casts_to_itself = refl
+
+casts_to_one_bit : each (λ w g. cast_value (Bit (number 1)) (a_number w g)) ≡ each (λ w g. a_number 1 1)
+casts_to_one_bit = refl
+
+casts_to_128 : each (λ w g. cast_value (Bit (number 128)) (a_number w g)) ≡ each (λ w g. a_number 128 g)
+casts_to_128 = refl
+
+casts_2_to_one_bit : cast_value (Bit (number 1)) (a_number 128 2) ≡ a_number 1 0
+casts_2_to_one_bit = refl
+
+casts_falsehood : cast_value Truth (a_number 1 0) ∷ cast_value (Bit (number 1)) (a_truth false) ∷ [] ≡ a_truth false ∷ a_number 1 0 ∷ []
+casts_falsehood = refl
+
+-- the whole, the last and the first bit of each width as slices: of g as they are read, and 0 and g as they are written
+
+abbrev slices : ℕ → List Slice
+slices w = record { low = 0; width = w } ∷ record { low = 0; width = 1 } ∷ record { low = w - 1; width = 1 } ∷ []
+
+reads_slices : map (λ (p : ℕ × ℕ). map (λ s. sliced s p.1) (slices p.0)) greatest ≡ map (λ (p : ℕ × ℕ). p.1 ∷ 1 ∷ 1 ∷ []) greatest
+reads_slices = refl
+
+reads_slices_of_0 : map (λ (p : ℕ × ℕ). map (λ s. sliced s 0) (slices p.0)) greatest ≡ map (λ (p : ℕ × ℕ). 0 ∷ 0 ∷ 0 ∷ []) greatest
+reads_slices_of_0 = refl
+
+writes_slices_of_0 : map (λ (p : ℕ × ℕ). map (λ s. spliced s 0 p.1) (slices p.0)) greatest ≡ (1 ∷ 1 ∷ 1 ∷ []) ∷ (255 ∷ 1 ∷ 128 ∷ []) ∷ (65535 ∷ 1 ∷ 32768 ∷ []) ∷ (18446744073709551615 ∷ 1 ∷ 9223372036854775808 ∷ []) ∷ (170141183460469231731687303715884105727 ∷ 1 ∷ 85070591730234615865843651857942052864 ∷ []) ∷ (340282366920938463463374607431768211455 ∷ 1 ∷ 170141183460469231731687303715884105728 ∷ []) ∷ []
+writes_slices_of_0 = refl
+
+writes_0_to_slices : map (λ (p : ℕ × ℕ). map (λ s. spliced s p.1 0) (slices p.0)) greatest ≡ map (λ (p : ℕ × ℕ). 0 ∷ (p.1 - 1) ∷ (p.1 / 2) ∷ []) greatest
+writes_0_to_slices = refl

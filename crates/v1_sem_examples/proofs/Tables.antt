@@ -28,21 +28,9 @@ use Rattle.v1_sem.specs.Blocks.{control16}
 use Rattle.v1_sem.specs.Parsing.{parse16}
 use Rattle.v1_sem.specs.Passes.{ingress16, reparse16, egress16}
 use Rattle.v1_sem.specs.Runs.{Run16}
-use Rattle.v1_sem_examples.specs.Parts.{n, number, bits_type, param, hdr, field, action, table, key, an_action, method, calls, given, does, statements, var as variable}
-use Rattle.v1_sem_examples.specs.Samples.{doing, program}
+use Rattle.v1_sem_examples.specs.Parts.{n, number, bits_type, param, hdr, action, table, key, an_action, method, calls, given, does, statements, var as variable}
+use Rattle.v1_sem_examples.specs.Samples.{doing, program, h_x, h_y, h_z, packet}
 use Rattle.v1_sem_examples.specs.Packets.{Outcome, filled, outcome, sends, cells}
-
-abbrev packet : List ℕ
-packet = 0x12 ∷ 0x34 ∷ 0 ∷ 0 ∷ []
-
-abbrev h_x : Exp16
-h_x = field (codes "h") (codes "x")
-
-abbrev h_y : Exp16
-h_y = field (codes "h") (codes "y")
-
-abbrev h_z : Exp16
-h_z = field (codes "h") (codes "z")
 
 -- direct_counter(CounterType.packets_and_bytes) dc;
 -- action a(bit<8> v) { hdr.h.y = v; dc.count(); }

@@ -18,7 +18,8 @@ use Rattle.p416_ast.specs.declared.controls.Local.{Local}
 use Rattle.p416_ast.specs.declared.controls.Local.TheVariants as local
 use Rattle.p416_ast.specs.declared.controls.TableKey.{TableKey}
 use Rattle.p416_ast.specs.declared.controls.Property.{Property}
-use Rattle.p416_ast.specs.Tree.{Exp16, literal, name, member, call, no_arguments, argument, Stmt16, no_statements, then, expression}
+use Rattle.p416_ast.specs.declared.node.BinaryOperator.TheVariants.{Equal}
+use Rattle.p416_ast.specs.Tree.{Exp16, literal, error, name, member, slice, call, binary, listed, no_arguments, argument, Stmt16, no_statements, then, expression}
 use Rattle.p416_rules.specs.Names.{Name}
 
 -- numbers
@@ -88,6 +89,18 @@ sm text = member (name (codes "sm")) text
 abbrev pub meta : Name → Exp16
 meta text = member (name (codes "meta")) text
 
+-- `sm.F[7:0]`
+abbrev pub sm_octet : Name → Exp16
+sm_octet text = slice (sm text) (number 7) (number 0)
+
+-- `sm.instance_type == 32wKIND`
+abbrev pub is_kind : ℕ → Exp16
+is_kind kind = binary Equal (sm (codes "instance_type")) (n 32 kind)
+
+-- `sm.parser_error == error.X`
+abbrev pub is_error : Name → Exp16
+is_error x = binary Equal (sm (codes "parser_error")) (member error x)
+
 -- argument lists
 abbrev pub given_behind : Exp16 → List Exp16 → Exp16
 given_behind before [] = before
@@ -120,6 +133,31 @@ extract e = does (method (name (codes "p")) (codes "extract") (e ∷ []))
 
 abbrev pub emit : Exp16 → Stmt16
 emit e = does (method (name (codes "p")) (codes "emit") (e ∷ []))
+
+abbrev pub drops_it : Stmt16
+drops_it = does (calls (codes "mark_to_drop") (var (codes "sm") ∷ []))
+
+-- `HashAlgorithm.A`
+abbrev pub algorithm : Name → Exp16
+algorithm text = member (name (codes "HashAlgorithm")) text
+
+-- `hash(TO, HashAlgorithm.A, BASE, { ITEMS }, BOUND);`
+abbrev pub hashes : Exp16 → Name → Exp16 → List Exp16 → Exp16 → Stmt16
+hashes to text base items bound =
+    does (calls (codes "hash") (to ∷ algorithm text ∷ base ∷ listed (given items) ∷ bound ∷ []))
+
+-- `clone_preserving_field_list(CloneType.X, 32wSESSION, 8wLIST);`
+abbrev pub clones_to : Name → ℕ → ℕ → Stmt16
+clones_to x session list =
+    does (calls (codes "clone_preserving_field_list") (member (name (codes "CloneType")) x ∷ n 32 session ∷ n 8 list ∷ []))
+
+-- `resubmit_preserving_field_list(8wLIST);`
+abbrev pub resubmits_with : ℕ → Stmt16
+resubmits_with list = does (calls (codes "resubmit_preserving_field_list") (n 8 list ∷ []))
+
+-- `recirculate_preserving_field_list(8wLIST);`
+abbrev pub recirculates_with : ℕ → Stmt16
+recirculates_with list = does (calls (codes "recirculate_preserving_field_list") (n 8 list ∷ []))
 
 -- states
 abbrev pub state : Name → List Stmt16 → Transition → State
