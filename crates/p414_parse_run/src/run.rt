@@ -3,7 +3,7 @@ ghost use Rattle.std.specs.Prelude.{◌≡◌, ◌≤◌, All, IfOk, OnOk};
 ghost use Rattle.p414_sem.specs.State.{State};
 ghost use Rattle.p414_state.specs.Packets.{with_headers_begun, with_state};
 ghost use Rattle.p414_ready_parser.specs.Rows.{key_bits};
-ghost use Rattle.p414_ready_parser.specs.Running.{end_by, goes_on, lead, most_runs, ready_key, ready_parse, run_from, run_next, run_state, select_by, with_initials};
+ghost use Rattle.p414_ready_parser.specs.Running.{end_by, goes_on, lead, most_runs, ready_key, ready_parse, run_from, run_next, run_out, run_state, select_by, with_initials};
 ghost use Rattle.p414_parse_run.specs.Fits.{FitsEnd, FitsInitial, FitsParser, FitsPart, FitsState};
 ghost use Rattle.p414_parse_run.specs.Shown.{IsParsed, IsRun, shown_to, widths_in};
 
@@ -89,6 +89,20 @@ fn write_initials(state: &mut State14, rows: &[InitialRow]) -> Result<(), OutOfM
     Ok(())
 }
 
+/// How parsing ends there, where no more states may run.
+fn run_out(states: &[ReadyState], next: Next) -> Parsed
+    ensures { result ≡ run_out states.now next }
+{
+    match next {
+        Next::State(number) => match states.get(number as usize) {
+            Some(_) => Parsed::OutOfPacket,
+            None => Parsed::Accepted,
+        },
+        Next::Accept => Parsed::Accepted,
+        Next::Unhandled => Parsed::UnhandledSelect,
+    }
+}
+
 /// Parsing from there, in so many states at most.
 fn run_from(
     state: &mut State14,
@@ -106,7 +120,7 @@ fn run_from(
             GoingTo::Ended(end) => return Ok(end),
         }
     }
-    Ok(Parsed::OutOfPacket)
+    Ok(run_out(states, next))
 }
 
 /// More states than parsing can run: between two extractions each state stands once at most.

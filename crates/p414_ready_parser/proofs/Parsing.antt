@@ -13,7 +13,7 @@ use Rattle.p414_ast.specs.Attributes.{initials_of}
 use Rattle.p414_rules.specs.Names.{Name, is_in}
 use Rattle.p414_rules.specs.ParserGraph.{states, state_number}
 use Rattle.p414_rules.specs.Uses.{last_of}
-use Rattle.p414_sem.specs.Parsing.{field_named, with_initial, initialized, begun, goes_on, does_next, Step, to, ended, steps, state_named, step_from, followed, parse_from, most_states, Parse, parsed}
+use Rattle.p414_sem.specs.Parsing.{field_named, with_initial, initialized, begun, goes_on, does_next, Step, to, ended, steps, state_named, step_from, followed, run_out, parse_from, most_states, Parse, parsed}
 use Rattle.p414_sem.specs.Meanings.{Parse14}
 use Rattle.p414_sem.specs.Slots.{Slot, bits_of_ref, slot_of}
 use Rattle.p414_sem.specs.State.{State, written}
@@ -95,8 +95,17 @@ module _ (ds : List Decl) (widths : ℕ → List ℕ) (are : AreWidthsOf ds widt
   followed_is parse more h (to name s) = h name s
   followed_is parse more h (ended end s) = refl
 
+  out_at_is : (o : Option Parser) → run.out_at (option_map (state_row ds) o) ≡ run_out o
+  out_at_is None = refl
+  out_at_is (Some p) = refl
+
+  out_is : (o : Option ℕ) → run.run_out (map (state_row ds) (states ds)) (next_by o) ≡ run_out (option_and_then (slice_get (states ds)) o)
+  out_is None = refl
+  out_is (Some n) = ap run.out_at (slice_get-map (state_row ds) (states ds) n) ∙ out_at_is (slice_get (states ds) n)
+
   from_is : (left : ℕ) (name : Name) (s : State) → run.run_from widths (map (state_row ds) (states ds)) left (next_row ds name) s ≡ parse_from ds left name s
-  from_is zero name s = refl
+  from_is zero name s =
+      ap (λ end. record { end = end; state = s }) (out_is (state_number ds name))
   from_is (suc left) name s =
       ap (run.run_on (run.run_from widths (map (state_row ds) (states ds)) left)) (step_is name s)
       ∙ followed_is (run.run_from widths (map (state_row ds) (states ds)) left) (parse_from ds left) (from_is left) (step_from ds name s)

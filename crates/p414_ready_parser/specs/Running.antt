@@ -147,9 +147,19 @@ abbrev pub run_on : (Next → State → Parse) → GoingTo → Parse
 run_on parse (to n s) = parse n s
 run_on parse (ended end s) = record { end = end; state = s }
 
+-- how parsing ends there, where no more states may run
+abbrev pub out_at : Option ReadyState → Parsed
+out_at None = Accepted
+out_at (Some r) = OutOfPacket
+
+abbrev pub run_out : List ReadyState → Next → Parsed
+run_out states (next.State n) = out_at (slice_get states n)
+run_out states next.Accept = Accepted
+run_out states next.Unhandled = UnhandledSelect
+
 -- parsing in so many states at most
 abbrev pub run_from : (ℕ → List ℕ) → List ReadyState → ℕ → Next → State → Parse
-run_from widths states zero n s = record { end = OutOfPacket; state = s }
+run_from widths states zero n s = record { end = run_out states n; state = s }
 run_from widths states (suc left) n s = run_on (run_from widths states left) (run_next widths states n s)
 
 abbrev pub most_runs : List ReadyState → State → ℕ

@@ -250,11 +250,16 @@ abbrev pub followed : (Name → State → Parse) → Step → Parse
 followed parse (to name s) = parse name s
 followed parse (ended end s) = record { end = end; state = s }
 
+-- where no more states may run: a state doesn't, and the control `ingress` accepts, since it is none
+abbrev pub run_out : Option Parser → Parsed
+run_out None = Accepted
+run_out (Some p) = OutOfPacket
+
 -- Parsing from a state on, in so many states at most. No walk of an accepted program is longer than `most_states`: a
 -- cycle of states extracts, and an extraction takes at least one octet, so between two extractions each state stands
 -- once at most.
 abbrev pub parse_from : List Decl → ℕ → Name → State → Parse
-parse_from ds zero name s = record { end = OutOfPacket; state = s }
+parse_from ds zero name s = record { end = run_out (state_named ds name); state = s }
 parse_from ds (suc left) name s = followed (parse_from ds left) (step_from ds name s)
 
 abbrev pub most_states : List Decl → State → ℕ

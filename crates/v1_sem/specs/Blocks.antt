@@ -37,6 +37,7 @@ act_at b (suc calls) a m =
     closed m
     (run (record { around = b; act = act_at b calls; apply = no_table_applies }) (action_scope b.scope a) no_label a.body m)
 
+-- an action of the block, with its arguments in the variables
 abbrev pub act : Surroundings → Action16 → Moment → Moment
 act b a m = act_at b (length (filter_map action_in b.locals)) a m
 
@@ -112,6 +113,7 @@ abbrev pub var_in : Local → Option Var
 var_in (local.Var v) = Some v
 var_in _ = None
 
+-- the variables of a control, and then its statements
 abbrev pub run_control : World → Control16 → Moment → Moment
 run_control w control m =
     ended (run w w.around.scope no_label control.body (begun w (filter_map var_in control.locals) m))

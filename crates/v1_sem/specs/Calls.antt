@@ -132,6 +132,7 @@ acted w a x =
     let m = w.act a (with_inner (bound_arguments w.around.scope a.parameters x.given) x.moment) in
     copied_out a.parameters x.given m.frame.inner (with_inner x.moment.frame.inner m)
 
+-- a call of an action of the block
 abbrev pub call_action : World → Scope → List Handed → Option Action16 → Exp16 → Moment → Moment
 call_action w s handed None given m = m
 call_action w s handed (Some a) given m = acted w a (arguments w s (map place_of handed) given m)
@@ -156,6 +157,7 @@ function_call text given m =
     else if bytes_eq text (codes "recirculate_preserving_field_list") then recirculate_preserving (number_at given 0) m
     else m
 
+-- a call of what a name of this sort means
 abbrev pub named_call : World → Scope → Sort → Name → Exp16 → Moment → Moment
 named_call w s (an_action plane handed) text given m = call_action w s handed (action_named w.around text) given m
 named_call w s a_function text given m =

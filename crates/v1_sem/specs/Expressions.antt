@@ -1,5 +1,5 @@
--- The values of expressions, and what l-values mean (P4_16 1.2, "Expressions", "L-values", "Operations on headers",
--- "Operations on header stacks", "Match-action unit invocation", "Packet lookahead"). An expression is evaluated from
+-- The values of expressions, and what l-values mean (P4_16 1.2, "Expressions", "Expression evaluation order", "Conditional operator",
+-- "L-values", "Operations on headers", "Operations on header stacks", "Match-action unit invocation", "Packet lookahead"). An expression is evaluated from
 -- left to right, and `&&`, `||` and `? :` evaluate what they need. In a control it may apply tables, and in a parser raise
 -- an error. What a name means and of which kind an expression is, is said by the rules on types; a number without a width
 -- has that of its place.
@@ -58,6 +58,7 @@ element_by word place = if is_last word then place - 1 else place
 abbrev pub is_beyond : Name → ℕ → ℕ → Bool
 is_beyond word place size = if is_last word then place == 0 else not (nat_lt place size)
 
+-- what is left where the stack has that element, or the error
 abbrev pub bounded : Name → Value → Moment → Moment
 bounded word v m = if is_beyond word (place_in v) (length (elements_in v)) then raised StackOutOfBounds m else m
 
@@ -91,6 +92,7 @@ abbrev pub name_in : Exp16 → Name
 name_in (name text) = text
 name_in _ = []
 
+-- `t.apply()` as a value
 abbrev pub told : Applied → Valued
 told a = valued (applied_value a.hit) a.moment
 

@@ -47,7 +47,7 @@ pub record Moment : Type 0 where
   pub work : ℕ
   -- the error that stopped the parser
   pub stopped : Option ParserError
-  -- the entry for which an action runs, where a table with a direct counter runs it
+  -- the entry that was hit, while a table with a direct counter runs its action
   pub hit : Option Hit
 
 -- parts of a moment

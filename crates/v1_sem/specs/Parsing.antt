@@ -28,7 +28,7 @@ use Rattle.p416_rules.specs.Declarations.{parameter_name, parser_scope, layouts_
 use Rattle.p416_rules.specs.Main.{headers_kind}
 use Rattle.p416_rules.specs.Breaks.{scope_of}
 use Rattle.v1_sem.specs.declared.parser_error.ParserError.{ParserError}
-use Rattle.v1_sem.specs.declared.parser_error.ParserError.TheVariants.{NoError, NoMatch}
+use Rattle.v1_sem.specs.declared.parser_error.ParserError.TheVariants.{NoError, PacketTooShort, NoMatch}
 use Rattle.v1_sem.specs.Values.{Value, a_truth, an_error, no_members, no_value, number_in, zero_value}
 use Rattle.v1_sem.specs.Numbers.{is_equal}
 use Rattle.v1_sem.specs.Frames.{Moment, ticked, is_stopped, raised, error_number, Owner, of_headers, of_metadata, of_standard, of_nothing, with_standard, with_inner}
@@ -110,6 +110,7 @@ to_target (target.State text) m = onward text m
 to_target target.Accept m = finished m
 to_target target.Reject m = finished m
 
+-- the transition of the case that was found, or the error
 abbrev pub to_found : Option Target → Moment → Onward
 to_found (Some t) m = to_target t m
 to_found None m = finished (raised NoMatch m)
@@ -136,6 +137,7 @@ abbrev pub state_called : List State → Name → Option State
 state_called [] text = None
 state_called (x ∷ states) text = if bytes_eq x.name text then Some x else state_called states text
 
+-- from the state that was called; no accepted program calls one that isn't there
 abbrev pub from_state : World → Option State → Moment → Onward
 from_state w None m = finished m
 from_state w (Some x) m = in_state w x m
@@ -146,9 +148,9 @@ followed parse (finished m) = m
 
 -- Parsing from a state on, in so many states at most. No walk of an accepted program is longer than `most_states`: a cycle
 -- of states extracts, and an extraction takes at least one octet or stops, so between two extractions each state stands
--- once at most.
+-- once at most. Where no more states may run, the packet counts as too short.
 abbrev pub parse_from : World → List State → ℕ → Name → Moment → Moment
-parse_from w states zero text m = m
+parse_from w states zero text m = raised PacketTooShort m
 parse_from w states (suc left) text m =
     if is_stopped m then m
     else followed (parse_from w states left) (from_state w (state_called states text) m)
@@ -187,6 +189,7 @@ without_headers c m =
 abbrev pub run_states : World → Parser16 → Moment → Moment
 run_states w p m = ended (parse_from w p.states (most_states p.states m) (codes "start") (begun w p.vars m))
 
+-- the parser of the program, which begins with all headers invalid
 abbrev pub run_parser : Setting → Option Parser16 → Moment → Moment
 run_parser c None m = m
 run_parser c (Some p) m = run_states (quiet_world (around_parser c p)) p (without_headers c m)

@@ -65,7 +65,7 @@ is_in_list list f = list_any (is_number list) (flat_map list_numbers f.notes)
 abbrev pub number_if_in_list : ℕ → StructField → ℕ → ℕ
 number_if_in_list list f number = if is_in_list list f then number else 0
 
--- the bits of a struct that list preserves, with those of the structs in it, and 0 in place of the others
+-- what a list preserves of a struct's bits and of those of the structs in it; the other bits are 0
 abbrev pub preserved_in : List Decl16 → ℕ → List StructField → Value → Value
 preserved_in ds list (f ∷ fields) (a_member called (a_number width number) rest) =
     a_member called (a_number width (number_if_in_list list f number)) (preserved_in ds list fields rest)
@@ -126,6 +126,7 @@ pub record Held : Type 0 where
   pub unparsed : List ℕ
   pub port : ℕ
 
+-- as a block begins with these octets: nothing stopped the parser, nothing is emitted, and no table runs an action
 abbrev pub moment_of : Between → Frame → List ℕ → Moment
 moment_of b f unparsed = record {
   frame = f;
@@ -162,19 +163,22 @@ verified_and_run c p = control16 c Ingress (if is_no_error p.error then control1
 abbrev pub handed_on : ℕ → Moment → Held
 handed_on port m = record { frame = without_requests_and_events m.frame; unparsed = m.unparsed; port = port }
 
+-- a clone that was asked for: its session, and what its list preserves
 abbrev pub asked_clone : Syntax16 → Frame → Request → ℕ × Value
 asked_clone syntax f request = (request.0, preserved syntax f request)
 
+-- the port that the program sends the packet to, or the one that drops it
 abbrev pub egress_spec : Frame → ℕ
 egress_spec f = standard_number f (codes "egress_spec")
 
--- a resubmitted packet ends the pass, then a dropped one, and else the packet goes on to egress
+-- where resubmit was asked for the pass ends; else it ends where the packet is dropped; else the packet goes on to egress
 abbrev pub next_after : Setting → ℕ → Moment → Option Request → IngressNext Value Held
 next_after c port m (Some request) = after_ingress.Resubmit (preserved c.syntax m.frame request)
 next_after c port m None =
     if egress_spec m.frame == drop_port then after_ingress.Drop
     else after_ingress.Go (egress_spec m.frame) (handed_on port m)
 
+-- what ingress ends with: the clone, and what the packet does next
 abbrev pub ingress_end : Setting → ℕ → Moment → IngressEnd Value Held × Between
 ingress_end c port m =
     let answer : IngressEnd Value Held = record {
@@ -193,8 +197,8 @@ reparse16 c b came = let p = parse16 c (item_moment c b came) in answered (hande
 
 -- egress
 
--- as egress begins: on this port, of this kind, with nothing requested and no table applied, as what is held between two
--- blocks has it already; the rest is as it was left
+-- as egress begins: on this port and of this kind, with `egress_spec` 0, and nothing requested and no table applied, as what is
+-- held between two blocks has it already; the rest is as it was left
 abbrev pub egress_frame : Held → ℕ → ℕ → Frame
 egress_frame held port kind =
     with_standard (codes "egress_spec") (a_number 9 0)
@@ -213,6 +217,7 @@ cloned syntax port m request = record {
   port = port;
 }
 
+-- a clone that egress asked for: its session, and what its pass begins with
 abbrev pub asked_egress_clone : Syntax16 → ℕ → Moment → Request → ℕ × Held
 asked_egress_clone syntax port m request = (request.0, cloned syntax port m request)
 

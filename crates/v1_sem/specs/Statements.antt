@@ -1,5 +1,5 @@
 -- What statements do, and how many begin to run (P4_16 1.2, "Statements", "Assignment statement", "Conditional statement",
--- "Block statement", "Variable declarations", "Switch statement"; the count is this project's own). Each statement that
+-- "Empty statement", "Block statement", "Variable declarations", "Switch statement"; the count is this project's own). Each statement that
 -- begins to run counts one, but for blocks, empty statements and variables without an initial value. Once an error stopped
 -- the parser none begins.
 use Rattle.std.specs.Prelude.{Bool, true, false, ◌||◌, if◌then◌else◌, Option, Some}
@@ -55,7 +55,7 @@ abbrev pub has_label : (CaseLabel → Bool) → Stmt16 → Bool
 has_label passes (case_of before l body) = has_label passes before || passes l
 has_label passes _ = false
 
--- the case of the action that ran is taken, and where there is none the one of `default`; of two the first counts
+-- the case of the action that ran is taken, and where there is none the one of `default`
 abbrev pub chosen_label : Option Name → Stmt16 → CaseLabel → Bool
 chosen_label action cases l =
     if has_label (names_action action) cases then names_action action l else is_default l

@@ -1,6 +1,6 @@
 -- Tables: their keys, the entry that is hit, the action that runs (P4_16 1.2, "Tables", "Match-action unit invocation",
--- "Match-action unit execution semantics"; `v1model.p4`, `direct_counter`). A miss runs the default of the entries, else
--- the table's `default_action`, else `NoAction`. A direct counter counts where its action says so.
+-- "Match-action unit execution semantics", "Invoking actions"; `v1model.p4`, `direct_counter`). A miss runs the default of
+-- the entries, which is this project's own, else the table's `default_action`, else `NoAction`. A direct counter counts where its action says so.
 use Rattle.std.specs.Prelude.{ℕ, false, is_some, List, [], ◌∷◌, map, slice_index_or, Option, Some, None, option_map, option_and_then}
 use Rattle.std.specs.Option.{option_map_or}
 use Rattle.match_core.specs.declared.entries.Entry.{Entry}
@@ -28,7 +28,8 @@ use Rattle.v1_sem.specs.Signatures.{planes_of, place_among, action_with, key_sco
 use Rattle.v1_sem.specs.Surroundings.{Surroundings, Applied, quiet_world, action_named, table_named}
 use Rattle.v1_sem.specs.Expressions.{value_of}
 
--- keys: their expressions see the block's own names, and apply no table
+-- keys: their expressions see the block's own names, and change nothing: no table is applied in them, and outside of a parser
+-- there are no errors
 abbrev pub key_value : Surroundings → Moment → TableKey → ℕ
 key_value b m k =
     as_number (value_of (quiet_world b) (key_scope b.scope) (table_key (is_exact k)) k.exp (with_inner no_members m)).value
@@ -36,7 +37,7 @@ key_value b m k =
 abbrev pub key_values : Surroundings → Moment → Table16 → List ℕ
 key_values b m t = map (key_value b m) (keys_of t.properties)
 
--- the best entry
+-- what the entries file fills a table with
 
 abbrev pub no_fill : TableFill
 no_fill = record { entries = []; default = None }
@@ -44,6 +45,7 @@ no_fill = record { entries = []; default = None }
 abbrev pub fill_of : Surroundings → Table16 → TableFill
 fill_of b t = slice_index_or b.setting.entries.tables (table_number b.setting.syntax t) no_fill
 
+-- the entry that is hit, by its number
 abbrev pub found : Surroundings → Moment → Table16 → Option ℕ
 found b m t =
     best (filled_of (table_sig b.setting.syntax b.locals b.scope t) (fill_of b t)) (key_values b m t)

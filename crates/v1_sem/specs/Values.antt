@@ -1,5 +1,6 @@
 -- The values that variables hold, and their parts (P4_16 1.2, "P4 data types", "Operations on headers", "Operations on
--- header stacks", "Operations on struct types").
+-- header stacks", "Operations on struct types", "Reading uninitialized values and writing fields of invalid headers":
+-- what the standard leaves open there is this project's own).
 use Rattle.std.specs.Prelude.{ℕ, zero, suc, ◌+◌, ◌-◌, ◌*◌, ◌/◌, ◌%◌, ◌^◌, Bool, true, false, if◌then◌else◌, List, [], ◌∷◌, length, map, replicate, slice_index_or, slice_set, Option, Some, None}
 use Rattle.std.specs.Str.{bytes_eq}
 use Rattle.p4x_bits.specs.BitLists.{bit}

@@ -1,5 +1,5 @@
 -- Checksums (`v1model.p4`, `verify_checksum`, `update_checksum`, `verify_checksum_with_payload` and
--- `update_checksum_with_payload`).
+-- `update_checksum_with_payload`). A wrong checksum is told to the packet's `checksum_error`.
 use Rattle.std.specs.Prelude.{◌%◌, ◌^◌, ◌==◌, Bool, not, ◌&&◌, if◌then◌else◌, List, ◌++◌, codes}
 use Rattle.p4x_bits.specs.BitLists.{octet_bits}
 use Rattle.p416_rules.specs.Names.{Name}

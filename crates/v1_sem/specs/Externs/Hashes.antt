@@ -1,4 +1,5 @@
--- Hashes (`v1model.p4`, `HashAlgorithm` and `hash`; the parameters of the algorithms are this project's own).
+-- Hashes (`v1model.p4`, `HashAlgorithm` and `hash`; the parameters of the algorithms, and the base alone
+-- where the bound is 0, are this project's own).
 use Rattle.std.specs.Prelude.{ℕ, ◌+◌, ◌%◌, ◌==◌, Bool, if◌then◌else◌, List, codes}
 use Rattle.std.specs.Str.{bytes_eq}
 use Rattle.calc_core.specs.Calculations.{csum16, crc16, crc32, identity}
