@@ -8,7 +8,7 @@ use Rattle.v1_ready_expressions.specs.Ready.{Ready, Ended, ready_value}
 
 pub record Moment : Type 0 where
   pub cells : Cells
-  -- the frame in which the arguments of a call wait until all are evaluated
+  -- the frame in which the arguments of a call wait, where one of them applies a table
   pub waiting : Cells
   pub store : Contents
   -- the octets that aren't parsed yet, and the bits that were emitted

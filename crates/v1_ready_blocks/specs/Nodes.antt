@@ -145,7 +145,7 @@ statement_of ts (statement_node.Emit a) = does (emit_headers (source_at ts a))
 statement_of ts (statement_node.Execute what a) = does (execute what (arguments_at ts a))
 statement_of ts (statement_node.Apply table) = does (apply table)
 statement_of ts (statement_node.LetGo a) = does (let_go (test_at ts a))
-statement_of ts (statement_node.Call action a b) = call action (incoming_at ts a) (outgoing_at ts b)
+statement_of ts (statement_node.Call action apart a b) = call action apart (incoming_at ts a) (outgoing_at ts b)
 statement_of ts (statement_node.Branch c a b) = branch (test_at ts c) (statement_at ts a) (statement_at ts b)
 statement_of ts (statement_node.Switch table a) = switch table (statement_at ts a)
 statement_of ts (statement_node.Labelled action a b) = labelled action (statement_at ts a) (statement_at ts b)
@@ -222,78 +222,78 @@ IsSingle (single.ToBits width) = IsWidth width
 IsSingle single.ToTruth = Unit {0}
 IsSingle (single.Operator of) = Unit {0}
 
-abbrev pub IsExtern : Ground → Extern → Type 0
-IsExtern g (extern.Count object length) = IsCounterAt g.shapes object × IsSlot g.layout length
-IsExtern g (extern.CountEntry object length) = IsCounterAt g.shapes object × IsSlot g.layout length
-IsExtern g (extern.Read object to) = IsRegisterAt g.shapes object × IsTarget g.layout to
-IsExtern g (extern.Write object) = IsRegisterAt g.shapes object
-IsExtern g (extern.ExecuteMeter object to) = IsMeterAt g.shapes object × IsTarget g.layout to
-IsExtern g (extern.Hash algorithm to) = IsTarget g.layout to
-IsExtern g (extern.MarkToDrop slot) = IsSlot g.layout slot
-IsExtern g (extern.Verify algorithm payload slot) = IsSlot g.layout slot
-IsExtern g (extern.Update algorithm payload to) = IsTarget g.layout to
-IsExtern g (extern.Clone kind list) = Unit {0}
-IsExtern g (extern.Request kind list) = Unit {0}
+abbrev pub IsExtern : Layout → List Shape → Extern → Type 0
+IsExtern l shapes (extern.Count object length) = IsCounterAt shapes object × IsSlot l length
+IsExtern l shapes (extern.CountEntry object length) = IsCounterAt shapes object × IsSlot l length
+IsExtern l shapes (extern.Read object to) = IsRegisterAt shapes object × IsTarget l to
+IsExtern l shapes (extern.Write object) = IsRegisterAt shapes object
+IsExtern l shapes (extern.ExecuteMeter object to) = IsMeterAt shapes object × IsTarget l to
+IsExtern l shapes (extern.Hash algorithm to) = IsTarget l to
+IsExtern l shapes (extern.MarkToDrop slot) = IsSlot l slot
+IsExtern l shapes (extern.Verify algorithm payload slot) = IsSlot l slot
+IsExtern l shapes (extern.Update algorithm payload to) = IsTarget l to
+IsExtern l shapes (extern.Clone kind list) = Unit {0}
+IsExtern l shapes (extern.Request kind list) = Unit {0}
 
 -- what a node is made of stands before it
 
-abbrev pub IsTest : Ground → ℕ → TestNode → Type 0
-IsTest g n (test_node.Plain e) = e < g.expressions
-IsTest g n (test_node.Hits table) = Unit {0}
-IsTest g n (test_node.Misses table) = Unit {0}
-IsTest g n (test_node.Alone of a) = IsSingle of × (a < n)
-IsTest g n (test_node.Both a b) = (a < n) × (b < n)
-IsTest g n (test_node.Either a b) = (a < n) × (b < n)
-IsTest g n (test_node.Pair of a b) = (a < n) × (b < n)
-IsTest g n (test_node.Choice c a b) = (c < n) × (a < n) × (b < n)
+abbrev pub IsTest : ℕ → ℕ → TestNode → Type 0
+IsTest expressions n (test_node.Plain e) = e < expressions
+IsTest expressions n (test_node.Hits table) = Unit {0}
+IsTest expressions n (test_node.Misses table) = Unit {0}
+IsTest expressions n (test_node.Alone of a) = IsSingle of × (a < n)
+IsTest expressions n (test_node.Both a b) = (a < n) × (b < n)
+IsTest expressions n (test_node.Either a b) = (a < n) × (b < n)
+IsTest expressions n (test_node.Pair of a b) = (a < n) × (b < n)
+IsTest expressions n (test_node.Choice c a b) = (c < n) × (a < n) × (b < n)
 
-abbrev pub IsSource : Ground → ℕ → SourceNode → Type 0
-IsSource g n (source_node.Parts of) = IsRangePlace g.layout of
-IsSource g n (source_node.Chosen c a b) = (c < n) × (a < n) × (b < n)
+abbrev pub IsSource : Layout → ℕ → SourceNode → Type 0
+IsSource l n (source_node.Parts of) = IsRangePlace l of
+IsSource l n (source_node.Chosen c a b) = (c < n) × (a < n) × (b < n)
 
 abbrev pub IsArgument : ℕ → ArgumentNode → Type 0
 IsArgument n argument_node.Nothing = Unit {0}
 IsArgument n (argument_node.Value a rest) = (a < n) × (rest < n)
 IsArgument n (argument_node.Item a rest) = (a < n) × (rest < n)
 
-abbrev pub IsIncoming : Ground → ℕ → IncomingNode → Type 0
-IsIncoming g n incoming_node.Nothing = Unit {0}
-IsIncoming g n (incoming_node.Value to a rest) = IsSlot g.layout to × (a < n) × (rest < n)
-IsIncoming g n (incoming_node.Parts to a rest) = IsRange g.layout to × (a < n) × (rest < n)
-IsIncoming g n (incoming_node.Zero to rest) = IsRange g.layout to × (rest < n)
+abbrev pub IsIncoming : Layout → ℕ → IncomingNode → Type 0
+IsIncoming l n incoming_node.Nothing = Unit {0}
+IsIncoming l n (incoming_node.Value to a rest) = IsSlot l to × (a < n) × (rest < n)
+IsIncoming l n (incoming_node.Parts to a rest) = IsRange l to × (a < n) × (rest < n)
+IsIncoming l n (incoming_node.Zero to rest) = IsRange l to × (rest < n)
 
-abbrev pub IsOutgoing : Ground → ℕ → OutgoingNode → Type 0
-IsOutgoing g n outgoing_node.Nothing = Unit {0}
-IsOutgoing g n (outgoing_node.Value from to rest) = IsSlot g.layout from × IsTarget g.layout to × (rest < n)
-IsOutgoing g n (outgoing_node.Parts from to rest) = IsRange g.layout from × IsRange g.layout to × (rest < n)
+abbrev pub IsOutgoing : Layout → ℕ → OutgoingNode → Type 0
+IsOutgoing l n outgoing_node.Nothing = Unit {0}
+IsOutgoing l n (outgoing_node.Value from to rest) = IsSlot l from × IsTarget l to × (rest < n)
+IsOutgoing l n (outgoing_node.Parts from to rest) = IsRange l from × IsRange l to × (rest < n)
 
-abbrev pub IsStatement : Ground → ℕ → StatementNode → Type 0
-IsStatement g n statement_node.Nothing = Unit {0}
-IsStatement g n (statement_node.Sequence a b) = (a < n) × (b < n)
-IsStatement g n (statement_node.Start r) = IsRange g.layout r
-IsStatement g n (statement_node.Assign to slice a) = IsSlotPlace g.layout to × IsSliceOf slice × (a < n)
-IsStatement g n (statement_node.AssignParts to a) = IsRangePlace g.layout to × (a < n)
-IsStatement g n (statement_node.SetValid header on) = IsHeaderPlace g.layout header
-IsStatement g n (statement_node.PushFront stack count) = IsRange g.layout stack
-IsStatement g n (statement_node.PopFront stack count) = IsRange g.layout stack
-IsStatement g n (statement_node.Extract header) = IsHeaderPlace g.layout header
-IsStatement g n (statement_node.Emit a) = a < n
-IsStatement g n (statement_node.Execute what a) = IsExtern g what × (a < n)
-IsStatement g n (statement_node.Apply table) = Unit {0}
-IsStatement g n (statement_node.LetGo a) = a < n
-IsStatement g n (statement_node.Call action a b) = (a < n) × (b < n)
-IsStatement g n (statement_node.Branch c a b) = (c < n) × (a < n) × (b < n)
-IsStatement g n (statement_node.Switch table a) = a < n
-IsStatement g n (statement_node.Labelled action a b) = (a < n) × (b < n)
-IsStatement g n (statement_node.Otherwise a) = a < n
+abbrev pub IsStatement : Layout → List Shape → ℕ → StatementNode → Type 0
+IsStatement l shapes n statement_node.Nothing = Unit {0}
+IsStatement l shapes n (statement_node.Sequence a b) = (a < n) × (b < n)
+IsStatement l shapes n (statement_node.Start r) = IsRange l r
+IsStatement l shapes n (statement_node.Assign to slice a) = IsSlotPlace l to × IsSliceOf slice × (a < n)
+IsStatement l shapes n (statement_node.AssignParts to a) = IsRangePlace l to × (a < n)
+IsStatement l shapes n (statement_node.SetValid header on) = IsHeaderPlace l header
+IsStatement l shapes n (statement_node.PushFront stack count) = IsRange l stack
+IsStatement l shapes n (statement_node.PopFront stack count) = IsRange l stack
+IsStatement l shapes n (statement_node.Extract header) = IsHeaderPlace l header
+IsStatement l shapes n (statement_node.Emit a) = a < n
+IsStatement l shapes n (statement_node.Execute what a) = IsExtern l shapes what × (a < n)
+IsStatement l shapes n (statement_node.Apply table) = Unit {0}
+IsStatement l shapes n (statement_node.LetGo a) = a < n
+IsStatement l shapes n (statement_node.Call action apart a b) = (a < n) × (b < n)
+IsStatement l shapes n (statement_node.Branch c a b) = (c < n) × (a < n) × (b < n)
+IsStatement l shapes n (statement_node.Switch table a) = a < n
+IsStatement l shapes n (statement_node.Labelled action a b) = (a < n) × (b < n)
+IsStatement l shapes n (statement_node.Otherwise a) = a < n
 
 abbrev pub IsNode : Ground → ℕ → Node → Type 0
-IsNode g n (node.Test of) = IsTest g n of
-IsNode g n (node.Source of) = IsSource g n of
+IsNode g n (node.Test of) = IsTest g.expressions n of
+IsNode g n (node.Source of) = IsSource g.layout n of
 IsNode g n (node.Argument of) = IsArgument n of
-IsNode g n (node.Incoming of) = IsIncoming g n of
-IsNode g n (node.Outgoing of) = IsOutgoing g n of
-IsNode g n (node.Statement of) = IsStatement g n of
+IsNode g n (node.Incoming of) = IsIncoming g.layout n of
+IsNode g n (node.Outgoing of) = IsOutgoing g.layout n of
+IsNode g n (node.Statement of) = IsStatement g.layout g.shapes n of
 
 abbrev pub AreNodes : Ground → List Node → Type 0
 AreNodes g nodes = AllInOrder (IsNode g) 0 nodes

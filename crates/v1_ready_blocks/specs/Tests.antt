@@ -78,19 +78,20 @@ and_then x further = of x.value
 abbrev pub turned : Valued → (Value → Value) → Valued
 turned x f = and_then x (λ v m. valued (given (f v)) m)
 
-abbrev pub test_value : World → Test → Moment → Valued
-test_value w (plain e) m = valued (value_at m e) m
-test_value w (hits table) m = let a = w.apply table m in valued (given (a_truth a.hit)) a.moment
-test_value w (misses table) m = let a = w.apply table m in valued (given (a_truth (not a.hit))) a.moment
-test_value w (alone of e) m = turned (test_value w e m) (single_value of)
-test_value w (both a b) m =
-    and_then (test_value w a m) (λ x n. if is_true x then test_value w b n else valued (given x) n)
-test_value w (either a b) m =
-    and_then (test_value w a m) (λ x n. if is_true x then valued (given x) n else test_value w b n)
-test_value w (pair of a b) m =
-    and_then (test_value w a m) (λ x n. and_then (test_value w b n) (λ y o. valued (given (pair_value of x y)) o))
-test_value w (choice c a b) m =
-    and_then (test_value w c m) (λ x n. if is_true x then test_value w a n else test_value w b n)
+-- the value, where tables do this when they are applied
+abbrev pub test_value : (ℕ → Moment → Applied) → Test → Moment → Valued
+test_value runs (plain e) m = valued (value_at m e) m
+test_value runs (hits table) m = let a = runs table m in valued (given (a_truth a.hit)) a.moment
+test_value runs (misses table) m = let a = runs table m in valued (given (a_truth (not a.hit))) a.moment
+test_value runs (alone of e) m = turned (test_value runs e m) (single_value of)
+test_value runs (both a b) m =
+    and_then (test_value runs a m) (λ x n. if is_true x then test_value runs b n else valued (given x) n)
+test_value runs (either a b) m =
+    and_then (test_value runs a m) (λ x n. if is_true x then valued (given x) n else test_value runs b n)
+test_value runs (pair of a b) m =
+    and_then (test_value runs a m) (λ x n. and_then (test_value runs b n) (λ y o. valued (given (pair_value of x y)) o))
+test_value runs (choice c a b) m =
+    and_then (test_value runs c m) (λ x n. if is_true x then test_value runs a n else test_value runs b n)
 
 -- what a statement does with a value; an error stops the parser
 abbrev pub with_test : Valued → (Value → Moment → Moment) → Moment
@@ -130,10 +131,10 @@ when_tested x further = of x.value
     of (given v) = further v x.moment
     of (failed e) = reached (nowhere e) x.moment
 
-abbrev pub source_range : World → Source → Moment → Reached
-source_range w (parts of) m = reached (sought (range_at m.cells of)) m
-source_range w (chosen c a b) m =
-    when_tested (test_value w c m) (λ x n. if is_true x then source_range w a n else source_range w b n)
+abbrev pub source_range : (ℕ → Moment → Applied) → Source → Moment → Reached
+source_range runs (parts of) m = reached (sought (range_at m.cells of)) m
+source_range runs (chosen c a b) m =
+    when_tested (test_value runs c m) (λ x n. if is_true x then source_range runs a n else source_range runs b n)
 
 abbrev pub with_source : Reached → (Range → Moment → Moment) → Moment
 with_source x further = of x.range

@@ -42,9 +42,7 @@ pub fn is_slice(slice: Option<Slice>) -> bool
     ensures { result ≡ true → IsSliceOf slice }
 {
     match slice {
-        Some(slice) => {
-            slice.width > 0 && u16::from(slice.low) + u16::from(slice.width) <= 128
-        }
+        Some(slice) => { slice.width > 0 && u16::from(slice.low) + u16::from(slice.width) <= 128 }
         None => true,
     }
 }

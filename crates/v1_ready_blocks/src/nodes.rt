@@ -111,8 +111,9 @@ pub enum StatementNode {
     Apply(u32),
     /// A call whose value is let go.
     LetGo(usize),
-    /// A call of an action: what its parameters start with, and which of them go back.
-    Call(u32, usize, usize),
+    /// A call of an action: whether its arguments wait apart from the frame, what its parameters start with, and which of them
+    /// go back.
+    Call(u32, bool, usize, usize),
     /// The condition, the statements where it holds, and those where it doesn't.
     Branch(usize, usize, usize),
     /// `switch` over the action that a table runs, with its cases.

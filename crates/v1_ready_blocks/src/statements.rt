@@ -3,7 +3,7 @@ ghost use Rattle.std.specs.Prelude.{◌≡◌, ◌<◌, true, [], List, length, 
 ghost use Rattle.node_lists.specs.Trees.{Adds};
 ghost use Rattle.v1_ready_expressions.specs.Ready.{Ready};
 ghost use Rattle.v1_ready_blocks.specs.Nodes.{IsArgument, IsExtern, IsIncoming, IsNode, IsOutgoing, IsSource, IsStatement, IsTest, at, tree_of, trees};
-ghost use Rattle.v1_ready_blocks.specs.Kept.{kept, over_node};
+ghost use Rattle.v1_ready_blocks.specs.Kept.{kept, needed, needed_by, over, over_node};
 
 use crate::checked::{
     is_counter, is_header_place, is_meter, is_range, is_range_place, is_register, is_single,
@@ -18,6 +18,29 @@ use state_store::Shape;
 use std::alloc::Global;
 use std::marker::Model;
 use v1_frames::FrameLayout;
+
+/// How many expressions there are at least, with the one that a node of an expression names.
+fn needed_by(node: TestNode, expressions: usize) -> Result<usize, OutOfMemory>
+    ensures { IfOk result (λ count. count ≡ needed_by node expressions) }
+{
+    match node {
+        TestNode::Plain(e) => {
+            let count = e.checked_add(1).ok_or(OutOfMemory)?;
+            Ok(expressions.max(count))
+        }
+        _ => Ok(expressions),
+    }
+}
+
+/// How many expressions there are at least, with the one that a node names.
+fn needed(node: Node, expressions: usize) -> Result<usize, OutOfMemory>
+    ensures { IfOk result (λ count. count ≡ needed node expressions) }
+{
+    match node {
+        Node::Test(node) => Ok(needed_by(node, expressions)?),
+        _ => Ok(expressions),
+    }
+}
 
 /// Statements over the frames of a layout and the objects of a program, each kept as a node over earlier ones and over
 /// expressions, which stand by themselves. They are known by their places, from 0 in the order in which they were added.
@@ -66,13 +89,13 @@ impl<'l> Statements<'l> {
         self.nodes[place]
     }
 
-    /// Whether a node of an expression may be put behind the others.
-    fn fits_test(&self, node: TestNode) -> bool
-        ensures { result ≡ true → IsTest self.now.ground (length self.now.nodes) node }
+    /// Whether a node of an expression may be put behind the others, where there are so many expressions.
+    fn fits_test(&self, expressions: usize, node: TestNode) -> bool
+        ensures { result ≡ true → IsTest expressions (length self.now.nodes) node }
     {
         let count = self.nodes.len();
         match node {
-            TestNode::Plain(e) => e < self.expressions,
+            TestNode::Plain(e) => e < expressions,
             TestNode::Hits(_) => true,
             TestNode::Misses(_) => true,
             TestNode::Alone(single, a) => is_single(single) && a < count,
@@ -85,7 +108,7 @@ impl<'l> Statements<'l> {
 
     /// Whether a node of what is read whole may be put behind the others.
     fn fits_source(&self, node: SourceNode) -> bool
-        ensures { result ≡ true → IsSource self.now.ground (length self.now.nodes) node }
+        ensures { result ≡ true → IsSource self.now.ground.layout (length self.now.nodes) node }
     {
         let count = self.nodes.len();
         match node {
@@ -108,7 +131,7 @@ impl<'l> Statements<'l> {
 
     /// Whether a node of what parameters start with may be put behind the others.
     fn fits_incoming(&self, node: IncomingNode) -> bool
-        ensures { result ≡ true → IsIncoming self.now.ground (length self.now.nodes) node }
+        ensures { result ≡ true → IsIncoming self.now.ground.layout (length self.now.nodes) node }
     {
         let count = self.nodes.len();
         match node {
@@ -125,7 +148,7 @@ impl<'l> Statements<'l> {
 
     /// Whether a node of parameters that go back may be put behind the others.
     fn fits_outgoing(&self, node: OutgoingNode) -> bool
-        ensures { result ≡ true → IsOutgoing self.now.ground (length self.now.nodes) node }
+        ensures { result ≡ true → IsOutgoing self.now.ground.layout (length self.now.nodes) node }
     {
         let count = self.nodes.len();
         match node {
@@ -141,7 +164,7 @@ impl<'l> Statements<'l> {
 
     /// Whether an extern has objects and targets that are there.
     fn fits_extern(&self, what: Extern) -> bool
-        ensures { result ≡ true → IsExtern self.now.ground what }
+        ensures { result ≡ true → IsExtern self.now.ground.layout self.now.ground.shapes what }
     {
         match what {
             Extern::Count(object, length) => {
@@ -168,7 +191,7 @@ impl<'l> Statements<'l> {
 
     /// Whether a node of a statement may be put behind the others.
     fn fits_statement(&self, node: StatementNode) -> bool
-        ensures { result ≡ true → IsStatement self.now.ground (length self.now.nodes) node }
+        ensures { result ≡ true → IsStatement self.now.ground.layout self.now.ground.shapes (length self.now.nodes) node }
     {
         let count = self.nodes.len();
         match node {
@@ -187,7 +210,7 @@ impl<'l> Statements<'l> {
             StatementNode::Execute(what, a) => self.fits_extern(what) && a < count,
             StatementNode::Apply(_) => true,
             StatementNode::LetGo(a) => a < count,
-            StatementNode::Call(_, a, b) => a < count && b < count,
+            StatementNode::Call(_, _, a, b) => a < count && b < count,
             StatementNode::Branch(c, a, b) => c < count && a < count && b < count,
             StatementNode::Switch(_, a) => a < count,
             StatementNode::Labelled(_, a, b) => a < count && b < count,
@@ -195,12 +218,12 @@ impl<'l> Statements<'l> {
         }
     }
 
-    /// Whether a node may be put behind the others.
-    fn fits(&self, node: Node) -> bool
-        ensures { result ≡ true → IsNode self.now.ground (length self.now.nodes) node }
+    /// Whether a node may be put behind the others, where there are so many expressions.
+    fn fits(&self, expressions: usize, node: Node) -> bool
+        ensures { result ≡ true → IsNode (over expressions self.now.ground) (length self.now.nodes) node }
     {
         match node {
-            Node::Test(node) => self.fits_test(node),
+            Node::Test(node) => self.fits_test(expressions, node),
             Node::Source(node) => self.fits_source(node),
             Node::Argument(node) => self.fits_argument(node),
             Node::Incoming(node) => self.fits_incoming(node),
@@ -209,34 +232,23 @@ impl<'l> Statements<'l> {
         }
     }
 
-    /// How many expressions there are at least, with those that a node names.
-    fn expressions_of(&self, node: Node) -> Result<usize, OutOfMemory>
-        ensures { IfOk result (λ count. count ≡ (over_node node self.now.ground).expressions) }
-    {
-        match node {
-            Node::Test(TestNode::Plain(e)) => {
-                let count = e.checked_add(1).ok_or(OutOfMemory)?;
-                Ok(self.expressions.max(count))
-            }
-            _ => Ok(self.expressions),
-        }
-    }
-
     /// Puts one more node behind the earlier ones and gives its place. An expression that it names counts as being there from
     /// then on. The one error is want of memory, which a node counts as that doesn't fit: one that names a part of a frame, an
-    /// object or an earlier node that isn't there, or a width or a place past 128 bits. After it the nodes are as they were.
+    /// object or an earlier node that isn't there, or a width or a place past 128 bits. After it the statements are as they
+    /// were.
     pub fn put(&mut self, node: Node) -> Result<usize, OutOfMemory>
         ensures ok { IfOk result (λ place. (es : List Ready) → Adds (trees es self.old.nodes) (trees es self.new.nodes) place (tree_of es (trees es self.old.nodes) node)) }
         ensures within { IfOk result (λ place. place < length self.new.nodes) }
         ensures ground { OnOk result (self.new.ground ≡ over_node node self.old.ground) }
-        ensures err { OnErr result (self.new.nodes ≡ self.old.nodes) }
+        ensures err { OnErr result (self.new ≡ self.old) }
     {
-        self.expressions = self.expressions_of(node)?;
-        if !self.fits(node) {
+        let expressions = needed(node, self.expressions)?;
+        if !self.fits(expressions, node) {
             return Err(OutOfMemory);
         }
         let place = self.nodes.len();
         self.nodes.push(node)?;
+        self.expressions = expressions;
         Ok(place)
     }
 }
