@@ -1,9 +1,9 @@
 -- What `node_lists` proves of any list of nodes, for those of ready statements; and that further expressions change no tree.
-use Rattle.std.proofs.Common.{◌≡◌, ℕ, ◌+◌, ◌<◌, ◌≤◌, List, [], ◌∷◌, ◌++◌, length, get_or, refl, sym, ap, subst, ◌∙◌, arith}
-use Rattle.node_lists.specs.Trees.{grow, KeepsPlaces, AllInOrder, Adds}
+use Rattle.std.proofs.Common.{◌≡◌, ℕ, ◌+◌, ◌<◌, ◌≤◌, List, [], ◌∷◌, ◌++◌, length, get_or, refl, ap, subst, ◌∙◌, arith}
+use Rattle.node_lists.specs.Trees.{Adds}
 use Rattle.node_lists.proofs.Growth as growth
 use Rattle.v1_ready_expressions.specs.Ready.{Ready}
-use Rattle.v1_ready_expressions.specs.Nodes.{nothing as no_expression, ready_at}
+use Rattle.v1_ready_expressions.specs.Nodes.{ready_at}
 use Rattle.v1_ready_blocks.specs.declared.nodes.TestNode.{TestNode}
 use Rattle.v1_ready_blocks.specs.declared.nodes.TestNode.TheVariants as test_node
 use Rattle.v1_ready_blocks.specs.declared.nodes.SourceNode.{SourceNode}

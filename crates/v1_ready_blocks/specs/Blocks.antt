@@ -1,6 +1,6 @@
 -- A block: its actions, its tables and its statements (P4_16 1.2, "Control blocks", "Actions"). It begins with the variables of
 -- the block, which all start at 0, and then with their initial values in order.
-use Rattle.std.specs.Prelude.{ℕ, zero, suc, List, [], length, slice_index_or, Option, None}
+use Rattle.std.specs.Prelude.{ℕ, zero, suc, List, [], length, slice_index_or, None}
 use Rattle.v1_ready_blocks.specs.Moments.{Moment}
 use Rattle.v1_ready_blocks.specs.Tests.{World, Applied, no_table_applies, quiet_world}
 use Rattle.v1_ready_blocks.specs.Tables.{Table, Fill, applied}

@@ -1,6 +1,6 @@
 -- The externs of `v1model.p4`, each by the values of its arguments, in the order of their positions but for what the program
 -- writes down, and by the bits of its list. Sessions and indices have 32 bits, and the packet's length as well.
-use Rattle.std.specs.Prelude.{ℕ, ◌+◌, ◌%◌, ◌^◌, ◌==◌, Bool, not, ◌&&◌, if◌then◌else◌, List, ◌++◌, slice_index_or, Option, Some, None}
+use Rattle.std.specs.Prelude.{ℕ, ◌%◌, ◌^◌, ◌==◌, Bool, not, ◌&&◌, if◌then◌else◌, List, ◌++◌, slice_index_or, Option, Some, None}
 use Rattle.p4x_bits.specs.BitLists.{octet_bits}
 use Rattle.state_store.specs.State.{count as count_in_store, read as read_in_store, write as write_in_store, colour, colour_taken}
 use Rattle.state_store.specs.Ports.{drop_port}

@@ -1,6 +1,6 @@
 -- Which statements, and parts of statements, a list of nodes stands for, and which nodes fit the parts of a frame and the
 -- objects of a program.
-use Rattle.std.specs.Prelude.{ℕ, ◌+◌, ◌*◌, ◌^◌, ◌<◌, ◌≤◌, List, [], ◌∷◌, length, slice_index, Option, Some, None, IfSome}
+use Rattle.std.specs.Prelude.{ℕ, ◌+◌, ◌*◌, ◌^◌, ◌<◌, ◌≤◌, List, [], ◌∷◌, length, slice_index, Option, IfSome}
 use Rattle.node_lists.specs.Trees.{tree_at, grow, AllInOrder}
 use Rattle.state_store.specs.declared.shapes.Shape.{Shape}
 use Rattle.state_store.specs.State.{IsCounterAt, IsRegisterAt, IsMeterAt}

@@ -1,9 +1,9 @@
 -- Headers that are extracted and emitted (`core.p4`, `packet_in.extract` and `packet_out.emit`; P4_16 1.2, "Data extraction",
 -- "Deparsing").
-use Rattle.std.specs.Prelude.{ℕ, zero, suc, ◌+◌, ◌*◌, ◌/◌, Bool, true, nat_lt, if◌then◌else◌, List, [], ◌++◌, length, take, drop, sum, slice_index}
+use Rattle.std.specs.Prelude.{ℕ, zero, suc, ◌+◌, ◌*◌, ◌/◌, min, Bool, true, nat_lt, if◌then◌else◌, List, [], ◌++◌, length, take, drop}
 use Rattle.p4x_bits.specs.BitLists.{num, bits, octet_bits}
 use Rattle.v1_sem.specs.declared.parser_error.ParserError.TheVariants.{PacketTooShort}
-use Rattle.v1_frames.specs.Cells.{Cells, slot_value, with_slot, header_valid, with_validity, stack_place, with_stack_place}
+use Rattle.v1_frames.specs.Cells.{Cells, slot_value, with_slot, header_valid, with_validity, stack_place, stack_size, with_stack_place}
 use Rattle.v1_ready_expressions.specs.declared.node.Which.{Which}
 use Rattle.v1_ready_expressions.specs.declared.node.Which.TheVariants.{Next, Last}
 use Rattle.v1_ready_blocks.specs.declared.places.Range.{Range}
@@ -37,14 +37,17 @@ extracted r m =
     let c = filled r.slots r.slot (octet_bits m.unparsed) (with_validity m.cells r.header true) in
     record m { cells = c; unparsed = drop (total_width m.cells r.slots r.slot / 8) m.unparsed }
 
--- an extraction of `next` moves the place of its stack by one
-abbrev pub moved : RangePlace → Moment → Moment
-moved (range_place.Fixed r) m = m
-moved (range_place.Told t) m = of t.which
+-- an extraction of `next` moves the place of its stack by one, at most to the end
+abbrev pub moved_on : RangePlace → Cells → Cells
+moved_on (range_place.Fixed r) c = c
+moved_on (range_place.Told t) c = of t.which
   where
-    of : Which → Moment
-    of Next = with_cells (with_stack_place m.cells t.stack (stack_place m.cells t.stack + 1)) m
-    of Last = m
+    of : Which → Cells
+    of Next = with_stack_place c t.stack (min (stack_place c t.stack + 1) (stack_size c t.stack))
+    of Last = c
+
+abbrev pub moved : RangePlace → Moment → Moment
+moved place m = with_cells (moved_on place m.cells) m
 
 -- `p.extract(h)`, where the header is found. Where too few bits are left nothing moves.
 abbrev pub extract : RangePlace → Range → Moment → Moment

@@ -1,7 +1,7 @@
 -- Tables: their keys, the entry that is hit, the action that runs (P4_16 1.2, "Match-action unit invocation", "Match-action
 -- unit execution semantics"; `v1model.p4`, `direct_counter`). A miss runs the default of the entries, else the table's
 -- `default_action`, else nothing.
-use Rattle.std.specs.Prelude.{ℕ, ◌%◌, ◌^◌, is_some, List, [], ◌∷◌, map, slice_index_or, Option, Some, None, option_map}
+use Rattle.std.specs.Prelude.{ℕ, is_some, List, [], ◌∷◌, map, slice_index_or, Option, Some, None, option_map}
 use Rattle.match_core.specs.declared.entries.Entry.{Entry}
 use Rattle.match_core.specs.declared.entries.DefaultCall.{DefaultCall}
 use Rattle.match_core.specs.declared.entries.TableFill.{TableFill}
