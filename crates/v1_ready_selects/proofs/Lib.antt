@@ -1,0 +1,4 @@
+mod Cutting
+mod Keys
+pub mod Matching
+mod Places
