@@ -1,0 +1,5 @@
+pub mod Keeping
+pub mod Beginning
+pub mod Deparsing
+pub mod Preserving
+pub mod Rules
