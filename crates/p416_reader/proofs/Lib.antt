@@ -1,6 +1,7 @@
 pub mod Kept
 pub mod Newest
 pub mod SeenTokens
+pub mod ReservedWords
 pub mod Choosing
 pub mod Forms
 pub mod Meaning

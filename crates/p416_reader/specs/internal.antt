@@ -8,3 +8,4 @@ pub mod Forest
 pub mod Lexemes
 pub mod Machine
 pub mod Rows
+pub mod Words

@@ -15,6 +15,7 @@ mod rows;
 mod states;
 mod symbols;
 mod token;
+mod words;
 
 pub use read::read16;
 pub use text_reading::ReadError;

@@ -1,59 +1,18 @@
 // Tokens, read where they lie in the text.
 ghost use Rattle.std.specs.Prelude.{◌≡◌, ◌<◌, length, true, not, ◌&&◌, take, drop, ◌-◌, ◌+◌, map, Some, IfOk, slice_get};
 ghost use Rattle.std.specs.Str.{bytes_eq};
-ghost use Rattle.p416_ast.specs.Tokens.{seen_word, keyword_among};
+ghost use Rattle.p416_ast.specs.Tokens.{seen_word};
 ghost use Rattle.p416_tok.specs.Lexemes.{inner};
 ghost use Rattle.p416_reader.specs.Seen.{seen16, seen_at, back, ahead, is_touched, is_bit_type, ends_bit, ends_bool, is_past_type, follows_lookahead, begins_type, is_sized, ends_type, seen_mark, seen_greater, seen_less, is_less_kind, is_greater_kind, is_dot_kind, is_paren_kind, is_bracket_kind, is_bracket_end_kind, is_number_kind, is_of_kind, is_word_with, is_bits, is_free};
 ghost use Rattle.p416_reader.specs.internal.Classes.{mark_number, word_number, note_number, include_number, known_text, is_mark, is_quoted, is_note, is_include, is_id, is_number, is_string, is_opens, is_word, text_of, literal_of};
 ghost use Rattle.p416_reader.specs.internal.Lexemes.{seen_of};
 
 use crate::symbols::Known;
+use crate::words::{is_reserved, reserved_word};
 use p4x_bits::OutOfMemory;
-use p416_lexemes::{Annotation16, Include16, Keyword16, Literal16, Mark16, is_reserved};
+use p416_lexemes::{Annotation16, Include16, Keyword16, Literal16, Mark16};
 use p416_tok::{Token16, TokenKind16};
 use std::alloc::Global;
-
-/// All reserved words.
-const KEYWORDS: [Keyword16; 38] = [
-    Keyword16::V1Switch,
-    Keyword16::Main,
-    Keyword16::Header,
-    Keyword16::Bit,
-    Keyword16::Struct,
-    Keyword16::Parser,
-    Keyword16::Control,
-    Keyword16::Apply,
-    Keyword16::Bool,
-    Keyword16::In,
-    Keyword16::Out,
-    Keyword16::InOut,
-    Keyword16::Counter,
-    Keyword16::DirectCounter,
-    Keyword16::Register,
-    Keyword16::Meter,
-    Keyword16::Action,
-    Keyword16::Table,
-    Keyword16::Key,
-    Keyword16::Actions,
-    Keyword16::NoAction,
-    Keyword16::Size,
-    Keyword16::Counters,
-    Keyword16::DefaultAction,
-    Keyword16::State,
-    Keyword16::Transition,
-    Keyword16::Select,
-    Keyword16::Accept,
-    Keyword16::Reject,
-    Keyword16::Default,
-    Keyword16::Underscore,
-    Keyword16::If,
-    Keyword16::Else,
-    Keyword16::Switch,
-    Keyword16::ActionRun,
-    Keyword16::True,
-    Keyword16::False,
-    Keyword16::Error,
-];
 
 /// A token as the grammar sees it, with its octets in the text.
 #[derive(Clone, Copy)]
@@ -63,7 +22,7 @@ pub enum TokenView<'t> {
     /// A reserved word.
     Word(Keyword16),
     /// A number.
-    Number(Literal16),
+    Number(&'t Literal16),
     /// A mark.
     Mark(Mark16),
     /// A string, by what stands between its quotes.
@@ -96,7 +55,7 @@ impl TokenView<'_> {
         ensures { result ≡ literal_of (seen_of self.now) }
     {
         match self {
-            TokenView::Number(literal) => *literal,
+            TokenView::Number(literal) => **literal,
             _ => Literal16 {
                 width: None,
                 value: 0,
@@ -336,29 +295,34 @@ pub fn token_at<'t>(views: &[TokenView<'t>], place: usize) -> TokenView<'t>
 pub fn views_of<'t>(
     alloc: Global,
     text: &'t [u8],
-    tokens: &[Token16],
+    tokens: &'t [Token16],
 ) -> Result<Vec<TokenView<'t>>, OutOfMemory>
     ensures { IfOk result (λ views. map seen_of views.items ≡ seen16 text.now tokens.now) }
 {
-    let mut views = Vec::new(alloc);
+    let mut views = Vec::with_capacity(alloc, tokens.len())?;
     for place in 0..tokens.len() {
-        views.push(view_of(text, tokens, place, tokens[place]))?;
+        views.push(view_of(text, tokens, place, &tokens[place]))?;
     }
     Ok(views)
 }
 
 /// The token that stands at this place, where it lies in the text.
-fn view_of<'t>(text: &'t [u8], tokens: &[Token16], place: usize, token: Token16) -> TokenView<'t>
+fn view_of<'t>(
+    text: &'t [u8],
+    tokens: &'t [Token16],
+    place: usize,
+    token: &'t Token16,
+) -> TokenView<'t>
     requires { place < length tokens.now }
-    ensures { seen_of result ≡ seen_at text.now tokens.now place token }
+    ensures { seen_of result ≡ seen_at text.now tokens.now place token.now }
 {
-    match token.kind {
+    match &token.kind {
         TokenKind16::Name => word_of(octets_of(text, token.from, token.to)),
         TokenKind16::Number(literal) => TokenView::Number(literal),
-        TokenKind16::Mark(mark) => mark_of(text, tokens, place, token, mark),
+        TokenKind16::Mark(mark) => mark_of(text, tokens, place, token, *mark),
         TokenKind16::Quoted => TokenView::String(inner(octets_of(text, token.from, token.to))),
-        TokenKind16::At(annotation) => TokenView::At(annotation),
-        TokenKind16::Include(line) => TokenView::Include(line),
+        TokenKind16::At(annotation) => TokenView::At(*annotation),
+        TokenKind16::Include(line) => TokenView::Include(*line),
     }
 }
 
@@ -366,22 +330,10 @@ fn view_of<'t>(text: &'t [u8], tokens: &[Token16], place: usize, token: Token16)
 fn word_of(octets: &[u8]) -> TokenView<'_>
     ensures { seen_of result ≡ seen_word octets.now }
 {
-    match keyword_among(octets, &KEYWORDS) {
+    match reserved_word(octets) {
         Some(word) => TokenView::Word(word),
         None => TokenView::Name(octets),
     }
-}
-
-/// The first of these words with this text.
-fn keyword_among(text: &[u8], words: &[Keyword16]) -> Option<Keyword16>
-    ensures { result ≡ keyword_among text.now words.now }
-{
-    for word in words {
-        if text == word.text() {
-            return Some(*word);
-        }
-    }
-    None
 }
 
 /// A mark among its neighbours.
@@ -389,11 +341,11 @@ fn mark_of<'t>(
     text: &'t [u8],
     tokens: &[Token16],
     place: usize,
-    token: Token16,
+    token: &Token16,
     mark: Mark16,
 ) -> TokenView<'t>
     requires { place < length tokens.now }
-    ensures { seen_of result ≡ seen_mark text.now tokens.now place token mark }
+    ensures { seen_of result ≡ seen_mark text.now tokens.now place token.now mark }
 {
     match mark {
         Mark16::Greater => greater_of(text, tokens, place, token),
@@ -403,9 +355,14 @@ fn mark_of<'t>(
 }
 
 /// A `>` among its neighbours.
-fn greater_of<'t>(text: &'t [u8], tokens: &[Token16], place: usize, token: Token16) -> TokenView<'t>
+fn greater_of<'t>(
+    text: &'t [u8],
+    tokens: &[Token16],
+    place: usize,
+    token: &Token16,
+) -> TokenView<'t>
     requires { place < length tokens.now }
-    ensures { seen_of result ≡ seen_greater (is_touched token (ahead tokens.now place 1) && not (is_past_type text.now tokens.now place)) }
+    ensures { seen_of result ≡ seen_greater (is_touched token.now (ahead tokens.now place 1) && not (is_past_type text.now tokens.now place)) }
 {
     if is_touched(token, ahead(tokens, place, 1)) && !is_past_type(text, tokens, place) {
         TokenView::Joined
@@ -562,8 +519,8 @@ fn is_free(text: &[u8], token: Option<Token16>) -> bool
 }
 
 /// Whether a `>` behind this token touches it.
-fn is_touched(token: Token16, next: Option<Token16>) -> bool
-    ensures { result ≡ is_touched token next }
+fn is_touched(token: &Token16, next: Option<Token16>) -> bool
+    ensures { result ≡ is_touched token.now next }
 {
     match next {
         Some(next) => {

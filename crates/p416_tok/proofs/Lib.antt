@@ -4,3 +4,4 @@ pub mod Between
 pub mod Broken
 pub mod Laws
 pub mod Spelt
+pub mod Beginnings

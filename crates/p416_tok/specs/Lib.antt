@@ -7,3 +7,4 @@ pub mod Trivia
 pub mod Refusals
 pub mod Lexemes
 pub mod Front
+pub mod Beginnings

@@ -6,50 +6,12 @@ ghost use Rattle.p416_tok.specs.Front as front;
 
 use crate::TokenKind16;
 use crate::lines::include_line;
+use crate::marks::mark_of;
 use crate::numbers::number;
 use crate::words::{annotation_name, quoted};
 use p4x_fault::Rule;
-use p416_lexemes::Mark16;
 use token_division::octets::{is_blank, is_decimal, is_letter, word_size};
-use token_division::{Piece, What, comment_size, mark_at};
-
-/// The marks, the longest first.
-const MARKS: [Mark16; 34] = [
-    Mark16::SaturatingPlus,
-    Mark16::SaturatingMinus,
-    Mark16::Mask,
-    Mark16::DotDot,
-    Mark16::LessEqual,
-    Mark16::GreaterEqual,
-    Mark16::Equal,
-    Mark16::NotEqual,
-    Mark16::ShiftLeft,
-    Mark16::PlusPlus,
-    Mark16::AndAnd,
-    Mark16::OrOr,
-    Mark16::BraceOpen,
-    Mark16::BraceClose,
-    Mark16::ParenOpen,
-    Mark16::ParenClose,
-    Mark16::BracketOpen,
-    Mark16::BracketClose,
-    Mark16::Semicolon,
-    Mark16::Colon,
-    Mark16::Comma,
-    Mark16::Dot,
-    Mark16::Assign,
-    Mark16::Less,
-    Mark16::Greater,
-    Mark16::Plus,
-    Mark16::Minus,
-    Mark16::Star,
-    Mark16::Ampersand,
-    Mark16::Bar,
-    Mark16::Caret,
-    Mark16::Tilde,
-    Mark16::Bang,
-    Mark16::Question,
-];
+use token_division::{Piece, What, comment_size};
 
 /// What may begin with an octet.
 #[derive(Clone, Copy)]
@@ -132,7 +94,7 @@ fn mark(text: &[u8]) -> Result<Piece<TokenKind16>, Rule>
     ensures is { result ≡ front.mark text.now }
     ensures within { IfOk result (λ piece. (0 < piece.size) × (piece.size ≤ length text.now)) }
 {
-    let mark = mark_at(&MARKS, text).ok_or(Rule::L(1))?;
+    let mark = mark_of(text).ok_or(Rule::L(1))?;
     let what = What::Token(TokenKind16::Mark(mark));
     let size = mark.text().len();
     Ok(Piece { what, size })

@@ -6,6 +6,7 @@ mod front;
 mod kind;
 mod lexicon;
 mod lines;
+mod marks;
 mod numbers;
 mod words;
 

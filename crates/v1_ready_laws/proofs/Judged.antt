@@ -34,7 +34,7 @@ use Rattle.v1_ready_laws.proofs.Accepted.{accepted_narrow}
 use Rattle.v1_ready_laws.proofs.Programs.{program_gives}
 
 -- something holds where there is one
-abbrev If : Option Ready → Type 0 → Type 0
+abbrev pub If : Option Ready → Type 0 → Type 0
 If o A = IfSome o (λ r. A)
 
 always : (o : Option Ready) → If o (Unit {0})
@@ -115,7 +115,7 @@ methods_none s items e way ask h = tt
 methods_none s nothing e way ask h = tt
 methods_none s unknown e way ask h = tt
 
-applies_none : (s : Scope) (seats : List NamedSeat) (p : Place) (way : Way) (e : Exp16) → If (asked_ready s seats p way e) (AppliesNone s e)
+pub applies_none : (s : Scope) (seats : List NamedSeat) (p : Place) (way : Way) (e : Exp16) → If (asked_ready s seats p way e) (AppliesNone s e)
 applies_none s seats p way (literal n) = always (asked_ready s seats p way (literal n))
 applies_none s seats p way (truth holds) = always (asked_ready s seats p way (truth holds))
 applies_none s seats p way error = always (asked_ready s seats p way error)
@@ -162,7 +162,7 @@ applies_none s seats p way (choice d a b) =
 
 -- the law, from the rules
 
-where_some : (A : Type 0) (P : Ready → Type 0) (o : Option Ready) → If o A → (A → IfSome o P) → IfSome o P
+pub where_some : (A : Type 0) (P : Ready → Type 0) (o : Option Ready) → If o A → (A → IfSome o P) → IfSome o P
 where_some A P None h f = tt
 where_some A P (Some r) h f = f h
 

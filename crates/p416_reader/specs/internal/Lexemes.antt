@@ -6,7 +6,7 @@ use Rattle.p416_reader.specs.declared.token.TokenView.TheVariants as view
 abbrev pub seen_of : TokenView → Seen16
 seen_of (view.Name octets) = id octets.now
 seen_of (view.Word word) = quoted word
-seen_of (view.Number n) = number n
+seen_of (view.Number n) = number n.now
 seen_of (view.Mark m) = mark m
 seen_of (view.String octets) = string octets.now
 seen_of (view.At a) = annotation a

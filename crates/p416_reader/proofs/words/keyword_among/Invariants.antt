@@ -1,6 +1,6 @@
 use Rattle.std.proofs.Common.{◌≡◌, drop}
 use Rattle.p416_ast.specs.Tokens.{keyword_among}
-use Rattle.p416_reader.proofs.token.keyword_among.Given as goal
+use Rattle.p416_reader.proofs.words.keyword_among.Given as goal
 
 abbrev pub invariant-loop-word : goal.invariant-loop-word
 invariant-loop-word l = keyword_among l.text (drop l.word-index l.words) ≡ keyword_among l.text l.words
