@@ -1,5 +1,5 @@
 -- What a program that keeps the rules keeps in each of its blocks.
-use Rattle.std.proofs.Common.{◌≡◌, inl, inr, ◌||◌, not, IsTrue, Bool, true, false, List, [], ◌∷◌, ◌++◌, flat_map, refl, ap, ◌∙◌, subst}
+use Rattle.std.proofs.Common.{◌≡◌, inl, inr, ◌||◌, not, IsTrue, Bool, true, false, List, [], ◌∷◌, flat_map, refl, ap, ◌∙◌, subst}
 use Rattle.std.specs.List.{list_any}
 use Rattle.std.proofs.lemmas.List.Folds.{list_any-append}
 use Rattle.p416_ast.specs.declared.program.Decl16.{Decl16}

@@ -1,18 +1,16 @@
 -- The names of a block and its variables.
-use Rattle.std.proofs.Common.{◌≡◌, ℕ, suc, ◌+◌, ◌||◌, Bool, true, false, cond, Option, Some, None, List, [], ◌∷◌, ◌++◌, length, map, flat_map, filter_map, refl, sym, ap, ◌∙◌, subst, arith, append_assoc}
+use Rattle.std.proofs.Common.{◌≡◌, ℕ, ◌+◌, Bool, true, false, cond, Some, List, [], ◌∷◌, ◌++◌, length, map, flat_map, filter_map, refl, sym, ap, ◌∙◌, subst, arith, append_assoc, length-append}
 use Rattle.std.proofs.lemmas.List.{length-map}
 use Rattle.std.specs.List.{list_any}
 use Rattle.std.specs.Str.{bytes_eq}
 use Rattle.std.proofs.lemmas.Slice.Eq.{bytes_eq-Decides}
 use Rattle.p416_ast.specs.declared.parts.Type16.{Type16}
-use Rattle.p416_ast.specs.declared.parts.Param.{Param}
 use Rattle.p416_ast.specs.declared.parsers.State.{State}
 use Rattle.p416_ast.specs.declared.parsers.Parser16.{Parser16}
 use Rattle.p416_ast.specs.declared.controls.Action16.{Action16}
 use Rattle.p416_ast.specs.declared.controls.Local.{Local}
 use Rattle.p416_ast.specs.declared.controls.Local.TheVariants as local
 use Rattle.p416_ast.specs.declared.controls.Control16.{Control16}
-use Rattle.p416_ast.specs.declared.program.Decl16.{Decl16}
 use Rattle.p416_ast.specs.declared.program.Decl16.TheVariants as decl
 use Rattle.p416_ast.specs.declared.program.Syntax16.{Syntax16}
 use Rattle.p416_rules.specs.Names.{Name}
@@ -22,7 +20,7 @@ use Rattle.p416_rules.specs.Uses.{Use, names_of_scope, some_counters, of_block_p
 use Rattle.p416_rules.specs.Unknown.{is_misnamed, is_type_sort}
 use Rattle.p416_rules.specs.Statements.{with_variable}
 use Rattle.p416_rules.specs.Declarations.{top_names, known_var, known_state, known_local, parser_names, control_names, parameter_uses, var_uses, state_uses, body_uses, local_uses, parser_uses, control_uses, action_scope, action_in, tables_in, counters_in}
-use Rattle.p416_rules.specs.Breaks.{scope_of, uses_in, program_uses, program_rules, BreaksNone}
+use Rattle.p416_rules.specs.Breaks.{scope_of, program_rules, BreaksNone}
 use Rattle.v1_sem.specs.declared.block.Block.{Block}
 use Rattle.v1_sem.specs.Slots.{variable_kinds, var_kind, parameter_kind, kinds_in, state_kinds, local_kinds, kinds_of}
 use Rattle.v1_sem.specs.Surroundings.{Root, action_called}
@@ -32,15 +30,17 @@ use Rattle.v1_sem.specs.Blocks.{control_at}
 use Rattle.v1_ready_forms.specs.Named.{seats_in}
 use Rattle.v1_ready_laws.specs.Rules.{NamesSeated}
 use Rattle.v1_ready_laws.proofs.Seated.{inside_seated}
-use Rattle.v1_block_laws.specs.Variables.{variable, parameters_from, is_action, action_from, state_from, is_parser, is_control, count_before, scope_in_parser, scope_in_control, parser_from, control_from, states_from, body_from, own_names, parser_variables, control_variables, control_roots, parser_seats, control_seats, action_in_control, action_names}
+use Rattle.v1_block_laws.specs.Variables.{variable, parameters_from, action_from, state_from, is_parser, is_control, scope_in_parser, scope_in_control, parser_from, control_from, states_from, body_from, own_names, parser_variables, control_variables, control_roots, parser_seats, control_seats, action_in_control, action_names}
 use Rattle.v1_block_laws.specs.Standing.{AreOfKinds}
+use Rattle.v1_block_laws.specs.Apart.{AreOutside, AreInBody}
 use Rattle.v1_block_laws.specs.Keeping.{ParserKeeps, ControlKeeps}
-use Rattle.v1_block_laws.proofs.Tests.{first_false, second_false, in_front, at_end, none_joined, none_mapped}
+use Rattle.v1_block_laws.proofs.Tests.{in_front, at_end, none_joined, none_mapped}
 use Rattle.v1_block_laws.proofs.Standing.{apart}
+use Rattle.v1_block_laws.proofs.Apart.{vars_apart, parameters_apart, locals_apart, action_outside, state_above, wholly_in_front}
 use Rattle.v1_block_laws.proofs.Finding.{Found, parser_found, control_found, found_stands}
 use Rattle.v1_block_laws.proofs.Accepted.{names_kept, main_kept, none_within, kept_within}
 use Rattle.v1_block_laws.proofs.Keeping.{parser_keeps, control_keeps}
-use Rattle.v1_block_laws.proofs.Naming.{Seated, top_seated, states_seated, is_variable, are_variables, AtTop, var_at_top, vars_seated, local_no_type, locals_seated}
+use Rattle.v1_block_laws.proofs.Naming.{Seated, top_seated, states_seated, is_variable, are_variables, var_at_top, vars_seated, local_no_type, locals_seated}
 use Rattle.v1_block_laws.proofs.Shapes.{parser_roots_seated, control_roots_seated}
 
 abbrev is_type : Known → Bool
@@ -134,6 +134,54 @@ action_stands syntax block c text a found called =
     let long : length (map (parameter_kind t) a.parameters) ≡ length a.parameters = length-map a.parameters (parameter_kind t) in
     subst (λ (n : ℕ). AreOfKinds (variable_kinds syntax) (action_in_control syntax c a.name + n) (kinds_in (action_scope t a) a.body)) long
     (apart (variable_kinds syntax) (action_in_control syntax c a.name) (map (parameter_kind t) a.parameters) (kinds_in (action_scope t a) a.body) (action_whole syntax block c text a found called)).1
+
+-- places of their own
+
+pub state_apart : (syntax : Syntax16) (p : Parser16) (text : Name) (x : State) → parser_of syntax ≡ Some p → state_called p.states text ≡ Some x → AreInBody (length (variable_kinds syntax)) (state_from (scope_in_parser syntax p) (states_from syntax p) p.states text) (state_from (scope_in_parser syntax p) (states_from syntax p) p.states text + length (kinds_in (scope_in_parser syntax p) x.body)) (state_from (scope_in_parser syntax p) (states_from syntax p) p.states text) (own_names (parser_variables syntax p))
+state_apart syntax p text x found called =
+    let t = scope_in_parser syntax p in
+    let from : ℕ = state_from t (states_from syntax p) p.states text in
+    let both = vars_apart (variable_kinds syntax) t (parser_from syntax p) p.vars (apart (variable_kinds syntax) (parser_from syntax p) (map (var_kind t) p.vars) (flat_map (state_kinds t) p.states) (parser_stands syntax p found)).0 in
+    record {
+      begun = omega arith;
+      left = omega arith;
+      variables = both.0;
+      outside = wholly_in_front (parser_from syntax p) (states_from syntax p) from (from + length (kinds_in t x.body)) (parser_variables syntax p) both.1 (state_above t (states_from syntax p) p.states text);
+      inner = tt;
+      between = tt;
+    }
+
+pub body_apart : (syntax : Syntax16) (block : Block) (c : Control16) → control_at syntax block ≡ Some c → AreInBody (length (variable_kinds syntax)) (body_from syntax c) (body_from syntax c + length (kinds_in (scope_in_control syntax c) c.body)) (body_from syntax c) (own_names (control_variables syntax c))
+body_apart syntax block c found =
+    let t = scope_in_control syntax c in
+    let both = locals_apart (variable_kinds syntax) t (control_from syntax c) c.locals (locals_stand syntax block c found) in
+    record {
+      begun = omega arith;
+      left = omega arith;
+      variables = both.0;
+      outside = wholly_in_front (control_from syntax c) (body_from syntax c) (body_from syntax c) (body_from syntax c + length (kinds_in t c.body)) (control_variables syntax c) both.1 (omega arith);
+      inner = tt;
+      between = tt;
+    }
+
+pub action_apart : (syntax : Syntax16) (block : Block) (c : Control16) (text : Name) (a : Action16) → control_at syntax block ≡ Some c → action_called (filter_map action_in c.locals) text ≡ Some a → AreInBody (length (variable_kinds syntax)) (action_in_control syntax c a.name) (action_in_control syntax c a.name + length (local_kinds (scope_in_control syntax c) (local.Action a))) (action_in_control syntax c a.name + length a.parameters) (action_names syntax c a)
+action_apart syntax block c text a found called =
+    let t = scope_in_control syntax c in
+    let from : ℕ = action_in_control syntax c a.name in
+    let whole = locals_apart (variable_kinds syntax) t (control_from syntax c) c.locals (locals_stand syntax block c found) in
+    let named : a.name ≡ text = (action_stands_in (variable_kinds syntax) t (control_from syntax c) c.locals text a (locals_stand syntax block c found) called).1 in
+    let own = parameters_apart (variable_kinds syntax) t from a.parameters (apart (variable_kinds syntax) from (map (parameter_kind t) a.parameters) (kinds_in (action_scope t a) a.body) (action_whole syntax block c text a found called)).0 in
+    let long : length (map (parameter_kind t) a.parameters) ≡ length a.parameters = length-map a.parameters (parameter_kind t) in
+    let all : length (local_kinds t (local.Action a)) ≡ length (map (parameter_kind t) a.parameters) + length (kinds_in (action_scope t a) a.body) = length-append (map (parameter_kind t) a.parameters) (kinds_in (action_scope t a) a.body) in
+    record {
+      begun = omega arith;
+      left = omega (arith, long, all);
+      variables = whole.0;
+      outside = subst (λ (called_so : Name). AreOutside (action_in_control syntax c called_so) (action_in_control syntax c called_so + length (local_kinds t (local.Action a))) (control_variables syntax c)) (sym named)
+          (action_outside (variable_kinds syntax) t (control_from syntax c) c.locals text a (locals_stand syntax block c found) called);
+      inner = own.0;
+      between = own.1;
+    }
 
 -- names
 

@@ -1,5 +1,5 @@
 -- The declaration of a block among all, and what is declared in front of it.
-use Rattle.std.proofs.Common.{◌≡◌, ℕ, ◌+◌, Bool, true, false, cond, Option, Some, None, List, [], ◌∷◌, ◌++◌, length, flat_map, refl, sym, ap, ◌∙◌, subst, arith, length-append}
+use Rattle.std.proofs.Common.{◌≡◌, ℕ, ◌+◌, Bool, true, false, cond, Some, List, [], ◌∷◌, ◌++◌, length, flat_map, refl, sym, ap, ◌∙◌, subst, length-append}
 use Rattle.std.specs.Str.{bytes_eq}
 use Rattle.std.proofs.lemmas.Grind.{flat_map-append}
 use Rattle.std.proofs.lemmas.Slice.Eq.{bytes_eq-Decides}
@@ -11,7 +11,7 @@ use Rattle.p416_ast.specs.declared.program.Syntax16.{Syntax16}
 use Rattle.p416_rules.specs.Names.{Name}
 use Rattle.p416_rules.specs.Kinds.{Kind}
 use Rattle.v1_sem.specs.Slots.{kinds_of, variable_kinds}
-use Rattle.v1_sem.specs.Parsing.{parser_called, parser_of}
+use Rattle.v1_sem.specs.Parsing.{parser_called}
 use Rattle.v1_sem.specs.Blocks.{control_called}
 use Rattle.v1_block_laws.specs.Variables.{is_parser, is_control, count_before}
 use Rattle.v1_block_laws.specs.Standing.{AreOfKinds}

@@ -1,16 +1,14 @@
 -- What is judged in a block is what it evaluates.
-use Rattle.std.proofs.Common.{◌≡◌, ℕ, suc, ◌+◌, Option, Some, None, IfSome, List, [], ◌∷◌, ◌++◌, length, map, flat_map, get_or, refl, sym, ap, ◌∙◌, subst, arith, length-append}
+use Rattle.std.proofs.Common.{ℕ, ◌+◌, Option, Some, None, IfSome, List, [], ◌∷◌, ◌++◌, map, flat_map, subst}
 use Rattle.std.specs.Option.{option_map_or}
 use Rattle.std.specs.Prelude.{option_to_list}
 use Rattle.std.proofs.lemmas.Grind.{flat_map-append}
-use Rattle.p416_ast.specs.declared.node.CaseLabel.{CaseLabel}
 use Rattle.p416_ast.specs.declared.parsers.Var.{Var}
 use Rattle.p416_ast.specs.declared.parsers.State.{State}
 use Rattle.p416_ast.specs.declared.parsers.Transition.{Transition}
 use Rattle.p416_ast.specs.declared.parsers.Transition.TheVariants as transition
 use Rattle.p416_ast.specs.declared.parsers.Parser16.{Parser16}
 use Rattle.p416_ast.specs.declared.controls.TableKey.{TableKey}
-use Rattle.p416_ast.specs.declared.controls.Table16.{Table16}
 use Rattle.p416_ast.specs.declared.controls.Local.{Local}
 use Rattle.p416_ast.specs.declared.controls.Local.TheVariants as local
 use Rattle.p416_ast.specs.declared.controls.Control16.{Control16}
@@ -20,9 +18,9 @@ use Rattle.p416_rules.specs.Kinds.{boolean}
 use Rattle.p416_rules.specs.Scopes.{Scope, in_key, kind_of_type}
 use Rattle.p416_rules.specs.Calls.{value, target, statement, select_key, table_key}
 use Rattle.p416_rules.specs.Expressions.{kind_of}
-use Rattle.p416_rules.specs.Uses.{Use, a_name, some_direct_counter, a_number, a_table_of, of_variable, of_action_parameter, of_block_parameter, type_uses, uses, names_of_scope, some_parameters, some_counters}
+use Rattle.p416_rules.specs.Uses.{Use, a_name, some_direct_counter, a_number, a_table_of, of_variable, of_action_parameter, of_block_parameter, type_uses, uses, names_of_scope, some_parameters}
 use Rattle.p416_rules.specs.Statements.{Visit, visit, visits, behind, assigned_place, own_uses, visit_uses, statement_uses}
-use Rattle.p416_rules.specs.Declarations.{note_uses, var_uses, parameter_name, parameter_uses, body_uses, case_uses, transition_uses, state_uses, parser_scope, parser_uses, action_scope, action_uses, is_exact, key_uses, action_name_uses, defaults_of, table_uses, control_scope, local_uses, control_uses}
+use Rattle.p416_rules.specs.Declarations.{note_uses, var_uses, parameter_name, parameter_uses, body_uses, case_uses, transition_uses, state_uses, parser_scope, parser_uses, action_scope, is_exact, key_uses, action_name_uses, defaults_of, control_scope, local_uses, control_uses}
 use Rattle.v1_ready_laws.specs.Rules.{KeepsAll}
 use Rattle.v1_block_laws.specs.Keeping.{Each, StatementKeeps, VarKeeps, TransitionKeeps, StateKeeps, ParserKeeps, KeyKeeps, LocalKeeps, ControlKeeps}
 use Rattle.v1_block_laws.proofs.Tests.{in_front, at_end}

@@ -1,5 +1,6 @@
 pub mod Tests
 pub mod Standing
+pub mod Apart
 pub mod Finding
 pub mod Accepted
 pub mod Keeping

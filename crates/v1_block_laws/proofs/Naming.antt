@@ -1,5 +1,5 @@
 -- Names that are declared as what stands at their seats, one behind another.
-use Rattle.std.proofs.Common.{◌≡◌, ℕ, suc, ◌+◌, not, ◌||◌, Bool, true, false, cond, Option, Some, None, List, [], ◌∷◌, ◌++◌, length, map, flat_map, refl, sym, ap, ◌∙◌, subst, arith}
+use Rattle.std.proofs.Common.{◌≡◌, ℕ, suc, ◌+◌, not, Bool, true, false, cond, Option, Some, None, List, [], ◌∷◌, ◌++◌, length, map, flat_map, refl, sym, ap, ◌∙◌, subst}
 use Rattle.std.specs.List.{list_any, AllZip}
 use Rattle.std.specs.Str.{bytes_eq}
 use Rattle.std.proofs.lemmas.List.{map-append}
@@ -19,7 +19,7 @@ use Rattle.p416_rules.specs.Names.{Name}
 use Rattle.p416_rules.specs.Kinds.{Kind}
 use Rattle.p416_rules.specs.Scopes.{Sort, a_type, a_value, an_enumeration, a_function, an_object, an_action, a_table, a_state, a_block, undeclared, Known, known, Scope, sort_in, type_sort, stack_kind, kind_of_type, is_written, known_parameter}
 use Rattle.p416_rules.specs.BuiltIn.{built_in}
-use Rattle.p416_rules.specs.Uses.{Use, a_type as a_type_use, of_variable, type_numbers}
+use Rattle.p416_rules.specs.Uses.{a_type as a_type_use, of_variable, type_numbers}
 use Rattle.p416_rules.specs.Unknown.{is_value_sort, is_type_sort, is_unknown_type, is_misnamed}
 use Rattle.p416_rules.specs.Declarations.{instance_sort, top_name, top_names, known_var, known_state, var_uses, known_local, local_uses}
 use Rattle.v1_sem.specs.Slots.{variable_kinds, var_kind, parameter_kind, local_kinds}
@@ -31,7 +31,7 @@ use Rattle.v1_ready_laws.proofs.Seated.{one_more}
 use Rattle.v1_block_laws.specs.Variables.{variable, vars_from, parameters_from, own_variables, locals_from}
 use Rattle.v1_block_laws.specs.Standing.{IsOfKind, AreOfKinds}
 use Rattle.v1_block_laws.proofs.Standing.{apart}
-use Rattle.v1_block_laws.proofs.Tests.{first_false, second_false, not_false, in_front, at_end, none_joined, none_mapped}
+use Rattle.v1_block_laws.proofs.Tests.{first_false, second_false, not_false, in_front, at_end, none_mapped}
 
 abbrev pub Seated : List Known → List NamedSeat → Type 0
 Seated names seats = (text : Name) → SortSeated (sort_in names text) (seat_of_name seats text)

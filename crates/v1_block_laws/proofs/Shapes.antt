@@ -16,10 +16,10 @@ use Rattle.p416_rules.specs.Kinds.{Kind, bits, unsized, boolean, error_code, hea
 use Rattle.p416_rules.specs.Scopes.{a_value, Layout as TypeLayout, FieldKind, Known, kind_of_type, is_written, known_parameter, sort_in}
 use Rattle.p416_rules.specs.BuiltIn.{standard, standard_name}
 use Rattle.p416_rules.specs.Declarations.{parameter_name, top_names, layouts_of}
-use Rattle.p416_rules.specs.Main.{a_parser, a_control, Shape, shape, parameter_shape, BlockShape, block_in, or_else, block_of, is_same_direction, is_same_parameter_kind, is_same_shape, are_same_shapes, is_block, a_control_of, checksum_block, pipeline_block, wanted_blocks, are_blocks, is_header_field, is_metadata_field, is_struct_where, are_headers, is_metadata, headers_kind, metadata_kind, is_main}
+use Rattle.p416_rules.specs.Main.{a_parser, Shape, shape, parameter_shape, BlockShape, or_else, block_of, is_same_direction, is_same_parameter_kind, is_same_shape, are_same_shapes, is_block, a_control_of, checksum_block, pipeline_block, wanted_blocks, are_blocks, is_header_field, is_metadata_field, is_struct_where, are_headers, is_metadata, headers_kind, metadata_kind, is_main}
 use Rattle.v1_sem.specs.declared.block.Block.{Block}
 use Rattle.v1_sem.specs.declared.block.Block.TheVariants.{Verify, Ingress, Egress, Compute, Deparse}
-use Rattle.v1_sem.specs.Frames.{Owner, of_headers, of_metadata, of_standard, of_nothing}
+use Rattle.v1_sem.specs.Frames.{Owner, of_headers, of_metadata, of_standard}
 use Rattle.v1_sem.specs.Surroundings.{rooted}
 use Rattle.v1_sem.specs.Parsing.{parser_called, parser_of, parser_owners}
 use Rattle.v1_sem.specs.Blocks.{control_called, control_at, owners_of, position_of}

@@ -1,10 +1,11 @@
 -- That the names of a block are declared as what stands at their seats, that its variables are of the kinds that it declares,
 -- and that what is evaluated in it keeps the rules on types and sizes.
-use Rattle.std.specs.Prelude.{◌≡◌, ℕ, ◌+◌, List, [], ◌∷◌, ◌++◌, length, filter_map, Some}
+use Rattle.std.specs.Prelude.{◌≡◌, ℕ, suc, ◌+◌, ◌<◌, List, [], ◌∷◌, ◌++◌, length, filter_map, Some}
 use Rattle.p416_ast.specs.declared.parts.Type16.{Type16}
 use Rattle.p416_ast.specs.declared.parsers.State.{State}
 use Rattle.p416_ast.specs.declared.parsers.Parser16.{Parser16}
 use Rattle.p416_ast.specs.declared.controls.Action16.{Action16}
+use Rattle.p416_ast.specs.declared.controls.Local.TheVariants as local
 use Rattle.p416_ast.specs.declared.controls.Control16.{Control16}
 use Rattle.p416_ast.specs.declared.program.Syntax16.{Syntax16}
 use Rattle.p416_ast.specs.Tree.{Exp16, call, member}
@@ -18,15 +19,17 @@ use Rattle.p416_rules.specs.Statements.{with_variable}
 use Rattle.p416_rules.specs.Declarations.{action_scope, action_in}
 use Rattle.p416_rules.specs.Breaks.{BreaksNone, program_rules}
 use Rattle.v1_sem.specs.declared.block.Block.{Block}
-use Rattle.v1_sem.specs.Slots.{variable_kinds, parameter_kind, kinds_in}
+use Rattle.v1_sem.specs.Slots.{variable_kinds, kinds_in, local_kinds}
 use Rattle.v1_sem.specs.Surroundings.{Root, action_called}
 use Rattle.v1_sem.specs.Numbered.{InScope, declared_at}
 use Rattle.v1_sem.specs.Parsing.{parser_of, state_called}
 use Rattle.v1_sem.specs.Blocks.{control_at}
+use Rattle.v1_frame_values.specs.Scopes.{IsScope}
 use Rattle.v1_ready_forms.specs.Named.{seats_in}
 use Rattle.v1_ready_laws.specs.Rules.{Keeps, NamesSeated}
-use Rattle.v1_block_laws.specs.Variables.{scope_in_parser, scope_in_control, parser_seats, control_seats, control_roots, action_names, action_in_control, state_from, states_from, body_from}
+use Rattle.v1_block_laws.specs.Variables.{scope_in_parser, scope_in_control, parser_seats, control_seats, control_roots, action_names, action_in_control, state_from, states_from, body_from, own_names, parser_variables, control_variables}
 use Rattle.v1_block_laws.specs.Standing.{AreOfKinds}
+use Rattle.v1_block_laws.specs.Apart.{AreInBody}
 use Rattle.v1_block_laws.specs.Keeping.{ParserKeeps, ControlKeeps, ArgumentsKeep}
 
 -- names
@@ -82,6 +85,46 @@ abbrev pub KindsStandApart : Type 0
 KindsStandApart =
     (all : List Kind) (n : ℕ) (front back : List Kind) → AreOfKinds all n (front ++ back) →
     AreOfKinds all n front × AreOfKinds all (n + length front) back
+
+-- places of their own
+
+-- where statements begin to run, none of their variables is declared
+
+abbrev pub StateApart : Type 0
+StateApart =
+    (syntax : Syntax16) (p : Parser16) (text : Name) (x : State) → parser_of syntax ≡ Some p →
+    state_called p.states text ≡ Some x →
+    let from = state_from (scope_in_parser syntax p) (states_from syntax p) p.states text in
+    AreInBody (length (variable_kinds syntax)) from (from + length (kinds_in (scope_in_parser syntax p) x.body)) from
+    (own_names (parser_variables syntax p))
+
+abbrev pub BodyApart : Type 0
+BodyApart =
+    (syntax : Syntax16) (block : Block) (c : Control16) → control_at syntax block ≡ Some c →
+    AreInBody (length (variable_kinds syntax)) (body_from syntax c)
+    (body_from syntax c + length (kinds_in (scope_in_control syntax c) c.body)) (body_from syntax c)
+    (own_names (control_variables syntax c))
+
+-- in an action its parameters are
+abbrev pub ActionApart : Type 0
+ActionApart =
+    (syntax : Syntax16) (block : Block) (c : Control16) (text : Name) (a : Action16) → control_at syntax block ≡ Some c →
+    action_called (filter_map action_in c.locals) text ≡ Some a →
+    let from = action_in_control syntax c a.name in
+    AreInBody (length (variable_kinds syntax)) from
+    (from + length (local_kinds (scope_in_control syntax c) (local.Action a))) (from + length a.parameters)
+    (action_names syntax c a)
+
+-- a variable takes the next number
+abbrev pub DeclaredApart : Type 0
+DeclaredApart =
+    (count from to next : ℕ) (called : Name) (who : InScope) → next < to → next < count →
+    AreInBody count from to next who → AreInBody count from to (suc next) (declared_at called next who)
+
+-- so who is in scope has places apart
+abbrev pub BodyScope : Type 0
+BodyScope =
+    (count from to next : ℕ) (who : InScope) → AreInBody count from to next who → IsScope count who
 
 -- what is evaluated
 

@@ -2,7 +2,7 @@
 //! the rules on types and sizes. It has definitions and laws; each law is the contract of a function that does nothing.
 #![tactic(auto)]
 
-ghost use Rattle.v1_block_laws.specs.Laws.{ParserSeated, ControlSeated, ActionSeated, VariableSeated, StateStands, BodyStands, ActionStands, KindsStandApart, ParserKept, ControlKept, CallKept, OwnerKept};
+ghost use Rattle.v1_block_laws.specs.Laws.{ParserSeated, ControlSeated, ActionSeated, VariableSeated, StateStands, BodyStands, ActionStands, KindsStandApart, StateApart, BodyApart, ActionApart, DeclaredApart, BodyScope, ParserKept, ControlKept, CallKept, OwnerKept};
 
 /// In a program that keeps the rules the names in the scope of its parser are declared as what stands at their seats.
 pub fn names_of_the_parser_are_seated()
@@ -42,6 +42,31 @@ pub fn variables_of_actions_are_of_their_kinds()
 /// Variables one behind another are those in front, and those behind.
 pub fn variables_stand_one_behind_another()
     ensures { KindsStandApart }
+{}
+
+/// The variables of the statements of a state have numbers apart from those of its parser.
+pub fn variables_of_states_stand_apart()
+    ensures { StateApart }
+{}
+
+/// Those of the statements of a control have numbers apart from its own.
+pub fn variables_of_controls_stand_apart()
+    ensures { BodyApart }
+{}
+
+/// Those of an action, with its parameters, have numbers apart from those of its control.
+pub fn variables_of_actions_stand_apart()
+    ensures { ActionApart }
+{}
+
+/// A variable that is declared has the next number, and stands apart from the others.
+pub fn declared_variables_stand_apart()
+    ensures { DeclaredApart }
+{}
+
+/// Variables that stand apart can be in scope together.
+pub fn variables_apart_can_be_in_scope()
+    ensures { BodyScope }
 {}
 
 /// In a program that keeps the rules all that its parser evaluates keeps the rules on types and sizes.
