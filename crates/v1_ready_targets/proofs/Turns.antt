@@ -1,5 +1,5 @@
 -- Turns of the loops over the parts of frames.
-use Rattle.std.proofs.Common.{◌≡◌, ℕ, zero, suc, ◌+◌, ◌-◌, ◌<◌, ◌≤◌, List, [], ◌++◌, refl, sym, ap, subst, ◌∙◌, arith, append_assoc}
+use Rattle.std.proofs.Common.{◌≡◌, ℕ, suc, ◌+◌, ◌-◌, ◌<◌, ◌≤◌, refl, sym, ap, ◌∙◌, arith}
 use Rattle.v1_frames.specs.Cells.{Cells, header_valid, slot_value, stack_place, stack_size, with_validity, with_slot, with_stack_place}
 use Rattle.std.specs.Prelude.{min, false, None}
 use Rattle.v1_ready_blocks.specs.declared.places.Range.{Range}
