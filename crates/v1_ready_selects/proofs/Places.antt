@@ -1,5 +1,5 @@
 -- Parts of a case, by the places of their keys.
-use Rattle.std.proofs.Common.{◌≡◌, ℕ, zero, suc, ◌+◌, ◌<◌, ◌&&◌, Bool, true, false, List, [], ◌∷◌, length, map, drop, get_or, slice_get, Option, Some, None, drop-cons, add-one, refl, sym, ap, ◌∙◌, arith}
+use Rattle.std.proofs.Common.{◌≡◌, ℕ, zero, suc, ◌+◌, ◌<◌, ◌&&◌, Bool, true, List, [], ◌∷◌, length, map, drop, get_or, slice_get, Option, Some, None, drop-cons, add-one, refl, sym, ap, ◌∙◌, arith}
 use Rattle.p416_ast.specs.declared.parsers.Simple.{Simple}
 use Rattle.p416_rules.specs.Kinds as rule
 use Rattle.p416_kinds.specs.declared.kind.Kind.{Kind}
@@ -12,7 +12,7 @@ use Rattle.v1_ready_selects.specs.declared.rows.KeyTest.TheVariants as key_test
 use Rattle.v1_ready_selects.specs.Selects.{takes, takes_each}
 use Rattle.v1_ready_selects.specs.Seen.{seen_scalars}
 use Rattle.v1_ready_selects.specs.Rows.{test_of_part, tests_of_parts}
-use Rattle.v1_ready_selects.specs.internal.Places.{test_for, test_at, tests_from, takes_for, takes_at, takes_from}
+use Rattle.v1_ready_selects.specs.internal.Places.{test_at, tests_from, takes_at, takes_from}
 
 -- tests of parts
 

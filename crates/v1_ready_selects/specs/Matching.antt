@@ -1,5 +1,5 @@
 -- That rows lead where the cases of the program do.
-use Rattle.std.specs.Prelude.{◌≡◌, ℕ, List, map, slice_get, Option, Some, None}
+use Rattle.std.specs.Prelude.{◌≡◌, List, map, slice_get, Option, Some, None}
 use Rattle.p416_ast.specs.declared.parsers.Target.{Target}
 use Rattle.p416_ast.specs.declared.parsers.SelectCase.{SelectCase}
 use Rattle.p416_ast.specs.declared.parsers.State.{State}
