@@ -1,5 +1,5 @@
 -- What is judged in a block is what it evaluates.
-use Rattle.std.proofs.Common.{ℕ, ◌+◌, Option, Some, None, IfSome, List, [], ◌∷◌, ◌++◌, map, flat_map, subst}
+use Rattle.std.proofs.Common.{ℕ, Option, Some, None, IfSome, List, [], ◌∷◌, ◌++◌, map, flat_map, subst}
 use Rattle.std.specs.Option.{option_map_or}
 use Rattle.std.specs.Prelude.{option_to_list}
 use Rattle.std.proofs.lemmas.Grind.{flat_map-append}
