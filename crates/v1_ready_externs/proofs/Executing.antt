@@ -1,5 +1,5 @@
 -- What each extern comes to.
-use Rattle.std.proofs.Common.{◌≡◌, ℕ, ◌==◌, ◌%◌, ◌^◌, Bool, true, false, cond, List, Option, Some, None, refl, sym, ap, ◌∙◌}
+use Rattle.std.proofs.Common.{◌≡◌, ℕ, ◌==◌, ◌%◌, ◌^◌, Bool, true, false, cond, List, Option, Some, None, refl, ap, ◌∙◌}
 use Rattle.std.specs.Prelude.{◌&&◌}
 use Rattle.state_store.specs.State.{Contents, count as count_in_store, read as read_in_store, write as write_in_store, cells_at, with_cells, has_cell, colour, colour_taken}
 use Rattle.state_store.specs.Cells.{taken_in}

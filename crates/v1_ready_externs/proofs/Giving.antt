@@ -1,9 +1,9 @@
 -- The values that are given.
-use Rattle.std.proofs.Common.{◌≡◌, ◌≢◌, ℕ, Bool, cond, zero, suc, ◌+◌, ◌%◌, ◌^◌, ◌<◌, List, [], ◌∷◌, map, slice_get, get_or, Option, Some, None, refl, sym, ap, subst, ◌∙◌}
+use Rattle.std.proofs.Common.{◌≡◌, ◌≢◌, ℕ, Bool, cond, zero, suc, ◌+◌, ◌%◌, ◌^◌, ◌<◌, List, [], ◌∷◌, map, slice_get, Some, None, refl, sym, ap, subst}
 use Rattle.std.proofs.Math.Nat.{mod-eq_of_lt}
 use Rattle.std.proofs.lemmas.Bool.{ne_eqb}
 use Rattle.std.specs.Prelude.{slice_index_or}
-use Rattle.v1_sem.specs.Values.{Value, no_value}
+use Rattle.v1_sem.specs.Values.{no_value}
 use Rattle.v1_sem.specs.Externs.Hashes.{in_range}
 use Rattle.v1_ready_expressions.specs.declared.scalar.Scalar.{Scalar}
 use Rattle.v1_ready_expressions.specs.Scalars.{seen_scalar}

@@ -1,6 +1,5 @@
 // What a run of statements keeps besides the frame and the store.
-ghost use Rattle.std.specs.Prelude.{◌≡◌, ◌%◌, ◌^◌, ◌<◌};
-ghost use Rattle.v1_sem.specs.Values.{number_in};
+ghost use Rattle.std.specs.Prelude.{◌≡◌};
 ghost use Rattle.v1_ready_expressions.specs.Scalars.{seen_scalar};
 ghost use Rattle.v1_ready_blocks.specs.Externs.{holds_at, number_at, value_at, word_at};
 ghost use Rattle.v1_ready_externs.specs.Seen.{given_of};

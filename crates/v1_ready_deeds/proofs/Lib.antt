@@ -1,0 +1,4 @@
+mod Coming
+mod Assigning
+mod Heading
+mod Calling

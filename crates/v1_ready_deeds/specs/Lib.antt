@@ -1,0 +1,1 @@
+-- What statements without others in them do is said by `done` of v1_ready_blocks.

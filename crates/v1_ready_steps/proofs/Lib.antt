@@ -1,0 +1,4 @@
+mod Reading
+mod Testing
+mod Sourcing
+mod Passing

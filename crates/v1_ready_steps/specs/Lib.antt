@@ -1,0 +1,2 @@
+-- What steps of statements over a frame, a store and a run come to.
+pub mod Steps
