@@ -1,0 +1,2 @@
+-- What calls ask of the parts of a frame.
+pub mod Parts
