@@ -1,6 +1,6 @@
 -- Calculated fields with conditions and the payload, headers that an action adds, keys that are matched on a mask, and what
 -- packets keep that take a further pass.
-use Rattle.std.proofs.Common.{◌≡◌, ℕ, false, List, [], ◌∷◌, map, Option, Some, None, refl}
+use Rattle.std.proofs.Common.{◌≡◌, ℕ, false, List, [], ◌∷◌, ◌++◌, map, Option, Some, None, refl}
 use Rattle.std.specs.Prelude.{codes}
 use Rattle.p4x_bits.specs.BitLists.{num, bits}
 use Rattle.match_core.specs.declared.entries.KeyMatch.TheVariants.{Ternary}
@@ -27,7 +27,7 @@ use Rattle.p414_ast.specs.declared.syntax.Decl.{Decl}
 use Rattle.p414_ast.specs.declared.syntax.Decl.TheVariants as decl
 use Rattle.p414_ast.specs.declared.syntax.Rule14.{Rule14}
 use Rattle.p414_ast.specs.declared.syntax.Rule14.TheVariants.{Sequential, Parallel}
-use Rattle.p414_ast.specs.Tree.{Stmt, no_statements, apply, apply_branches, no_branches, branch, if_then, else_block, number, binary}
+use Rattle.p414_ast.specs.Tree.{Stmt, no_statements, apply, apply_branches, no_branches, branch, if_then, no_else, else_block, number, binary}
 use Rattle.p414_ast.specs.Tree.{field as field_operand}
 use Rattle.p414_rules.specs.Names.{Name}
 use Rattle.p414_rules.specs.Arguments.{actions, invocations_of}
@@ -339,3 +339,37 @@ asking_twice =
 no_clone_is_made : (Run14 (set applies_t no_statements asking_twice) 256 arrives).sent ≡ record { arrival = 0; port = 3; octets = 0x12 ∷ 0x34 ∷ 0 ∷ 0 ∷ [] } ∷ []
 unfolding num bits parsed signature14 ingress14 reparse14 egress14 Run14 run
 no_clone_is_made = refl
+
+-- A clone made at the end of ingress is parsed again and isn't verified: x is verified only where m.k is 1, which is preserved
+-- for the clone, and x isn't 0x1111.
+abbrev verifying_k : List Decl
+verifying_k =
+    keeping (to_port_3 ∷ sets_k 1 ∷ call (codes "clone_i2e") (n 7 ∷ by_name (codes "keep") ∷ []) ∷ []) [] []
+    ++ calculation (codes "l1") (word 0x1111) (codes "identity")
+    (calculated_x
+    (record { used_to = Verify; calculation = codes "l1"; condition = Some (calc_cond.Equal (of m (codes "k")) (plain 1)) } ∷ [])
+    ∷ [])
+
+clone_is_not_verified : (Run14 (set applies_t no_statements verifying_k) 256 arrives).sent ≡ record { arrival = 0; port = 3; octets = 0x12 ∷ 0x34 ∷ 0 ∷ 0 ∷ [] } ∷ record { arrival = 0; port = 9; octets = 0x12 ∷ 0x34 ∷ 0 ∷ 0 ∷ [] } ∷ []
+unfolding num bits parsed signature14 ingress14 reparse14 egress14 Run14 run
+clone_is_not_verified = refl
+
+-- A clone made behind egress is updated in its own pass, over the octets that it carries: x is csum16 over y, z and what isn't
+-- parsed, and both packets leave with it.
+abbrev cloning_with_payload : List Decl
+cloning_with_payload =
+    four (field (codes "y") 8) []
+    (action (codes "first") [] (call (codes "clone_e2e") (n 7 ∷ []) ∷ [])
+    ∷ table (codes "e") (codes "first")
+    ∷ calculation (codes "l") (item.Field (of f (codes "y")) ∷ item.Field (of f (codes "z")) ∷ item.Payload ∷ []) (codes "csum16")
+    (calculated_x (record { used_to = Update; calculation = codes "l"; condition = None } ∷ []) ∷ []))
+
+abbrev once : Stmt
+once =
+    if_then
+    (binary Equal (field_operand (of (codes "standard_metadata") (codes "instance_type"))) (number (plain 0)))
+    (apply (codes "e")) no_else
+
+clone_is_summed_with_payload : (Run14 (set applies_t once cloning_with_payload) 256 (record { octets = 0 ∷ 0 ∷ 1 ∷ 2 ∷ 3 ∷ 4 ∷ []; port = 0; seconds = 0; fraction = 0 } ∷ [])).sent ≡ record { arrival = 0; port = 3; octets = 0xfb ∷ 0xf9 ∷ 1 ∷ 2 ∷ 3 ∷ 4 ∷ [] } ∷ record { arrival = 0; port = 9; octets = 0xfb ∷ 0xf9 ∷ 1 ∷ 2 ∷ 3 ∷ 4 ∷ [] } ∷ []
+unfolding num bits parsed signature14 ingress14 reparse14 egress14 Run14 run
+clone_is_summed_with_payload = refl
