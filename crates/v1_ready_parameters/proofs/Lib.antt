@@ -1,0 +1,3 @@
+mod Leaving
+mod Entering
+mod Turning

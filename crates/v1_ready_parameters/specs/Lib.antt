@@ -1,0 +1,2 @@
+-- How a parameter is brought in.
+pub mod Bringing
