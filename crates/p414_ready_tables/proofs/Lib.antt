@@ -1,0 +1,4 @@
+mod Kept
+mod Acting
+pub mod Declared
+mod Applying

@@ -1,0 +1,4 @@
+-- What the contracts of private functions cite.
+pub mod Defaults
+pub mod Acting
+pub mod Applying
