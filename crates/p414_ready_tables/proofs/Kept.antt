@@ -171,7 +171,7 @@ table_made ds t sig keys actions default keys_are actions_are default_made is = 
 }
 
 -- the table with a name
-abbrev MadeSo : List Decl → TableSig → ReadyTable → Type 0
+abbrev pub MadeSo : List Decl → TableSig → ReadyTable → Type 0
 MadeSo ds sig made = (t : Table) → table_of ds t.name ≡ Some t → sig ≡ table_sig ds t → IsReadyTable ds t made
 
 named_made : (ds : List Decl) (sig : TableSig) (name : Name) (table : Table) (made : ReadyTable) → declaration_of sort.Table ds name ≡ Some (decl.Table table) → name ≡ sig.name → (sig ≡ table_sig ds table → IsReadyTable ds table made) → MadeSo ds sig made
