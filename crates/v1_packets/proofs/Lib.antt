@@ -1,0 +1,4 @@
+mod Begun
+mod Filling
+mod Keeping
+mod Values
