@@ -1,7 +1,6 @@
--- What the capture comes to.
+-- What a capture comes to, and what stops a command there.
 use Rattle.std.proofs.Common.{◌≡◌, ◌⊎◌, inl, inr, ◌<◌, ◌≤◌, ◌+◌, ℕ, zero, suc, nat_lt, ◌%◌, ◌^◌, Bool, true, false, if◌then◌else◌, List, [], ◌∷◌, length, drop, Option, Some, None, option_map, Result, Ok, Err, refl, sym, ◌∙◌, ap, subst, arith}
 use Rattle.std.proofs.lemmas.Bool.Decides.{nat_tests}
-use Rattle.p416_ast.specs.declared.program.Syntax16.{Syntax16}
 use Rattle.p4x_fault.specs.declared.Fault.{Fault as Refusal}
 use Rattle.p4x_fault.specs.declared.Rule.TheVariants.{K}
 use Rattle.fabric.specs.declared.packets.Arrival.{Arrival}
@@ -12,16 +11,11 @@ use Rattle.pcap_io.specs.Sent.{sent_bytes_of}
 use Rattle.file_work.specs.declared.stop.Limited.TheVariants.{Capture}
 use Rattle.file_work.specs.declared.stop.Stop.{Stop}
 use Rattle.file_work.specs.declared.stop.Stop.TheVariants.{Fault, Refused, Limit}
-use Rattle.file_work.proofs.Ends.{stop_in, not_done}
-use Rattle.p4x_cmd.specs.Calls.{CaptureIs, GivesNothing, IsOver}
-use Rattle.run_stream.specs.Captured.{Reports, capture_limit, stopped, run_reports, reading_reports}
-use Rattle.p4x_cmd.specs.Carry.{capture_reports}
-use Rattle.p4x_cmd.specs.Meaning16.{Run16}
-use Rattle.run_stream.specs.Runs.{Ran}
-use Rattle.run_stream.specs.Reports.{sent_lines, report_of}
-use Rattle.p4x_cmd.specs.Reports.{carried_line_of, lined}
-use Rattle.p4x_cmd.specs.Runs.{this_run}
 use Rattle.file_work.specs.Stops.{code_of}
+use Rattle.file_work.proofs.Ends.{stop_in, not_done}
+use Rattle.run_stream.specs.Captured.{EndLines, Reports, capture_limit, stopped, run_reports, reading_reports, reports_over, lined, CaptureIs, GivesNothing, IsOver}
+use Rattle.run_stream.specs.Runs.{Ran}
+use Rattle.run_stream.specs.Reports.{sent_lines, report_of, run_line}
 
 -- What stops the command at the capture, if anything does.
 
@@ -37,17 +31,17 @@ abbrev pub capture_stop : Option (List ℕ) → Option Stop
 capture_stop None = Some Fault
 capture_stop (Some octets) = limited_stop octets (nat_lt capture_limit (length octets))
 
-run_stop : (found : Option Refusal) (head : Option Head) (arrivals : List Arrival) (run : Ran) → stop_in (lined (run_reports found head arrivals run).end) ≡ refused_by found
-run_stop None head arrivals run = refl
-run_stop (Some fault) head arrivals run = refl
+run_stop : (word : List ℕ) (lines : EndLines) (found : Option Refusal) (head : Option Head) (arrivals : List Arrival) (ran : Ran) → stop_in (lined word (run_reports lines found head arrivals ran).end) ≡ refused_by found
+run_stop word lines None head arrivals ran = refl
+run_stop word lines (Some fault) head arrivals ran = refl
 
-pub reports_stop : (s : Syntax16) (ports : List ℕ) (o : Option (List ℕ)) → stop_in (lined (capture_reports s ports o).end) ≡ capture_stop o
-reports_stop s ports None = refl
-reports_stop s ports (Some octets) = by_limit (nat_lt capture_limit (length octets))
+pub reports_stop : (word : List ℕ) (lines : EndLines) (run : List Arrival → Ran) (ports : List ℕ) (o : Option (List ℕ)) → stop_in (lined word (reports_over lines run ports o).end) ≡ capture_stop o
+reports_stop word lines run ports None = refl
+reports_stop word lines run ports (Some octets) = by_limit (nat_lt capture_limit (length octets))
   where
-    by_limit : (over : Bool) → stop_in (lined (if over then stopped (Limit Capture) else reading_reports (this_run s) ports (reading_of octets)).end) ≡ limited_stop octets over
+    by_limit : (over : Bool) → stop_in (lined word (if over then stopped (Limit Capture) else reading_reports lines run ports (reading_of octets)).end) ≡ limited_stop octets over
     by_limit true = refl
-    by_limit false = run_stop _ _ _ _
+    by_limit false = run_stop word lines _ _ _ _
 
 -- that stop says what the capture is
 abbrev pub CaptureEnd : Option (List ℕ) → Option Stop → Type 0
@@ -82,7 +76,7 @@ capture_over (Some octets) over =
     ap (limited_stop octets) above
 
 -- What a capture comes to whose run was done: it is a whole one, and these are the sent file, the report and the line of the run.
-pub record Whole (s : Syntax16) (ports : List ℕ) (file : Option (List ℕ)) (r : Reports) : Type 0 where
+pub record Whole (word : List ℕ) (lines : EndLines) (run : List Arrival → Ran) (ports : List ℕ) (file : Option (List ℕ)) (r : Reports) : Type 0 where
   pub octets : List ℕ
   pub link : ℕ
   pub nano : Bool
@@ -90,9 +84,9 @@ pub record Whole (s : Syntax16) (ports : List ℕ) (file : Option (List ℕ)) (r
   pub capture : file ≡ Some octets
   pub fits : length octets ≤ capture_limit
   pub whole : IsCapture octets ports link nano arrivals
-  pub sent : r.sent ≡ sent_bytes_of link nano arrivals (this_run s arrivals).sent
-  pub report : r.report ≡ report_of (length arrivals) (this_run s arrivals).sent ((this_run s arrivals).cut % 2 ^ 64) ((this_run s arrivals).work % 2 ^ 64)
-  pub end : lined r.end ≡ Ok (carried_line_of (length arrivals) (length (this_run s arrivals).sent) ((this_run s arrivals).cut % 2 ^ 64))
+  pub sent : r.sent ≡ sent_bytes_of link nano arrivals (run arrivals).sent
+  pub report : r.report ≡ report_of (length arrivals) (run arrivals).sent ((run arrivals).cut % 2 ^ 64) (lines (run arrivals).store ((run arrivals).work % 2 ^ 64))
+  pub end : lined word r.end ≡ Ok (run_line word (length arrivals) (length (run arrivals).sent) ((run arrivals).cut % 2 ^ 64))
 
 -- what no rule refuses has a file header
 headed : (fault : Option Refusal) (head : Option Head) (left : List ℕ) → refusal_by fault head left ≡ None → (h : Head) × (head ≡ Some h)
@@ -100,11 +94,11 @@ headed (Some fault) head left is = absurd (cc is)
 headed None None left is = absurd (cc is)
 headed None (Some h) left is = (h, refl)
 
-module _ (s : Syntax16) (ports octets : List ℕ) where
+module _ (word : List ℕ) (lines : EndLines) (run : List Arrival → Ran) (ports octets : List ℕ) where
   abbrev arrivals_in : List Arrival
   arrivals_in = arrivals_of ports (reading_of octets).records
 
-  whole_run : length octets ≤ capture_limit → (h : Head) → refusal octets ≡ None → (reading_of octets).head ≡ Some h → Whole s ports (Some octets) (run_reports None (Some h) arrivals_in (this_run s arrivals_in))
+  whole_run : length octets ≤ capture_limit → (h : Head) → refusal octets ≡ None → (reading_of octets).head ≡ Some h → Whole word lines run ports (Some octets) (run_reports lines None (Some h) arrivals_in (run arrivals_in))
   whole_run fits h none head = record {
     octets = octets;
     link = h.link;
@@ -118,21 +112,21 @@ module _ (s : Syntax16) (ports octets : List ℕ) where
     end = refl;
   }
 
-  whole_reading : length octets ≤ capture_limit → (found : Option Refusal) → refusal octets ≡ found → 0 ≡ code_of (lined (run_reports found (reading_of octets).head arrivals_in (this_run s arrivals_in)).end)
-      → Whole s ports (Some octets) (run_reports found (reading_of octets).head arrivals_in (this_run s arrivals_in))
+  whole_reading : length octets ≤ capture_limit → (found : Option Refusal) → refusal octets ≡ found → 0 ≡ code_of (lined word (run_reports lines found (reading_of octets).head arrivals_in (run arrivals_in)).end)
+      → Whole word lines run ports (Some octets) (run_reports lines found (reading_of octets).head arrivals_in (run arrivals_in))
   whole_reading fits (Some fault) is done = absurd (not_done (Refused fault) done)
   whole_reading fits None is done =
       let there = headed (reading_of octets).fault (reading_of octets).head (reading_of octets).left is in
-      subst (λ (x : Option Head). Whole s ports (Some octets) (run_reports None x arrivals_in (this_run s arrivals_in))) (sym there.1) (whole_run fits there.0 is there.1)
+      subst (λ (x : Option Head). Whole word lines run ports (Some octets) (run_reports lines None x arrivals_in (run arrivals_in))) (sym there.1) (whole_run fits there.0 is there.1)
 
-  whole_octets : (over : Bool) → nat_lt capture_limit (length octets) ≡ over → 0 ≡ code_of (lined (if over then stopped (Limit Capture) else reading_reports (this_run s) ports (reading_of octets)).end)
-      → Whole s ports (Some octets) (if over then stopped (Limit Capture) else reading_reports (this_run s) ports (reading_of octets))
+  whole_octets : (over : Bool) → nat_lt capture_limit (length octets) ≡ over → 0 ≡ code_of (lined word (if over then stopped (Limit Capture) else reading_reports lines run ports (reading_of octets)).end)
+      → Whole word lines run ports (Some octets) (if over then stopped (Limit Capture) else reading_reports lines run ports (reading_of octets))
   whole_octets true test done = absurd (not_done (Limit Capture) done)
   whole_octets false test done = whole_reading (grind (arith, nat_tests)) (refusal octets) refl done
 
-pub whole_capture : (s : Syntax16) (ports : List ℕ) (file : Option (List ℕ)) → 0 ≡ code_of (lined (capture_reports s ports file).end) → Whole s ports file (capture_reports s ports file)
-whole_capture s ports None done = absurd (not_done Fault done)
-whole_capture s ports (Some octets) done = whole_octets s ports octets (nat_lt capture_limit (length octets)) refl done
+pub whole_capture : (word : List ℕ) (lines : EndLines) (run : List Arrival → Ran) (ports : List ℕ) (file : Option (List ℕ)) → 0 ≡ code_of (lined word (reports_over lines run ports file).end) → Whole word lines run ports file (reports_over lines run ports file)
+whole_capture word lines run ports None done = absurd (not_done Fault done)
+whole_capture word lines run ports (Some octets) done = whole_octets word lines run ports octets (nat_lt capture_limit (length octets)) refl done
 
 -- Where K1, K2 or K3 refuses the capture, or it is over its limit, nothing is sent.
 
@@ -190,35 +184,39 @@ early_reading : (rule : ℕ) → rule ≤ 3 → (octets : List ℕ) → refusal 
 unfolding reading_of
 early_reading rule early octets is = early_sized rule early octets (nat_lt (length octets) 24) is
 
--- nothing comes of no packets
-no_run : (s : Syntax16) → (this_run s []).sent ≡ []
-unfolding Run16
-no_run s = refl
-
 abbrev pub Empty : Reports → Type 0
 Empty r = (r.sent ≡ []) × (r.report ≡ [])
 
-empty_run : (s : Syntax16) (ports : List ℕ) (fault : Refusal) (found : Option Refusal) (head : Option Head) (records : List Record) → found ≡ Some fault → head ≡ None → records ≡ []
-    → Empty (run_reports found head (arrivals_of ports records) (this_run s (arrivals_of ports records)))
-empty_run s ports fault None head records is none rest = absurd (cc is)
-empty_run s ports fault (Some other) (Some h) records is none rest = absurd (cc none)
-empty_run s ports fault (Some other) None (one ∷ records) is none rest = absurd (cc rest)
-empty_run s ports fault (Some other) None [] is none rest = (refl, ap sent_lines (no_run s))
+module _ (lines : EndLines) (run : List Arrival → Ran) (none_sent : (run []).sent ≡ []) (ports : List ℕ) where
+  empty_run : (fault : Refusal) (found : Option Refusal) (head : Option Head) (records : List Record) → found ≡ Some fault → head ≡ None → records ≡ []
+      → Empty (run_reports lines found head (arrivals_of ports records) (run (arrivals_of ports records)))
+  empty_run fault None head records is none rest = absurd (cc is)
+  empty_run fault (Some other) (Some h) records is none rest = absurd (cc none)
+  empty_run fault (Some other) None (one ∷ records) is none rest = absurd (cc rest)
+  empty_run fault (Some other) None [] is none rest = (refl, ap sent_lines none_sent)
 
-empty_within : (s : Syntax16) (ports octets : List ℕ) (over : Bool) → nat_lt capture_limit (length octets) ≡ over → (rule : ℕ) → rule ≤ 3 → length octets ≤ capture_limit → refusal octets ≡ Some (refused rule)
-    → Empty (if over then stopped (Limit Capture) else reading_reports (this_run s) ports (reading_of octets))
-empty_within s ports octets true test rule early fits is = (refl, refl)
-empty_within s ports octets false test rule early fits is =
-    let none = early_reading rule early octets is in
-    empty_run s ports (refused rule) (refusal octets) (reading_of octets).head (reading_of octets).records is none.0 none.1
+  empty_within : (octets : List ℕ) (over : Bool) → nat_lt capture_limit (length octets) ≡ over → (rule : ℕ) → rule ≤ 3 → length octets ≤ capture_limit → refusal octets ≡ Some (refused rule)
+      → Empty (if over then stopped (Limit Capture) else reading_reports lines run ports (reading_of octets))
+  empty_within octets true test rule early fits is = (refl, refl)
+  empty_within octets false test rule early fits is =
+      let none = early_reading rule early octets is in
+      empty_run (refused rule) (refusal octets) (reading_of octets).head (reading_of octets).records is none.0 none.1
 
-empty_over : (s : Syntax16) (ports octets : List ℕ) (over : Bool) → nat_lt capture_limit (length octets) ≡ over → capture_limit < length octets
-    → Empty (if over then stopped (Limit Capture) else reading_reports (this_run s) ports (reading_of octets))
-empty_over s ports octets true test above = (refl, refl)
-empty_over s ports octets false test above = let below : length octets ≤ capture_limit = grind (arith, nat_tests) in absurd (omega arith)
+  empty_over : (octets : List ℕ) (over : Bool) → nat_lt capture_limit (length octets) ≡ over → capture_limit < length octets
+      → Empty (if over then stopped (Limit Capture) else reading_reports lines run ports (reading_of octets))
+  empty_over octets true test above = (refl, refl)
+  empty_over octets false test above = let below : length octets ≤ capture_limit = grind (arith, nat_tests) in absurd (omega arith)
 
-pub empty_reports : (s : Syntax16) (ports : List ℕ) (file : Option (List ℕ)) → GivesNothing file → Empty (capture_reports s ports file)
-empty_reports s ports None (inl is) = absurd is.2
-empty_reports s ports None (inr over) = absurd over
-empty_reports s ports (Some octets) (inl is) = empty_within s ports octets (nat_lt capture_limit (length octets)) refl is.0 is.1 is.2.0 is.2.1
-empty_reports s ports (Some octets) (inr over) = empty_over s ports octets (nat_lt capture_limit (length octets)) refl over
+  pub empty_reports : (file : Option (List ℕ)) → GivesNothing file → Empty (reports_over lines run ports file)
+  empty_reports None (inl is) = absurd is.2
+  empty_reports None (inr over) = absurd over
+  empty_reports (Some octets) (inl is) = empty_within octets (nat_lt capture_limit (length octets)) refl is.0 is.1 is.2.0 is.2.1
+  empty_reports (Some octets) (inr over) = empty_over octets (nat_lt capture_limit (length octets)) refl over
+
+-- runs that are the same on all packets give the same
+pub same_reports : (lines : EndLines) (run other : List Arrival → Ran) → ((arrivals : List Arrival) → run arrivals ≡ other arrivals) → (ports : List ℕ) (file : Option (List ℕ)) → reports_over lines run ports file ≡ reports_over lines other ports file
+same_reports lines run other same ports None = refl
+same_reports lines run other same ports (Some octets) =
+    let reading = reading_of octets in
+    let packets = arrivals_of ports reading.records in
+    ap (λ (r : Ran). if nat_lt capture_limit (length octets) then stopped (Limit Capture) else run_reports lines (refusal_in reading) reading.head packets r) (same packets)
