@@ -13,7 +13,6 @@ use Rattle.p414_ast.specs.declared.syntax.Decl.{Decl}
 use Rattle.p414_sem.specs.Controls.{Setting}
 use Rattle.p414_sem.specs.Passes.{Preserved, Held, egress14, ingress14, reparse14}
 use Rattle.p414_sem.specs.Runs.{Between, machine14}
-use Rattle.p414_pipe_run.specs.declared.held.Held14.{Held14}
 use Rattle.p414_pipe_run.specs.Held.{packed, shown_held}
 use Rattle.p414_pipe_run.specs.Packed.{Is, Shows, left_by, packed_clone, packed_egress, packed_ingress, packed_machine, packed_next}
 

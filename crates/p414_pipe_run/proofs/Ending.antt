@@ -1,10 +1,7 @@
 -- How ingress and egress end.
-use Rattle.std.proofs.Common.{◌≡◌, ℕ, ◌<◌, ◌≤◌, ◌^◌, Bool, true, false, cond, nat_eq, List, [], Option, Some, None, option_map, refl, sym, ap, ap₂, ◌∙◌, subst, arith}
-use Rattle.std.proofs.lemmas.Bool.{eqb-true}
-use Rattle.state_store.specs.Ports.{IsPort, drop_port}
+use Rattle.std.proofs.Common.{◌≡◌, ℕ, Bool, true, false, cond, nat_eq, List, [], refl, sym, ap, ap₂, ◌∙◌}
+use Rattle.state_store.specs.Ports.{drop_port}
 use Rattle.state_store.specs.State.{Contents}
-use Rattle.fabric.specs.declared.items.EgressEnd.{EgressEnd}
-use Rattle.fabric.specs.declared.items.IngressEnd.{IngressEnd}
 use Rattle.fabric.specs.declared.items.IngressNext.{IngressNext}
 use Rattle.fabric.specs.declared.items.IngressNext.TheVariants as after_ingress
 use Rattle.fabric.specs.declared.items.EgressNext.{EgressNext}
@@ -12,18 +9,16 @@ use Rattle.fabric.specs.declared.items.EgressNext.TheVariants as after_egress
 use Rattle.p414_ast.specs.declared.syntax.Decl.{Decl}
 use Rattle.p414_layout.specs.declared.shape.Shape.{Shape}
 use Rattle.p414_layout.specs.Shapes.{layout_of}
-use Rattle.p414_sem.specs.declared.requests.Request14.{Request14}
 use Rattle.p414_sem.specs.Expanded.{Expanded}
-use Rattle.p414_sem.specs.Passes.{Held, Preserved, after_parsing, asked_egress_clone, cloned, dropped, handed_on, held_of, ingress_end, is_accepted, preserved}
+use Rattle.p414_sem.specs.Passes.{Preserved, after_parsing, dropped, handed_on, held_of, ingress_end, is_accepted}
 use Rattle.p414_sem.specs.Parsing.{Parse}
 use Rattle.p414_sem.specs.CalculatedFields.{fails_verification}
 use Rattle.p414_sem.specs.Controls.{Setting, control_run}
 use Rattle.p414_sem.specs.State.{State, without_requests}
 use Rattle.p414_state.specs.Packets.{Packet, with_state}
 use Rattle.p414_pipe_run.specs.declared.held.Held14.{Held14}
-use Rattle.p414_pipe_run.specs.Held.{packed, shown_held}
-use Rattle.p414_pipe_run.specs.Packed.{packed_clone, packed_next}
-use Rattle.p414_pipe_run.specs.internal.Ending.{after_held, egress_way, going_on}
+use Rattle.p414_pipe_run.specs.Packed.{packed_next}
+use Rattle.p414_pipe_run.specs.internal.Ending.{after_held, going_on}
 
 -- the drop port
 

@@ -1,7 +1,6 @@
 -- An item is parsed as its program says.
-use Rattle.std.proofs.Common.{◌≡◌, ℕ, Bool, true, false, cond, List, refl, sym, ap, ap₂, ◌∙◌, subst}
-use Rattle.std.specs.Prelude.{not, Result, Ok, Err, IfOk}
-use Rattle.fabric.specs.declared.items.Item.{Item}
+use Rattle.std.proofs.Common.{◌≡◌, ℕ, Bool, true, false, cond, List, refl, ap, ◌∙◌}
+use Rattle.std.specs.Prelude.{not, Result, Ok}
 use Rattle.p414_ast.specs.declared.syntax.Decl.{Decl}
 use Rattle.p414_layout.specs.declared.shape.Shape.{Shape}
 use Rattle.p414_layout.specs.Shapes.{layout_of}
@@ -12,7 +11,7 @@ use Rattle.p414_ready_parser.specs.Meaning.{Means}
 use Rattle.p414_ready_parser.specs.Running.{ready_parse}
 use Rattle.p414_sem.specs.declared.parsed.Parsed.{Parsed}
 use Rattle.p414_sem.specs.Parsing.{Parse, parsed}
-use Rattle.p414_sem.specs.Passes.{Preserved, begins, held_of, is_accepted}
+use Rattle.p414_sem.specs.Passes.{held_of, is_accepted}
 use Rattle.p414_sem.specs.State.{State}
 use Rattle.p414_state.specs.Packets.{Packet, with_headers_begun}
 use Rattle.p414_pipe_run.specs.declared.held.Held14.{Held14}

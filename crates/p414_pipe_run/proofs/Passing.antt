@@ -1,18 +1,16 @@
 -- The calls of the passes give what the machine does.
-use Rattle.std.proofs.Common.{◌≡◌, ℕ, Bool, true, false, cond, List, [], Option, Some, None, refl, sym, ap, ap₂, ◌∙◌, subst}
+use Rattle.std.proofs.Common.{◌≡◌, ℕ, Bool, true, false, cond, List, [], None, refl, sym, ap, ap₂, ◌∙◌}
 use Rattle.state_store.specs.State.{Contents}
 use Rattle.fabric.specs.declared.items.EgressEnd.{EgressEnd}
 use Rattle.fabric.specs.declared.items.EgressNext.TheVariants as after_egress
 use Rattle.fabric.specs.declared.items.IngressEnd.{IngressEnd}
-use Rattle.fabric.specs.declared.items.IngressNext.TheVariants as after_ingress
 use Rattle.fabric.specs.declared.items.Event.{Event}
 use Rattle.fabric.specs.declared.items.Item.{Item}
-use Rattle.p414_layout.specs.Shapes.{layout_of}
 use Rattle.p414_sem.specs.CalculatedFields.{fails_verification}
 use Rattle.p414_sem.specs.Controls.{Setting, control_run}
 use Rattle.p414_sem.specs.Effects.{Moment}
 use Rattle.p414_sem.specs.Parsing.{parsed}
-use Rattle.p414_sem.specs.Passes.{Ended, Held, Preserved, begins, dropped, egress14, egress_begins, egress_end, held_of, ingress14, ingress_end, none_preserved, reparse14}
+use Rattle.p414_sem.specs.Passes.{Ended, Held, Preserved, begins, dropped, egress14, egress_begins, egress_end, held_of, ingress14, ingress_end, reparse14}
 use Rattle.p414_sem.specs.Runs.{Between}
 use Rattle.p414_sem.specs.State.{State}
 use Rattle.p414_state.specs.Packets.{Packet, with_state}
@@ -22,9 +20,6 @@ use Rattle.p414_pipe_run.specs.Packed.{left_by, packed_egress, packed_ingress, p
 use Rattle.p414_pipe_run.specs.Prepared.{Prepared, comes_to, setting_of}
 use Rattle.p414_pipe_run.specs.internal.Ending.{IsRan, after_held, egress_answer, ingress_answer}
 use Rattle.p414_pipe_run.proofs.Ending.{held_by_parse}
-
-abbrev no_ingress : IngressEnd Preserved Held14
-no_ingress = record { clone = None; next = after_ingress.Drop }
 
 abbrev no_egress : EgressEnd Preserved Held14
 no_egress = record { clone = None; end = after_egress.Drop }

@@ -1,9 +1,8 @@
 -- A whole run.
-use Rattle.std.proofs.Common.{◌≡◌, ℕ, ◌%◌, ◌^◌, List, [], refl, sym, ap, ap₂, ◌∙◌, subst}
+use Rattle.std.proofs.Common.{◌≡◌, ℕ, ◌%◌, ◌^◌, List, [], refl, ap, ap₂, ◌∙◌}
 use Rattle.state_store.specs.State.{Contents}
 use Rattle.state_store.specs.declared.ports.Session.{Session}
 use Rattle.fabric.specs.declared.packets.Arrival.{Arrival}
-use Rattle.fabric.specs.declared.packets.RunResult.{RunResult}
 use Rattle.fabric.specs.declared.packets.Sent.{Sent}
 use Rattle.fabric.specs.Fabric.{Whole, fabric_of}
 use Rattle.fabric.specs.Twins.{AlikeWhole}
@@ -19,7 +18,7 @@ use Rattle.p414_sem.specs.Expanded.{Expanded, IsExpanded}
 use Rattle.p414_sem.specs.Runs.{Between, Run14, machine14}
 use Rattle.p414_sem.specs.Signatures.{signature14}
 use Rattle.p414_pipe_run.specs.Packed.{OneStore, packed_machine}
-use Rattle.p414_pipe_run.specs.Prepared.{Prepared, Running, comes_to, setting_of}
+use Rattle.p414_pipe_run.specs.Prepared.{Prepared, comes_to, setting_of}
 use Rattle.p414_pipe_run.specs.Ran.{IsRun14}
 
 abbrev loading : List Decl → Rule14 → Entries → Loaded

@@ -2,7 +2,6 @@
 use Rattle.std.proofs.Common.{◌≡◌, ℕ, Bool, false, List, Option, refl, sym, ap, ap₂, ◌∙◌, subst}
 use Rattle.state_store.specs.State.{Contents}
 use Rattle.p414_act_run.specs.declared.calculations.Calculations.{Calculations}
-use Rattle.p414_act_run.specs.Moments.{moment}
 use Rattle.p414_act_run.specs.Sums.{sums_in}
 use Rattle.p414_ast.specs.declared.syntax.Decl.{Decl}
 use Rattle.p414_ast.specs.declared.syntax.Rule14.{Rule14}

@@ -110,6 +110,7 @@ pub fn ready_program14<'r>(
     let fields = calculated_fields14(alloc, program)?;
     let calculations = calculations14(alloc, program)?;
     let pipelines = ready_pipelines(alloc, program, rule, signature, entries, store)?;
+    // It breaks no rule, so it comes to something.
     let _accepted = program.syntax();
     Ok(ReadyProgram14 {
         pipelines,

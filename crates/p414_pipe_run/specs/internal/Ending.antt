@@ -1,5 +1,5 @@
 -- How passes go on behind parsing and behind a control.
-use Rattle.std.specs.Prelude.{◌≡◌, ℕ, ◌==◌, if◌then◌else◌, List, [], Option, option_map}
+use Rattle.std.specs.Prelude.{◌≡◌, ◌==◌, if◌then◌else◌, List, option_map}
 use Rattle.state_store.specs.Ports.{drop_port}
 use Rattle.state_store.specs.State.{Contents}
 use Rattle.fabric.specs.declared.items.EgressEnd.{EgressEnd}
@@ -11,16 +11,14 @@ use Rattle.fabric.specs.declared.items.IngressNext.TheVariants as after_ingress
 use Rattle.p414_ast.specs.declared.syntax.Decl.{Decl}
 use Rattle.p414_ast.specs.Tree.{Stmt}
 use Rattle.p414_layout.specs.Shapes.{layout_of}
-use Rattle.p414_sem.specs.declared.requests.Request14.{Request14}
 use Rattle.p414_sem.specs.CalculatedFields.{fails_verification}
 use Rattle.p414_sem.specs.Controls.{Setting, control_run}
-use Rattle.p414_sem.specs.Effects.{Moment}
 use Rattle.p414_sem.specs.Expanded.{Expanded}
-use Rattle.p414_sem.specs.Passes.{Ended, Held, Preserved, asked_clone, asked_egress_clone, dropped, dropped_in_egress, egress_end, handed_on, ingress_end, leaves, next_after}
+use Rattle.p414_sem.specs.Passes.{Ended, Held, Preserved, asked_clone, asked_egress_clone, dropped, handed_on, ingress_end, leaves, next_after}
 use Rattle.p414_sem.specs.Runs.{Between}
 use Rattle.p414_sem.specs.State.{State}
 use Rattle.p414_state.specs.Packets.{Packet}
-use Rattle.p414_pipe_run.specs.Prepared.{Prepared, comes_to, setting_of}
+use Rattle.p414_pipe_run.specs.Prepared.{Prepared, setting_of}
 
 -- a packet that isn't resubmitted is dropped, or goes on to egress
 abbrev pub going_on : State → IngressNext Preserved Held

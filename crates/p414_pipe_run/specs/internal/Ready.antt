@@ -1,5 +1,5 @@
 -- What a ready program is made of.
-use Rattle.std.specs.Prelude.{◌≡◌, ℕ, List}
+use Rattle.std.specs.Prelude.{◌≡◌, List}
 use Rattle.p414_act_run.specs.declared.calculations.Calculations.{Calculations}
 use Rattle.p414_act_run.specs.Sums.{sums_in}
 use Rattle.p414_calculated_fields.specs.declared.rows.CalculatedRow.{CalculatedRow}

@@ -1,4 +1,4 @@
-use Rattle.std.proofs.Common.{◌≡◌, refl, ap}
+use Rattle.std.proofs.Common.{refl, ap}
 use Rattle.fabric.specs.Twins.{fit_any}
 use Rattle.fabric.proofs.SameRuns.{fabric_alike, same_fates_of}
 use Rattle.fabric.proofs.Tracing.{same_traces_of}
