@@ -1,10 +1,10 @@
 -- Copying the parts of a value to those of another one of its form makes that the same value.
-use Rattle.std.proofs.Common.{◌≡◌, ◌⊎◌, inl, inr, ℕ, zero, suc, ◌+◌, ◌%◌, ◌^◌, min, ◌<◌, ◌≤◌, Bool, true, false, cond, Option, Some, None, List, [], ◌∷◌, length, get_or, set, refl, sym, ap, ◌∙◌, subst, arith, pow_pos}
+use Rattle.std.proofs.Common.{◌≡◌, ◌⊎◌, inl, inr, ℕ, zero, suc, ◌+◌, ◌%◌, ◌^◌, min, ◌<◌, ◌≤◌, Bool, true, false, cond, Option, Some, None, length, get_or, refl, sym, ap, ◌∙◌, subst, arith, pow_pos}
 use Rattle.std.proofs.Math.Nat.{mod-eq_of_lt, mod-lt}
 use Rattle.std.proofs.lemmas.Bool.{cases_eq}
 use Rattle.std.proofs.lemmas.List.{get_or-set_same, get_or-set_other}
 use Rattle.v1_frames.specs.Layouts.{Layout}
-use Rattle.v1_frames.specs.Cells.{Cells, owner_valid, is_live, slot_value, with_slot, header_valid, with_validity, stack_place, stack_size, with_stack_place, AreWhole}
+use Rattle.v1_frames.specs.Cells.{Cells, owner_valid, is_live, slot_value, header_valid, with_validity, stack_place, stack_size, AreWhole}
 use Rattle.v1_frames.proofs.Frames.{set_got, set_others}
 use Rattle.v1_frame_values.specs.Seats.{Start}
 use Rattle.v1_frame_values.specs.Laid.{OwnersAgree}

@@ -1,31 +1,25 @@
 -- The bits of a header or a stack that is emitted are those of its octets.
-use Rattle.std.proofs.Common.{◌≡◌, ℕ, zero, suc, ◌+◌, ◌*◌, ◌/◌, min, ◌<◌, ◌≤◌, Bool, true, false, cond, List, [], ◌∷◌, ◌++◌, length, map, flat_map, sum, get_or, refl, sym, ap, ◌∙◌, subst, arith, length-append, None}
+use Rattle.std.proofs.Common.{◌≡◌, ℕ, zero, suc, ◌+◌, ◌*◌, ◌/◌, min, ◌≤◌, Bool, true, false, cond, List, [], ◌∷◌, ◌++◌, length, flat_map, get_or, refl, sym, ap, ◌∙◌, subst, arith, length-append, None}
 use Rattle.std.proofs.Math.Nat.{mul-div_cancel}
 use Rattle.std.proofs.lemmas.List.{append-nil}
-use Rattle.p4x_bits.specs.BitLists.{num, bits, octet_bits}
+use Rattle.p4x_bits.specs.BitLists.{bits, octet_bits}
 use Rattle.p4x_bits.proofs.BitLists.{length-bits, bits-num, octet_bits-append}
-use Rattle.p416_ast.specs.declared.program.Syntax16.{Syntax16}
 use Rattle.p416_rules.specs.Scopes.{Layout as TypeLayout, FieldKind, fields_in}
 use Rattle.p416_rules.specs.Totals.{bits_in}
 use Rattle.p416_rules.specs.Declarations.{layouts_of}
-use Rattle.v1_sem.specs.Values.{Value, a_header, a_stack, Field, Header}
-use Rattle.v1_sem.specs.Frames as sem
-use Rattle.v1_sem.specs.Numbered.{InScope}
-use Rattle.v1_sem.specs.Externs.Packets as packets
+use Rattle.v1_sem.specs.Values.{Value}
 use Rattle.v1_sem.specs.Externs.Packets.{bits_of_field, octets_in, octets_of_header, octets_of}
 use Rattle.v1_frames.specs.Cells.{Cells, slot_value, header_valid}
-use Rattle.v1_frame_values.specs.Seats.{Form, slot_form, header_form, stack_form, struct_form, no_form, Start, moved, Seat, behind_seat}
-use Rattle.v1_frame_values.specs.Values.{field_values, header_value, element_values, value_from, seat_value}
+use Rattle.v1_frame_values.specs.Seats.{Form, slot_form, header_form, stack_form, struct_form, no_form, Start, moved}
+use Rattle.v1_frame_values.specs.Values.{field_values, header_value, element_values, value_from}
 use Rattle.v1_frame_values.proofs.Making.{same_start}
 use Rattle.v1_ready_laws.specs.Widths.{FieldsWide, ElementsWide, IsWide, FieldsNarrow}
 use Rattle.v1_ready_laws.proofs.Accepted.{accepted_narrow}
 use Rattle.v1_ready_laws.proofs.Steps.{Stands}
 use Rattle.v1_ready_blocks.specs.declared.places.Range.{Range}
-use Rattle.v1_ready_blocks.specs.Moments.{Moment}
 use Rattle.v1_ready_blocks.specs.Places.{slot_width}
 use Rattle.v1_ready_blocks.specs.Stacks.{fields_each, element_of}
-use Rattle.v1_ready_blocks.specs.Packets.{slot_bits, header_bits, element_bits, emit}
-use Rattle.v1_parser_laws.specs.Shown.{Shows}
+use Rattle.v1_ready_blocks.specs.Packets.{slot_bits, header_bits, element_bits}
 use Rattle.v1_parser_laws.specs.Ranges.{IsRangeOf}
 use Rattle.v1_place_laws.proofs.Writing.{part_stands}
 use Rattle.v1_deed_laws.specs.Forms.{IsEmitted, total_bits}

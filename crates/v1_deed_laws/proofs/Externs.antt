@@ -1,6 +1,6 @@
 -- Each extern does to a packed frame what it does to the frame of the program.
 use Rattle.std.proofs.Common.{◌≡◌, ◌⊎◌, inl, inr, ℕ, min, ◌+◌, ◌-◌, ◌*◌, ◌%◌, ◌^◌, ◌==◌, ◌<◌, ◌≤◌, ◌&&◌, not, Bool, true, false, cond, Option, Some, None, IfSome, List, [], ◌∷◌, ◌++◌, length, get_or, refl, sym, ap, ◌∙◌, subst, arith, pow_pos}
-use Rattle.std.specs.Prelude.{option_map, codes}
+use Rattle.std.specs.Prelude.{codes}
 use Rattle.std.proofs.Math.Nat.{mod-eq_of_lt}
 use Rattle.std.proofs.Math.Pow.{mod-mod-pow}
 use Rattle.std.proofs.lemmas.List.{get_or_past}
@@ -9,24 +9,22 @@ use Rattle.state_store.specs.State.{Contents, count as count_in_store, read as r
 use Rattle.state_store.specs.Ports.{drop_port}
 use Rattle.fabric.specs.declared.items.RequestKind.{RequestKind}
 use Rattle.fabric.specs.declared.items.RequestKind.TheVariants.{CloneI2E, CloneE2E, Resubmit, Recirculate}
-use Rattle.p416_ast.specs.declared.parts.HashAlgorithm.{HashAlgorithm}
 use Rattle.p416_ast.specs.declared.program.Syntax16.{Syntax16}
 use Rattle.p416_rules.specs.Names.{Name}
 use Rattle.p416_rules.specs.Breaks.{BreaksNone, program_rules}
-use Rattle.v1_sem.specs.Values.{Value, a_number, number_in, width_in, to_member, spliced}
+use Rattle.v1_sem.specs.Values.{Value, a_number, number_in, width_in, to_member}
 use Rattle.v1_sem.specs.Frames as sem
 use Rattle.v1_sem.specs.Frames.{Frame, Hit, Reference, number_put_at, stepped, with_standard}
 use Rattle.v1_sem.specs.Slots.{the_standard, part_with, variable_kinds}
-use Rattle.v1_sem.specs.Numbered.{InScope, frame_in, part_value, with_part_value}
+use Rattle.v1_sem.specs.Numbered.{InScope, frame_in}
 use Rattle.v1_sem.specs.Externs.Objects as objects
 use Rattle.v1_sem.specs.Externs.Hashes as hashes
 use Rattle.v1_sem.specs.Externs.Hashes.{in_range}
 use Rattle.v1_sem.specs.Externs.Checksums as checksums
 use Rattle.v1_sem.specs.Externs.Requests as requests
-use Rattle.v1_frames.specs.Layouts.{Layout}
 use Rattle.v1_frames.specs.Cells.{Cells, is_live, slot_value, with_slot, with_request, AreWhole}
 use Rattle.v1_frame_values.specs.Seats.{Form, some_bits, slot_form, Seat}
-use Rattle.v1_frame_values.specs.Programs.{part_seat, frame_kinds, numbered16}
+use Rattle.v1_frame_values.specs.Programs.{part_seat, numbered16}
 use Rattle.v1_frame_values.specs.Frames.{IsFrameOf}
 use Rattle.v1_frame_values.specs.Scopes.{IsScope}
 use Rattle.v1_frame_values.proofs.Laws.{part_read, slot_put, request_put}
@@ -34,16 +32,14 @@ use Rattle.v1_ready_laws.proofs.Accepted.{accepted_narrow}
 use Rattle.v1_ready_laws.proofs.Steps.{Stands}
 use Rattle.v1_ready_blocks.specs.declared.places.Slice.{Slice}
 use Rattle.v1_ready_blocks.specs.declared.places.Target.{Target}
-use Rattle.v1_ready_blocks.specs.declared.externs.Extern.TheVariants as extern
 use Rattle.v1_ready_blocks.specs.Moments.{Moment, with_cells, with_store}
-use Rattle.v1_ready_blocks.specs.Places.{seen_slice, around, slot_width, put}
+use Rattle.v1_ready_blocks.specs.Places.{slot_width, put}
 use Rattle.v1_ready_blocks.specs.Externs as ready
 use Rattle.v1_ready_blocks.specs.Externs.{Given, number_at, holds_at, value_at, result_by, executed}
 use Rattle.v1_parser_laws.specs.Shown.{Shows}
 use Rattle.v1_parser_laws.proofs.Parts.{below_or}
-use Rattle.v1_place_laws.specs.Finding.{IsAt}
 use Rattle.v1_place_laws.proofs.Writing.{part_stands}
-use Rattle.v1_deed_laws.specs.Externs.{IsTarget, IsStandard, CountShows, CountEntryShows, ReadShows, WriteShows, MeterShows, IsAlgorithm, HashShows, with_octets, VerifyShows, UpdateShows, DropShows, RequestShows, CloneShows}
+use Rattle.v1_deed_laws.specs.Externs.{IsTarget, IsStandard, CountShows, CountEntryShows, ReadShows, WriteShows, MeterShows, HashShows, with_octets, VerifyShows, UpdateShows, DropShows, RequestShows, CloneShows}
 use Rattle.v1_deed_laws.proofs.Whole.{cells_show}
 use Rattle.v1_deed_laws.proofs.Slots.{slot_whole, numbers_put}
 

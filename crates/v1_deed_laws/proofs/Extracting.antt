@@ -1,6 +1,5 @@
 -- An extraction fills the slots of a header as it fills its fields, and `next` moves the place of its stack.
-use Rattle.std.proofs.Common.{◌≡◌, ◌⊎◌, inl, inr, ℕ, zero, suc, ◌+◌, ◌*◌, ◌/◌, ◌^◌, min, ◌<◌, ◌≤◌, nat_lt, Bool, true, false, cond, Option, Some, None, List, [], ◌∷◌, length, map, take, drop, get_or, set, sum, refl, sym, ap, ◌∙◌, subst, arith}
-use Rattle.std.proofs.lemmas.Bool.{cases_eq}
+use Rattle.std.proofs.Common.{◌≡◌, ◌⊎◌, inl, inr, ℕ, zero, suc, ◌+◌, ◌*◌, ◌/◌, min, ◌<◌, ◌≤◌, nat_lt, Bool, true, false, cond, Option, Some, None, List, [], ◌∷◌, length, map, take, drop, get_or, sum, refl, sym, ap, ◌∙◌, subst, arith}
 use Rattle.std.proofs.lemmas.List.{get_or-set_same, get_or-set_other}
 use Rattle.std.proofs.lemmas.List.Sums.{sum_by-cons}
 use Rattle.p4x_bits.specs.BitLists.{num, octet_bits}
@@ -11,7 +10,7 @@ use Rattle.p416_rules.specs.Scopes.{Layout as TypeLayout, FieldKind, fields_in}
 use Rattle.p416_rules.specs.Totals.{bits_in}
 use Rattle.p416_rules.specs.Declarations.{layouts_of}
 use Rattle.v1_sem.specs.declared.parser_error.ParserError.TheVariants.{PacketTooShort}
-use Rattle.v1_sem.specs.Values.{Value, a_header, a_stack, Field, Header, header_in, place_in, elements_in}
+use Rattle.v1_sem.specs.Values.{Value, a_header, a_stack, Field, header_in, place_in, elements_in}
 use Rattle.v1_sem.specs.Frames as sem
 use Rattle.v1_sem.specs.Frames.{Frame, Reference, read, write}
 use Rattle.v1_sem.specs.Slots.{variable_kinds}
@@ -21,11 +20,10 @@ use Rattle.v1_sem.specs.Externs.Packets.{field_width, header_width, fields_fille
 use Rattle.v1_frames.specs.Layouts.{Layout}
 use Rattle.v1_frames.specs.Cells.{Cells, owner_valid, is_live, slot_value, with_slot, header_valid, with_validity, stack_place, stack_size, with_stack_place, AreWhole}
 use Rattle.v1_frames.proofs.Frames.{set_got, set_others}
-use Rattle.v1_frame_values.specs.Seats.{Form, header_form, stack_form, Start, moved, Seat, behind_seat}
-use Rattle.v1_frame_values.specs.Values.{field_values, header_value, element_values, seat_value}
+use Rattle.v1_frame_values.specs.Seats.{Form, header_form, stack_form, Start, moved, Seat}
+use Rattle.v1_frame_values.specs.Values.{field_values, header_value, seat_value}
 use Rattle.v1_frame_values.specs.Laid.{AreFields, IsHeader, OwnersAgree}
 use Rattle.v1_frame_values.specs.Programs.{part_seat, numbered16, of_values}
-use Rattle.v1_frame_values.specs.Frames.{IsFrameOf}
 use Rattle.v1_frame_values.specs.Scopes.{IsScope}
 use Rattle.v1_frame_values.proofs.Kept.{validity_others}
 use Rattle.v1_frame_values.proofs.Laws.{part_read, place_put, program_laid}

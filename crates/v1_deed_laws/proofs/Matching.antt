@@ -1,11 +1,11 @@
 -- The parts of two values of one form have the same widths, the same owners and the same sizes, part by part.
-use Rattle.std.proofs.Common.{◌≡◌, ◌⊎◌, inl, inr, ℕ, zero, suc, ◌+◌, ◌*◌, ◌<◌, ◌≤◌, Bool, true, false, Option, Some, None, List, [], ◌∷◌, length, get_or, refl, sym, ap, ◌∙◌, subst, arith}
+use Rattle.std.proofs.Common.{◌≡◌, ◌⊎◌, inl, inr, ℕ, zero, suc, ◌+◌, ◌*◌, ◌<◌, ◌≤◌, Option, Some, None, List, [], ◌∷◌, length, get_or, sym, ap, ◌∙◌, subst, arith}
 use Rattle.p416_rules.specs.Scopes.{Layout as TypeLayout, FieldKind, fields_in}
 use Rattle.v1_frames.specs.Layouts.{Layout}
 use Rattle.v1_frames.specs.Cells.{Cells}
 use Rattle.v1_frame_values.specs.Seats.{Form, slot_form, header_form, stack_form, struct_form, no_form, form_of, Start, moved, behind_members, behind}
 use Rattle.v1_frame_values.specs.Laid.{IsHeader, AreElements, AreMembers, IsLaid}
-use Rattle.v1_frame_values.proofs.Starts.{Before, at_once, before_moved, members_before, ends_behind}
+use Rattle.v1_frame_values.proofs.Starts.{Before, before_moved, members_before, ends_behind}
 use Rattle.v1_frame_values.proofs.Writing.{split_first}
 use Rattle.v1_frame_values.proofs.Kept.{field_owner}
 use Rattle.v1_ready_laws.specs.Widths.{FieldsWide, ElementsWide, IsWide}

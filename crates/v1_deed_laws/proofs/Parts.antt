@@ -1,5 +1,5 @@
 -- A header, a stack or a struct written to an l-value is copied to its parts.
-use Rattle.std.proofs.Common.{◌≡◌, ◌⊎◌, inl, inr, ℕ, zero, suc, ◌+◌, ◌%◌, ◌^◌, min, ◌<◌, ◌≤◌, Bool, true, false, cond, Option, Some, None, List, [], ◌∷◌, length, get_or, set, refl, sym, ap, ◌∙◌, subst, arith, pow_pos}
+use Rattle.std.proofs.Common.{◌≡◌, ◌⊎◌, inl, inr, ℕ, zero, suc, ◌+◌, ◌%◌, ◌^◌, min, ◌<◌, ◌≤◌, Bool, true, false, cond, Option, Some, List, [], ◌∷◌, length, get_or, set, refl, sym, ap, ◌∙◌, subst, arith, pow_pos}
 use Rattle.std.proofs.Math.Nat.{mod-eq_of_lt}
 use Rattle.std.proofs.lemmas.List.{get_or_past}
 use Rattle.p416_ast.specs.declared.program.Syntax16.{Syntax16}
@@ -7,18 +7,14 @@ use Rattle.p416_rules.specs.Scopes.{Layout as TypeLayout, FieldKind, fields_in}
 use Rattle.p416_rules.specs.Declarations.{layouts_of}
 use Rattle.v1_sem.specs.Values.{Value, fitted}
 use Rattle.v1_sem.specs.Numbers.{is_same_truth}
-use Rattle.v1_sem.specs.Frames as sem
-use Rattle.v1_sem.specs.Frames.{Reference, write}
-use Rattle.v1_sem.specs.Slots.{FramePart, variable_kinds}
-use Rattle.v1_sem.specs.Numbered.{InScope, frame_in}
+use Rattle.v1_sem.specs.Slots.{FramePart}
 use Rattle.v1_frames.specs.Layouts.{Layout}
-use Rattle.v1_frames.specs.Cells.{Cells, is_live, slot_value, with_slot, header_valid, header_slots, cleared_numbers, with_validity, stack_place, stack_size, with_stack_place, AreWhole}
+use Rattle.v1_frames.specs.Cells.{Cells, is_live, header_valid, header_slots, cleared_numbers, with_validity, stack_place, stack_size, with_stack_place, AreWhole}
 use Rattle.v1_frame_values.specs.Seats.{Form, slot_form, header_form, stack_form, struct_form, no_form, Start, behind, Seat, behind_seat}
 use Rattle.v1_frame_values.specs.Values.{value_from, member_values, seat_value}
 use Rattle.v1_frame_values.specs.Laid.{IsLaid, IsLaidAt, OwnersAgree}
-use Rattle.v1_frame_values.specs.Programs.{layout16, frame_kinds, part_seat, numbered16}
+use Rattle.v1_frame_values.specs.Programs.{frame_kinds, part_seat}
 use Rattle.v1_frame_values.specs.Frames.{IsFrameOf}
-use Rattle.v1_frame_values.specs.Scopes.{IsScope}
 use Rattle.v1_frame_values.proofs.Starts.{Before}
 use Rattle.v1_frame_values.proofs.Laws.{program_laid}
 use Rattle.v1_ready_laws.specs.Widths.{IsWide, KindsNarrow, TypesNarrow}
@@ -26,10 +22,8 @@ use Rattle.v1_ready_laws.proofs.Steps.{Stands}
 use Rattle.v1_ready_laws.proofs.Accepted.{accepted_narrow}
 use Rattle.v1_ready_blocks.specs.declared.places.Range.{Range}
 use Rattle.v1_ready_blocks.specs.Places.{slot_width, all_copied, validity_taken, number_taken, place_taken, copied}
-use Rattle.v1_ready_blocks.specs.Moments.{Moment}
 use Rattle.v1_parser_laws.specs.Ranges.{IsRangeOf}
 use Rattle.v1_parser_laws.proofs.Parts.{below_or, header_there}
-use Rattle.v1_place_laws.specs.Finding.{IsAt}
 use Rattle.v1_place_laws.proofs.Writing.{part_stands}
 use Rattle.v1_deed_laws.specs.Forms.{OneForm, IsParted}
 use Rattle.v1_deed_laws.specs.Laws.{PartsPut}

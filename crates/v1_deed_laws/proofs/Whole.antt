@@ -1,6 +1,5 @@
 -- A write to an l-value that changes one part of a frame, and moments that stay one where the frame changes.
-use Rattle.std.proofs.Common.{◌≡◌, ◌⊎◌, inl, inr, ℕ, ◌^◌, ◌%◌, ◌<◌, ◌≤◌, Bool, true, Option, Some, None, List, length, get_or, refl, sym, ap, ◌∙◌, subst, pow_pos}
-use Rattle.std.proofs.Math.Nat.{mod-lt}
+use Rattle.std.proofs.Common.{◌≡◌, ◌⊎◌, inl, inr, ℕ, ◌<◌, ◌≤◌, true, Option, None, List, length, sym, ap, ◌∙◌, subst}
 use Rattle.p416_ast.specs.declared.program.Syntax16.{Syntax16}
 use Rattle.p416_rules.specs.Declarations.{layouts_of}
 use Rattle.v1_sem.specs.Values.{Value, fitted, Slice}
