@@ -5,7 +5,7 @@ use Rattle.fabric.specs.declared.packets.Arrival.{Arrival}
 use Rattle.fabric.specs.declared.packets.Sent.{Sent}
 use Rattle.p4x_cmd.specs.Entries.{no_entries}
 use Rattle.p4x_cmd.specs.Meaning14.{Run14, signature14, widths14}
-use Rattle.p4x_cmd.specs.Runs.{default_bound}
+use Rattle.command_words.specs.Words.{default_passes}
 use Rattle.carry_examples.specs.declared.plain.Leaving.{Leaving}
 
 -- the widths of a header: whole octets in all, each field of at most 128 bits
@@ -28,4 +28,4 @@ sent_of l = record { arrival = l.arrival; port = l.port; octets = l.octets }
 abbrev pub IsRun14 : List ℕ → ℕ → List (List ℕ) → List Leaving → Type 0
 IsRun14 widths port packets leaving =
     (p : OneTable14) (arrivals : List Arrival) → IsProgram widths port p → map (λ a. a.octets) arrivals ≡ packets
-    → (Run14 p (no_entries (signature14 p)) default_bound arrivals).sent ≡ map sent_of leaving
+    → (Run14 p (no_entries (signature14 p)) default_passes arrivals).sent ≡ map sent_of leaving

@@ -48,6 +48,16 @@ const WORDS: &[u8] = b"0|carry p e c --text t --sent s --report r --ports o
 2|carry p e c --text t --text s --report r
 2|carry p e c --text t --sent t --report r
 2|carry p e c --text t --sent s --report ''
+0|carry p e c --passes 1 --text t --sent s --report r
+0|carry p e c --text t --sent s --report r --passes 65536
+0|carry p e c --text t --sent s --passes 0000000004 --report r
+2|carry p e c --text t --sent s --report r --passes 0
+2|carry p e c --text t --sent s --report r --passes 65537
+2|carry p e c --text t --sent s --report r --passes 00000000004
+2|carry p e c --text t --sent s --report r --passes 0x4
+2|carry p e c --text t --sent s --report r --passes ''
+2|carry p e c --text t --sent s --report r --passes 4 --passes 4
+2|carry p e c --text t --sent s --report r --rule sequential
 1|carry none e c --text t --sent s --report r
 1|carry p none c --text t --sent s --report r
 !|carry p e none --text t --sent s --report r";

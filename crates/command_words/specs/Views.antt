@@ -1,9 +1,10 @@
 -- How contracts see the commands of the code.
 use Rattle.std.specs.Prelude.{option_map}
 use Rattle.command_words.specs.declared.command.CarryNames.{CarryNames}
+use Rattle.command_words.specs.declared.command.Run14Names.{Run14Names}
 use Rattle.command_words.specs.declared.command.Command.{Command as Read}
 use Rattle.command_words.specs.declared.command.Command.TheVariants.{Carry, Check, Order}
-use Rattle.command_words.specs.Words.{CarryFiles, Command, carry, check, order}
+use Rattle.command_words.specs.Words.{CarryFiles, Run14Files, Command, carry, check, order}
 
 -- the files that names are of
 abbrev pub files_of : CarryNames → CarryFiles
@@ -15,6 +16,19 @@ files_of n = record {
   text = n.text.now;
   sent = n.sent.now;
   report = n.report.now;
+  passes = n.passes;
+}
+
+abbrev pub run14_files_of : Run14Names → Run14Files
+run14_files_of n = record {
+  program = n.program.now;
+  entries = n.entries.now;
+  capture = n.capture.now;
+  ports = option_map (λ name. name.now) n.ports;
+  sent = n.sent.now;
+  report = n.report.now;
+  rule = n.rule;
+  passes = n.passes;
 }
 
 -- the command that was read

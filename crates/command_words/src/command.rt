@@ -1,11 +1,14 @@
 // The commands with the files that they name.
 ghost use Rattle.std.specs.Prelude.{◌≡◌, true, [], ◌∷◌, map, option_to_list};
+ghost use Rattle.fabric.specs.Numbers.{IsBound};
 ghost use Rattle.command_words.specs.Apart.{are_apart};
+
+use p414_ast::Rule14;
 
 /// A command with its names and options.
 #[derive(Clone, Copy, Drop)]
 pub enum Command<'a> {
-    /// `carry PROGRAM ENTRIES CAPTURE --text F --sent F --report F [--ports F]`.
+    /// `carry PROGRAM ENTRIES CAPTURE --text F --sent F --report F [--ports F] [--passes N]`.
     Carry(CarryNames<'a>),
     /// `check PROGRAM`.
     Check(&'a str),
@@ -13,7 +16,7 @@ pub enum Command<'a> {
     Order(&'a str),
 }
 
-/// The files that `carry` names. No output is another output or an input.
+/// The files that `carry` names, and the bound on passes. No output is another output or an input.
 #[derive(Clone, Copy, Drop)]
 pub struct CarryNames<'a> {
     /// The P4_14 program.
@@ -30,5 +33,31 @@ pub struct CarryNames<'a> {
     pub sent: &'a str,
     /// The report.
     pub report: &'a str,
+    /// How many passes a packet and all that comes of it may make, from 1 to 65,536.
+    pub passes: u32,
+    ghost bound: { IsBound passes },
     ghost apart: { are_apart (program.now ∷ entries.now ∷ capture.now ∷ map (λ name. name.now) (option_to_list ports)) (text.now ∷ sent.now ∷ report.now ∷ []) ≡ true },
+}
+
+/// The files that `run14` names, the rule of actions and the bound on passes. No output is another output or an input.
+#[derive(Clone, Copy, Drop)]
+pub struct Run14Names<'a> {
+    /// The P4_14 program.
+    pub program: &'a str,
+    /// The entries file.
+    pub entries: &'a str,
+    /// The capture of the packets that arrive.
+    pub capture: &'a str,
+    /// The ports that they arrive on, where these are named.
+    pub ports: Option<&'a str>,
+    /// The capture of the packets that are sent.
+    pub sent: &'a str,
+    /// The report.
+    pub report: &'a str,
+    /// How the primitives of an action act on each other.
+    pub rule: Rule14,
+    /// How many passes a packet and all that comes of it may make, from 1 to 65,536.
+    pub passes: u32,
+    ghost bound: { IsBound passes },
+    ghost apart: { are_apart (program.now ∷ entries.now ∷ capture.now ∷ map (λ name. name.now) (option_to_list ports)) (sent.now ∷ report.now ∷ []) ≡ true },
 }

@@ -1,12 +1,16 @@
 // The forms of the commands.
 ghost use Rattle.std.specs.Prelude.{◌≡◌, [], ◌∷◌, map, string_bytes, option_map, option_to_list, Some};
+ghost use Rattle.fabric.specs.Numbers.{IsBound};
 ghost use Rattle.command_words.specs.Apart.{are_apart, AreApart};
-ghost use Rattle.command_words.specs.Words.{Command as Called, inputs_of, outputs_of, is_name, is_value, are_ports, carry_with, carry_form, named, program_form, form};
-ghost use Rattle.command_words.specs.Views.{files_of, command_of};
+ghost use Rattle.command_words.specs.Words.{Command as Called, inputs_of, outputs_of, is_name, is_value, are_ports, are_inputs, carry_with, carry_found, carry_form, run14_with, run14_found, run14_form, named, program_form, form};
+ghost use Rattle.command_words.specs.Views.{files_of, run14_files_of, command_of};
+ghost use Rattle.command_words.specs.internal.Found.{options_of};
 
 use crate::apart::are_apart;
-use crate::command::{CarryNames, Command};
-use crate::options::read_options;
+use crate::command::{CarryNames, Command, Run14Names};
+use crate::options::{Found, read_options};
+use crate::values::{read_passes, read_rule};
+use p414_ast::Rule14;
 
 fn is_name(word: &str) -> bool
     ensures { result ≡ is_name word.now }
@@ -43,11 +47,20 @@ struct Inputs<'a> {
     ports: Option<&'a str>,
 }
 
-// Whether the outputs are other files than the inputs and than each other.
-fn are_carry_apart(inputs: Inputs<'_>, text: &str, sent: &str, report: &str) -> bool
-    ensures { result ≡ are_apart (inputs.entry.program.now ∷ inputs.entry.entries.now ∷ inputs.entry.capture.now ∷ map (λ name. name.now) (option_to_list inputs.entry.ports)) (text.now ∷ sent.now ∷ report.now ∷ []) }
+// Whether each of them has a name.
+fn are_inputs(inputs: Inputs<'_>) -> bool
+    ensures { result ≡ are_inputs inputs.entry.program.now inputs.entry.entries.now inputs.entry.capture.now (option_map (λ name. name.now) inputs.entry.ports) }
 {
-    let outputs = [text, sent, report];
+    is_name(inputs.program)
+        && is_name(inputs.entries)
+        && is_name(inputs.capture)
+        && are_ports(inputs.ports)
+}
+
+// Whether the outputs are other files than the inputs and than each other.
+fn are_apart_from(inputs: Inputs<'_>, outputs: &[&str]) -> bool
+    ensures { result ≡ are_apart (inputs.entry.program.now ∷ inputs.entry.entries.now ∷ inputs.entry.capture.now ∷ map (λ name. name.now) (option_to_list inputs.entry.ports)) (map (λ name. name.now) outputs.now) }
+{
     let Inputs {
         program,
         entries,
@@ -55,28 +68,24 @@ fn are_carry_apart(inputs: Inputs<'_>, text: &str, sent: &str, report: &str) -> 
         ports,
     } = inputs;
     match ports {
-        Some(ports) => are_apart(&[program, entries, capture, ports], &outputs),
-        None => are_apart(&[program, entries, capture], &outputs),
+        Some(ports) => are_apart(&[program, entries, capture, ports], outputs),
+        None => are_apart(&[program, entries, capture], outputs),
     }
 }
 
-// The names, where they are names of files that may stand together.
+// The names of `carry`, where they are names of files that may stand together.
 fn carry_with<'a>(
     inputs: Inputs<'a>,
+    passes: u32,
     text: &'a str,
     sent: &'a str,
     report: &'a str,
 ) -> Option<CarryNames<'a>>
-    ensures { option_map files_of result ≡ carry_with inputs.entry.program.now inputs.entry.entries.now inputs.entry.capture.now (option_map (λ name. name.now) inputs.entry.ports) (Some text.now) (Some sent.now) (Some report.now) }
+    requires { IsBound passes }
+    ensures { option_map files_of result ≡ carry_with inputs.entry.program.now inputs.entry.entries.now inputs.entry.capture.now (option_map (λ name. name.now) inputs.entry.ports) passes text.now sent.now report.now }
 {
-    let named = is_name(inputs.program)
-        && is_name(inputs.entries)
-        && is_name(inputs.capture)
-        && are_ports(inputs.ports)
-        && is_value(text)
-        && is_value(sent)
-        && is_value(report);
-    if named && are_carry_apart(inputs, text, sent, report) {
+    let named = are_inputs(inputs) && is_value(text) && is_value(sent) && is_value(report);
+    if named && are_apart_from(inputs, &[text, sent, report]) {
         Some(CarryNames {
             program: inputs.program,
             entries: inputs.entries,
@@ -85,10 +94,41 @@ fn carry_with<'a>(
             text,
             sent,
             report,
+            passes,
         })
     } else {
         None
     }
+}
+
+// Those by the options that were found, where these are options of `carry` and name all outputs.
+fn carry_found<'a>(
+    program: &'a str,
+    entries: &'a str,
+    capture: &'a str,
+    found: Found<'a>,
+) -> Option<CarryNames<'a>>
+    ensures { option_map files_of result ≡ carry_found program.now entries.now capture.now (options_of found.entry) }
+{
+    let Found {
+        text,
+        sent,
+        report,
+        ports,
+        rule,
+        passes,
+    } = found;
+    let None = rule else {
+        return None;
+    };
+    let passes = read_passes(passes)?;
+    let inputs = Inputs {
+        program,
+        entries,
+        capture,
+        ports,
+    };
+    carry_with(inputs, passes, text?, sent?, report?)
 }
 
 /// The files that the words behind `carry` name; `None` exactly where they are no form of it.
@@ -99,13 +139,79 @@ fn read_carry(words: &[String]) -> Option<CarryNames<'_>>
         return None;
     };
     let found = read_options(options)?;
-    let inputs = Inputs {
-        program: program.as_str(),
-        entries: entries.as_str(),
-        capture: capture.as_str(),
-        ports: found.ports,
+    carry_found(program.as_str(), entries.as_str(), capture.as_str(), found)
+}
+
+// The names of `run14`, where they are names of files that may stand together.
+fn run14_with<'a>(
+    inputs: Inputs<'a>,
+    rule: Rule14,
+    passes: u32,
+    sent: &'a str,
+    report: &'a str,
+) -> Option<Run14Names<'a>>
+    requires { IsBound passes }
+    ensures { option_map run14_files_of result ≡ run14_with inputs.entry.program.now inputs.entry.entries.now inputs.entry.capture.now (option_map (λ name. name.now) inputs.entry.ports) rule passes sent.now report.now }
+{
+    let named = are_inputs(inputs) && is_value(sent) && is_value(report);
+    if named && are_apart_from(inputs, &[sent, report]) {
+        Some(Run14Names {
+            program: inputs.program,
+            entries: inputs.entries,
+            capture: inputs.capture,
+            ports: inputs.ports,
+            sent,
+            report,
+            rule,
+            passes,
+        })
+    } else {
+        None
+    }
+}
+
+// Those by the options that were found, where these are options of `run14` and name both outputs.
+fn run14_found<'a>(
+    program: &'a str,
+    entries: &'a str,
+    capture: &'a str,
+    found: Found<'a>,
+) -> Option<Run14Names<'a>>
+    ensures { option_map run14_files_of result ≡ run14_found program.now entries.now capture.now (options_of found.entry) }
+{
+    let Found {
+        text,
+        sent,
+        report,
+        ports,
+        rule,
+        passes,
+    } = found;
+    let None = text else {
+        return None;
     };
-    carry_with(inputs, found.text?, found.sent?, found.report?)
+    let rule = read_rule(rule)?;
+    let passes = read_passes(passes)?;
+    let inputs = Inputs {
+        program,
+        entries,
+        capture,
+        ports,
+    };
+    run14_with(inputs, rule, passes, sent?, report?)
+}
+
+/// The files that the words behind `run14` name, with the rule of actions and the bound on passes; `None` exactly where they are no form of
+/// it: `PROGRAM ENTRIES CAPTURE --sent F --report F [--ports F] [--rule sequential|parallel] [--passes N]`, the options in any order. Its
+/// outputs are other files than its inputs and than each other.
+pub fn read_run14(words: &[String]) -> Option<Run14Names<'_>>
+    ensures { option_map run14_files_of result ≡ run14_form (map string_bytes words.now) }
+{
+    let [program, entries, capture, options @ ..] = words else {
+        return None;
+    };
+    let found = read_options(options)?;
+    run14_found(program.as_str(), entries.as_str(), capture.as_str(), found)
 }
 
 /// The file that the words behind `check` or `order` name; `None` exactly where they are no form of these: one name, and no more.

@@ -10,6 +10,8 @@ pub(crate) struct Found<'a> {
     pub(crate) sent: Option<&'a str>,
     pub(crate) report: Option<&'a str>,
     pub(crate) ports: Option<&'a str>,
+    pub(crate) rule: Option<&'a str>,
+    pub(crate) passes: Option<&'a str>,
 }
 
 // The value of an option that wasn't found before.
@@ -32,6 +34,8 @@ fn with_option<'a>(option: &str, value: &'a str, found: Found<'a>) -> Option<Fou
         "--sent" => options.sent = Some(once(found.sent, value)?),
         "--report" => options.report = Some(once(found.report, value)?),
         "--ports" => options.ports = Some(once(found.ports, value)?),
+        "--rule" => options.rule = Some(once(found.rule, value)?),
+        "--passes" => options.passes = Some(once(found.passes, value)?),
         _ => return None,
     }
     Some(options)
@@ -46,6 +50,8 @@ pub(crate) fn read_options(words: &[String]) -> Option<Found<'_>>
         sent: None,
         report: None,
         ports: None,
+        rule: None,
+        passes: None,
     };
     let mut rest = words;
     while let [option, value, behind @ ..] = rest {

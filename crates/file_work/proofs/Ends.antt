@@ -3,7 +3,7 @@ use Rattle.std.proofs.Common.{◌≡◌, ◌⊎◌, inl, inr, ℕ, List, Option,
 use Rattle.p4x_fault.specs.declared.Fault.{Fault as Refusal}
 use Rattle.file_work.specs.declared.stop.Limited.{Limited}
 use Rattle.file_work.specs.declared.stop.Stop.{Stop}
-use Rattle.file_work.specs.declared.stop.Stop.TheVariants.{Fault, Usage, Program, Judged, Entries, Refused, Limit, Memory}
+use Rattle.file_work.specs.declared.stop.Stop.TheVariants.{Fault, Usage, Program, Judged, Unfit, Refused, Limit, Memory}
 use Rattle.file_work.specs.Stops.{code_of, stop_code}
 use Rattle.file_work.specs.Works.{IsLoose}
 
@@ -27,7 +27,7 @@ not_done Fault is = omega arith
 not_done Usage is = omega arith
 not_done Program is = omega arith
 not_done (Judged fault) is = omega arith
-not_done Entries is = omega arith
+not_done (Unfit fault) is = omega arith
 not_done (Refused fault) is = omega arith
 not_done (Limit file) is = omega arith
 not_done Memory is = omega arith
@@ -39,7 +39,7 @@ is_fault (Err Fault) is = refl
 is_fault (Err Usage) is = absurd (omega arith)
 is_fault (Err Program) is = absurd (omega arith)
 is_fault (Err (Judged fault)) is = absurd (omega arith)
-is_fault (Err Entries) is = absurd (omega arith)
+is_fault (Err (Unfit fault)) is = absurd (omega arith)
 is_fault (Err (Refused fault)) is = absurd (omega arith)
 is_fault (Err (Limit file)) is = absurd (omega arith)
 is_fault (Err Memory) is = absurd (omega arith)
@@ -50,7 +50,7 @@ is_usage (Err Fault) is = absurd (omega arith)
 is_usage (Err Usage) is = refl
 is_usage (Err Program) is = absurd (omega arith)
 is_usage (Err (Judged fault)) is = absurd (omega arith)
-is_usage (Err Entries) is = absurd (omega arith)
+is_usage (Err (Unfit fault)) is = absurd (omega arith)
 is_usage (Err (Refused fault)) is = absurd (omega arith)
 is_usage (Err (Limit file)) is = absurd (omega arith)
 is_usage (Err Memory) is = absurd (omega arith)
@@ -65,21 +65,21 @@ is_program (Err Fault) is = absurd (omega arith)
 is_program (Err Usage) is = absurd (omega arith)
 is_program (Err Program) is = inl refl
 is_program (Err (Judged fault)) is = inr (fault, refl)
-is_program (Err Entries) is = absurd (omega arith)
+is_program (Err (Unfit fault)) is = absurd (omega arith)
 is_program (Err (Refused fault)) is = absurd (omega arith)
 is_program (Err (Limit file)) is = absurd (omega arith)
 is_program (Err Memory) is = absurd (omega arith)
 
-pub is_entries : (end : Result (List ℕ) Stop) → code_of end ≡ 4 → end ≡ Err Entries
-is_entries (Ok line) is = absurd (omega arith)
-is_entries (Err Fault) is = absurd (omega arith)
-is_entries (Err Usage) is = absurd (omega arith)
-is_entries (Err Program) is = absurd (omega arith)
-is_entries (Err (Judged fault)) is = absurd (omega arith)
-is_entries (Err Entries) is = refl
-is_entries (Err (Refused fault)) is = absurd (omega arith)
-is_entries (Err (Limit file)) is = absurd (omega arith)
-is_entries (Err Memory) is = absurd (omega arith)
+pub is_unfit : (end : Result (List ℕ) Stop) → code_of end ≡ 4 → (fault : Refusal) × (end ≡ Err (Unfit fault))
+is_unfit (Ok line) is = absurd (omega arith)
+is_unfit (Err Fault) is = absurd (omega arith)
+is_unfit (Err Usage) is = absurd (omega arith)
+is_unfit (Err Program) is = absurd (omega arith)
+is_unfit (Err (Judged fault)) is = absurd (omega arith)
+is_unfit (Err (Unfit fault)) is = (fault, refl)
+is_unfit (Err (Refused fault)) is = absurd (omega arith)
+is_unfit (Err (Limit file)) is = absurd (omega arith)
+is_unfit (Err Memory) is = absurd (omega arith)
 
 pub is_refused : (end : Result (List ℕ) Stop) → code_of end ≡ 5 → (fault : Refusal) × (end ≡ Err (Refused fault))
 is_refused (Ok line) is = absurd (omega arith)
@@ -87,7 +87,7 @@ is_refused (Err Fault) is = absurd (omega arith)
 is_refused (Err Usage) is = absurd (omega arith)
 is_refused (Err Program) is = absurd (omega arith)
 is_refused (Err (Judged fault)) is = absurd (omega arith)
-is_refused (Err Entries) is = absurd (omega arith)
+is_refused (Err (Unfit fault)) is = absurd (omega arith)
 is_refused (Err (Refused fault)) is = (fault, refl)
 is_refused (Err (Limit file)) is = absurd (omega arith)
 is_refused (Err Memory) is = absurd (omega arith)
@@ -98,7 +98,7 @@ is_limit (Err Fault) is = absurd (omega arith)
 is_limit (Err Usage) is = absurd (omega arith)
 is_limit (Err Program) is = absurd (omega arith)
 is_limit (Err (Judged fault)) is = absurd (omega arith)
-is_limit (Err Entries) is = absurd (omega arith)
+is_limit (Err (Unfit fault)) is = absurd (omega arith)
 is_limit (Err (Refused fault)) is = absurd (omega arith)
 is_limit (Err (Limit file)) is = (file, refl)
 is_limit (Err Memory) is = absurd (omega arith)

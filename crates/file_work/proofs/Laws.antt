@@ -6,7 +6,7 @@ use Rattle.p4x_io.specs.Files.{Says}
 use Rattle.file_work.specs.declared.stop.Stop.{Stop}
 use Rattle.file_work.specs.Clauses.{EndsAsDue, Fronts, AsDue}
 use Rattle.file_work.specs.Stops.{code_of, line_of}
-use Rattle.file_work.specs.Works.{Due, Leaves, AllExact, AllPart, IsExact, IsPart}
+use Rattle.file_work.specs.Works.{Due, Leaves, AllExact, AllPart, AllKept, IsExact, IsPart}
 use Rattle.file_work.proofs.Ends.{loose_code}
 
 -- what is exact is a front
@@ -71,3 +71,22 @@ module _ (outputs : List (List ℕ)) (due : Due → Type 0) (old new : DeskView)
         done none printed (inl exact) = record { what = exact.0; due_is = exact.1; end_is = exact.2; outs = exact.3; zero = none; printed = printed }
         done none printed (inr (inl kept)) = absurd (loose_not none (loose_code end kept.0))
         done none printed (inr (inr part)) = absurd (loose_not none (loose_code end part.0))
+
+-- What the files hold behind calls that only read is told from before these.
+module _ (old mid new : DeskView) (same : (name : List ℕ) → mid.told name ≡ old.told name) where
+  exact_since : (outs : List (List ℕ × Option (List ℕ))) → AllExact outs mid new → AllExact outs old new
+  exact_since [] exact = tt
+  exact_since (out ∷ outs) exact = (subst (λ (t : Option (Option (List ℕ))). IsExact t (new.told out.0) out.1) (same out.0) exact.0, exact_since outs exact.1)
+
+  part_since : (outs : List (List ℕ × Option (List ℕ))) → AllPart outs mid new → AllPart outs old new
+  part_since [] part = tt
+  part_since (out ∷ outs) part = (subst (λ (t : Option (Option (List ℕ))). IsPart t (new.told out.0) out.1) (same out.0) part.0, part_since outs part.1)
+
+  kept_since : (names : List (List ℕ)) → AllKept names mid new → AllKept names old new
+  kept_since [] kept = tt
+  kept_since (name ∷ names) kept = (kept.0 ∙ same name, kept_since names kept.1)
+
+  pub leaves_since : (outputs : List (List ℕ)) (due : Due → Type 0) (end : Result (List ℕ) Stop) → Leaves outputs due end mid new → Leaves outputs due end old new
+  leaves_since outputs due end (inl exact) = inl (exact.0, exact.1, exact.2, exact_since exact.0.outs exact.3)
+  leaves_since outputs due end (inr (inl kept)) = inr (inl (kept.0, kept_since outputs kept.1))
+  leaves_since outputs due end (inr (inr part)) = inr (inr (part.0, (part.1.0, part.1.1, part_since part.1.0.outs part.1.2)))

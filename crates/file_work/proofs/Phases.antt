@@ -1,8 +1,11 @@
 -- How the parts of the work that only read follow one another.
-use Rattle.std.proofs.Common.{◌≡◌, inl, inr, ℕ, List, [], ◌∷◌, Option, Result, Err, ◌∙◌}
+use Rattle.std.proofs.Common.{◌≡◌, inl, inr, ℕ, List, [], ◌∷◌, Option, Result, Ok, Err, ◌∙◌, ap}
+use Rattle.std.specs.Global.{Vec}
 use Rattle.p4x_io.specs.Desk.{DeskView, Moves}
 use Rattle.p4x_io.proofs.Desks.{rose_since}
 use Rattle.file_work.specs.declared.stop.Stop.{Stop}
+use Rattle.file_work.specs.declared.stop.Stop.TheVariants.{Fault, Usage}
+use Rattle.file_work.specs.Phases.{line_view}
 use Rattle.file_work.specs.Works.{Blames, Tells, ReadsRose}
 
 -- what the desk tells stays, where nothing is written
@@ -25,3 +28,11 @@ blames_as {A} {B} stop P Q so blames = record {
   where
     again : (other : Stop) → ◌≡◌ {A = Result B Stop} (Err stop) (Err other) → ◌≡◌ {A = Result A Stop} (Err stop) (Err other)
     again other is = cc
+
+-- the same of a line as octets
+pub blames_view : (result : Result (Vec ℕ) Stop) (cause : Type 0) → Blames result cause → Blames (line_view result) cause
+blames_view (Ok line) cause blames = record { fault = λ is. absurd (cc is); usage = λ is. cc is }
+blames_view (Err stop) cause blames = record {
+  fault = λ is. let same : stop ≡ Fault = cc is in blames.fault (ap (λ (s : Stop). Err s) same);
+  usage = λ is. let same : stop ≡ Usage = cc is in blames.usage (ap (λ (s : Stop). Err s) same);
+}

@@ -14,6 +14,11 @@ line_view (Err e) = Err e
 abbrev pub Loosely : Stop → Type 0 → Type 0
 Loosely stop P = (stop ≡ Fault) ⊎ (stop ≡ Memory) ⊎ P
 
+-- but for a fault or want of memory this holds
+abbrev pub Unless : {A : Type 0} → Type 0 → Result A Stop → Type 0
+Unless P (Ok done) = P
+Unless P (Err stop) = Loosely stop P
+
 -- The work reads some files first. Where it is done, they were taken. Where it stops, it stops at them, or they were
 -- taken and the stop is none that they alone come to; or it is a fault or want of memory.
 abbrev pub StopsOrGoesOn : {A : Type 0} → (Stop → Type 0) → Type 0 → (Stop → Type 0) → Result A Stop → Type 0

@@ -2,9 +2,9 @@
 use Rattle.std.specs.Prelude.{ℕ, List, codes, Result, Ok, Err}
 use Rattle.p4x_fault.specs.Fault.{refusal_line}
 use Rattle.file_work.specs.declared.stop.Limited.{Limited}
-use Rattle.file_work.specs.declared.stop.Limited.TheVariants.{Program as TheProgram, Ports, Capture}
+use Rattle.file_work.specs.declared.stop.Limited.TheVariants.{Program as TheProgram, Entries, Ports, Capture}
 use Rattle.file_work.specs.declared.stop.Stop.{Stop}
-use Rattle.file_work.specs.declared.stop.Stop.TheVariants.{Fault, Usage, Program, Judged, Entries, Refused, Limit, Memory}
+use Rattle.file_work.specs.declared.stop.Stop.TheVariants.{Fault, Usage, Program, Judged, Unfit, Refused, Limit, Memory}
 
 -- the status
 abbrev pub stop_code : Stop → ℕ
@@ -12,7 +12,7 @@ stop_code Fault = 1
 stop_code Usage = 2
 stop_code Program = 3
 stop_code (Judged fault) = 3
-stop_code Entries = 4
+stop_code (Unfit fault) = 4
 stop_code (Refused fault) = 5
 stop_code (Limit file) = 6
 stop_code Memory = 7
@@ -20,6 +20,7 @@ stop_code Memory = 7
 -- the line of a file that is over its limit
 abbrev pub limit_line : Limited → List ℕ
 limit_line TheProgram = codes "limit program\n"
+limit_line Entries = codes "limit entries\n"
 limit_line Ports = codes "limit ports\n"
 limit_line Capture = codes "limit capture\n"
 
@@ -29,7 +30,7 @@ stop_line Fault = codes "fault\n"
 stop_line Usage = codes "usage\n"
 stop_line Program = codes "refused C25\n"
 stop_line (Judged fault) = refusal_line fault
-stop_line Entries = codes "refused E1 at 1:1\n"
+stop_line (Unfit fault) = refusal_line fault
 stop_line (Refused fault) = refusal_line fault
 stop_line (Limit file) = limit_line file
 stop_line Memory = codes "no memory\n"

@@ -15,6 +15,8 @@ use p4x_io::{Failed, Sink, say};
 pub enum Limited {
     /// The program.
     Program,
+    /// The entries file.
+    Entries,
     /// The ports file.
     Ports,
     /// The capture.
@@ -32,8 +34,8 @@ pub enum Stop {
     Program,
     /// The program breaks an L, S or C rule: status 3.
     Judged(Fault),
-    /// The entries aren't such as are taken: status 4.
-    Entries,
+    /// The entries break an E rule, or aren't such as are taken: status 4.
+    Unfit(Fault),
     /// The ports break a P rule, or the capture a K rule: status 5.
     Refused(Fault),
     /// A file has more octets than its limit: status 6.
@@ -78,7 +80,7 @@ fn say_stop<K: Sink>(out: &mut K, stop: Stop) -> u8
         Stop::Usage => say(out, b"usage\n", 2),
         Stop::Program => say_refusal(out, Rule::C(25), None, 3),
         Stop::Judged(fault) => say_refusal(out, fault.rule, fault.place, 3),
-        Stop::Entries => say_refusal(out, Rule::E(1), Some(START), 4),
+        Stop::Unfit(fault) => say_refusal(out, fault.rule, fault.place, 4),
         Stop::Refused(fault) => say_refusal(out, fault.rule, fault.place, 5),
         Stop::Limit(file) => say_limit(out, file),
         Stop::Memory => say(out, b"no memory\n", 7),
@@ -91,13 +93,11 @@ fn say_limit<K: Sink>(out: &mut K, file: Limited) -> u8
 {
     match file {
         Limited::Program => say(out, b"limit program\n", 6),
+        Limited::Entries => say(out, b"limit entries\n", 6),
         Limited::Ports => say(out, b"limit ports\n", 6),
         Limited::Capture => say(out, b"limit capture\n", 6),
     }
 }
-
-/// The first octet of a file.
-const START: Place = Place { line: 1, column: 1 };
 
 /// Prints the line of a refusal, and gives the status that comes of it.
 fn say_refusal<K: Sink>(out: &mut K, rule: Rule, place: Option<Place>, status: u8) -> u8

@@ -1,5 +1,5 @@
 -- A text is sought among the reserved words that begin with its first octet alone.
-use Rattle.std.proofs.Common.{◌≡◌, ℕ, arith, Bool, true, false, true≢false, not, List, [], ◌∷◌, Option, Some, None, cond, is_some, nat_eq, slice_index, bytes_eq, filter, refl, sym, ap, ◌∙◌}
+use Rattle.std.proofs.Common.{◌≡◌, ℕ, arith, Bool, true, false, true≢false, List, [], ◌∷◌, is_some, nat_eq, slice_index, bytes_eq, filter, refl, sym, ap, ◌∙◌}
 use Rattle.std.proofs.lemmas.Bool.Decides.{nat_tests}
 use Rattle.std.proofs.lemmas.Slice.Eq.{bytes_eq-Decides}
 use Rattle.p416_lexemes.specs.declared.keyword.Keyword16.{Keyword16}

@@ -49,7 +49,8 @@ impl Bodies {
     pub fn clear(&mut self, alloc: Global)
         ensures { self.new ≡ no_bodies }
     {
-        *self = Bodies::new(alloc);
+        self.forest.clear(alloc);
+        self.is_open = false;
     }
 
     /// Whether the newest expression is a call.

@@ -1,7 +1,6 @@
 // Which row of the operators is taken: what follows an operator depends on how tightly it binds.
-ghost use Rattle.std.specs.Prelude.{◌≡◌, ◌<◌, length, map, Some, None, IfOk, slice_get};
+ghost use Rattle.std.specs.Prelude.{◌≡◌, ◌<◌, length, Some, None, IfOk, slice_get};
 ghost use Rattle.p416_ast.specs.Tokens.{Seen16};
-ghost use Rattle.p416_reader.specs.internal.Lexemes.{seen_of};
 ghost use Rattle.p416_reader.specs.internal.Classes.{infix_of};
 ghost use Rattle.p416_reader.specs.internal.Rows as specs;
 ghost use Rattle.p416_reader.specs.internal.Coded.{ChoosesLine, OperatorLines, coded};
@@ -10,7 +9,6 @@ use crate::operators::{binary_power, infix_of};
 use crate::reading::Reading;
 use crate::rows::{COLON, GREATER, Sym};
 use crate::symbols::{Action, BodyAction, BodyWord, Class, Word};
-use crate::token::token_at;
 use p4x_bits::OutOfMemory;
 use p416_ast::BinaryOperator;
 use predictive_parser::{Alternative, Stack, Symbol, choose_first};
@@ -30,8 +28,8 @@ pub fn choose_coded(
     place: usize,
     stack: &mut Stack<Class, Action, Word>,
 ) -> Result<Option<Class>, OutOfMemory>
-    requires { place < length reading.now.views.now }
-    ensures chooses { IfOk result (λ class. ChoosesLine (map seen_of reading.now.views.now) place reading.now.built (coded word) more.now class stack.old stack.new) }
+    requires { place < length reading.now.seen }
+    ensures chooses { IfOk result (λ class. ChoosesLine reading.now.seen place reading.now.built (coded word) more.now class stack.old stack.new) }
     ensures none { IfOk result (λ class. class ≡ None → stack.new ≡ stack.old) }
 {
     match word {
@@ -52,11 +50,11 @@ fn choose_operator(
     place: usize,
     stack: &mut Stack<Class, Action, Word>,
 ) -> Result<Option<Class>, OutOfMemory>
-    requires { place < length reading.now.views.now }
-    ensures chooses { IfOk result (λ class. ChoosesLine (map seen_of reading.now.views.now) place reading.now.built (OperatorLines least most) more.now class stack.old stack.new) }
+    requires { place < length reading.now.seen }
+    ensures chooses { IfOk result (λ class. ChoosesLine reading.now.seen place reading.now.built (OperatorLines least most) more.now class stack.old stack.new) }
     ensures none { IfOk result (λ class. class ≡ None → stack.new ≡ stack.old) }
 {
-    match infix_of(token_at(reading.views, place)) {
+    match infix_of(reading.seen.token_at(place)) {
         None => choose_row(reading, least, most, &[], more, place, stack),
         Some(BinaryOperator::ShiftRight) => {
             let right = Symbol::Word(Word::Body(BodyWord::Operators(9, 11)));
@@ -86,9 +84,9 @@ fn choose_row(
     place: usize,
     stack: &mut Stack<Class, Action, Word>,
 ) -> Result<Option<Class>, OutOfMemory>
-    requires { place < length reading.now.views.now }
-    ensures chooses { (token : Seen16) → slice_get (map seen_of reading.now.views.now) place ≡ Some token → following.now ≡ specs.infix_rest least (infix_of token)
-        → IfOk result (λ class. ChoosesLine (map seen_of reading.now.views.now) place reading.now.built (OperatorLines least most) more.now class stack.old stack.new) }
+    requires { place < length reading.now.seen }
+    ensures chooses { (token : Seen16) → slice_get reading.now.seen place ≡ Some token → following.now ≡ specs.infix_rest least (infix_of token)
+        → IfOk result (λ class. ChoosesLine reading.now.seen place reading.now.built (OperatorLines least most) more.now class stack.old stack.new) }
     ensures none { IfOk result (λ class. class ≡ None → stack.new ≡ stack.old) }
 {
     let rows = [

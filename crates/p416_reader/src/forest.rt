@@ -308,13 +308,30 @@ impl Forest {
         type_at(alloc, &self.nodes, place)
     }
 
+    /// Takes all nodes out, and lets the stacks of places go empty.
+    fn take_nodes(&mut self, alloc: Global) -> Nodes
+        ensures nodes { result ≡ self.old.nodes }
+        ensures rest { self.new.trees ≡ record { exps = []; stmts = [] } }
+    {
+        self.exps.clear();
+        self.stmts.clear();
+        mem::replace(&mut self.nodes, Nodes::new(alloc))
+    }
+
+    /// Lets all trees go. It takes no memory, and what the stacks of places have stays theirs.
+    pub fn clear(&mut self, alloc: Global)
+        ensures { self.new.trees ≡ record { exps = []; stmts = [] } }
+    {
+        drop(self.take_nodes(alloc));
+    }
+
     /// Takes out the newest expression. All nodes go into it.
     pub fn take_out_exp(&mut self, alloc: Global) -> Result<Exp, OutOfMemory>
         ensures exp { IfOk result (λ exp. exp ≡ first_exp self.old.trees.exps) }
         ensures rest { OnOk result (self.new.trees ≡ record { exps = []; stmts = [] }) }
     {
         let place = self.take_exp()?;
-        let Forest { nodes, .. } = mem::replace(self, Forest::new(alloc));
+        let nodes = self.take_nodes(alloc);
         Ok(Exp::new(nodes, place))
     }
 
@@ -324,7 +341,7 @@ impl Forest {
         ensures rest { OnOk result (self.new.trees ≡ record { exps = []; stmts = [] }) }
     {
         let place = self.take_stmt()?;
-        let Forest { nodes, .. } = mem::replace(self, Forest::new(alloc));
+        let nodes = self.take_nodes(alloc);
         Ok(Block16::new(nodes, place))
     }
 }

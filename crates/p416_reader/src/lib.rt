@@ -12,6 +12,7 @@ mod parts;
 mod read;
 mod reading;
 mod rows;
+mod seen;
 mod states;
 mod symbols;
 mod token;

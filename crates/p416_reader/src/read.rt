@@ -1,5 +1,5 @@
 // The reading of a text.
-ghost use Rattle.std.specs.Prelude.{◌≡◌, map, Ok, Err, IfOk, IsTrue};
+ghost use Rattle.std.specs.Prelude.{◌≡◌, Ok, Err, IfOk, IsTrue};
 ghost use Rattle.p4x_fault.specs.declared.Fault.{Fault};
 ghost use Rattle.p416_ast.specs.declared.program.Syntax16.{Syntax16};
 ghost use Rattle.p416_ast.specs.Spelt.{is_spelt16};
@@ -11,14 +11,13 @@ ghost use Rattle.p416_reader.specs.Seen.{seen16};
 ghost use Rattle.p416_reader.specs.declared.symbols.Word.TheVariants as word;
 ghost use Rattle.p416_reader.specs.declared.symbols.DeclWord.TheVariants as decl_word;
 ghost use Rattle.p416_reader.specs.internal.Built.{nothing};
-ghost use Rattle.p416_reader.specs.internal.Lexemes.{seen_of};
 ghost use Rattle.p416_reader.specs.internal.Rows.{grammar16};
 ghost use Rattle.p416_reader.specs.internal.Machine.{HoldsProgram, IsRead16};
 
 use crate::built::Built;
 use crate::reading::Reading;
+use crate::seen::SeenTokens;
 use crate::symbols::{DeclWord, Word};
-use crate::token::{TokenView, views_of};
 use p416_ast::Syntax16;
 use p416_tok::{Token16, tokens16};
 use std::alloc::Global;
@@ -58,22 +57,9 @@ fn read_text(alloc: Global, text: &[u8]) -> Result<Syntax16, ReadError>
 fn parse_tokens(alloc: Global, text: &[u8], tokens: &[Token16]) -> Result<Syntax16, ReadError>
     ensures { IsParsed text.now tokens.now (parse grammar16 (word.Decl decl_word.Program) nothing (seen16 text.now tokens.now)) result HoldsProgram }
 {
-    let views = views_of(alloc, text, tokens)?;
-    parse_views(alloc, text, tokens, views.as_slice())
-}
-
-/// The same, where the tokens are these as the grammar sees them.
-fn parse_views(
-    alloc: Global,
-    text: &[u8],
-    tokens: &[Token16],
-    views: &[TokenView<'_>],
-) -> Result<Syntax16, ReadError>
-    ensures { IsParsed text.now tokens.now (parse grammar16 (word.Decl decl_word.Program) nothing (map seen_of views.now)) result HoldsProgram }
-{
     let mut reading = Reading {
         alloc,
-        views,
+        seen: SeenTokens::new(text, tokens),
         built: Built::new(alloc),
     };
     let syntax = parse_program(alloc, &mut reading, text, tokens);
@@ -89,7 +75,7 @@ fn parse_program(
     tokens: &[Token16],
 ) -> Result<Syntax16, ReadError>
     requires { reading.old.built ≡ nothing }
-    ensures { IsParsed text.now tokens.now (parse grammar16 (word.Decl decl_word.Program) nothing (map seen_of reading.old.views.now)) result HoldsProgram }
+    ensures { IsParsed text.now tokens.now (parse grammar16 (word.Decl decl_word.Program) nothing reading.old.seen) result HoldsProgram }
 {
     parse_text(alloc, reading, Word::Decl(DeclWord::Program), text, tokens)?;
     let decls = reading.built.take_decls(alloc);

@@ -2,15 +2,14 @@
 ghost use Rattle.p416_reader.specs.declared.built.Built as built;
 ghost use Rattle.p416_reader.specs.internal.Rows.{grammar16};
 ghost use Rattle.p416_reader.specs.internal.Coded.{coded};
-ghost use Rattle.std.specs.Prelude.{◌≡◌, ◌<◌, length, map, None, IfOk};
+ghost use Rattle.std.specs.Prelude.{◌≡◌, ◌<◌, length, None, IfOk};
 ghost use Rattle.p416_ast.specs.Tokens.{Seen16};
-ghost use Rattle.p416_reader.specs.internal.Lexemes.{seen_of};
 
 use crate::built::Built;
 use crate::choose_operator::choose_coded;
 use crate::rows::{Sym, rows_of};
+use crate::seen::SeenTokens;
 use crate::symbols::{Action, Class, Word};
-use crate::token::{TokenView, token_at};
 use p4x_bits::OutOfMemory;
 use predictive_parser::{Builder, Lookahead, Stack, WordRows};
 use std::alloc::Global;
@@ -19,7 +18,7 @@ use std::alloc::Global;
 #[derive(Drop)]
 pub struct Reading<'t> {
     pub alloc: Global,
-    pub views: &'t [TokenView<'t>],
+    pub seen: SeenTokens<'t>,
     pub built: Built,
 }
 
@@ -38,23 +37,25 @@ impl Lookahead for Reading<'_> {
 
     ghost coded = { coded };
 
-    ghost tokens = { λ reading. map seen_of reading.views.now };
+    ghost tokens = { λ reading. reading.seen };
 
     ghost held = { λ reading. reading.built };
 
     fn count(&self) -> usize {
-        self.views.len()
+        self.seen.len()
     }
 
     fn accepts(&self, class: Class, place: usize) -> bool {
-        self.built.accepts(class, token_at(self.views, place))
+        self.built.accepts(class, self.seen.token_at(place))
     }
 }
 
 impl Builder for Reading<'_> {
     fn shift(&mut self, class: Class, place: usize) -> Result<(), OutOfMemory> {
-        let token = token_at(self.views, place);
-        self.built.shift(self.alloc, class, token)
+        let token = self.seen.token_at(place);
+        self.built.shift(self.alloc, class, token)?;
+        self.seen.go_behind(place);
+        Ok(())
     }
 
     fn put(&mut self, action: Action) -> Result<(), OutOfMemory> {

@@ -283,31 +283,8 @@ fn known_text(name: Known) -> &'static [u8]
     }
 }
 
-/// The token at this place.
-pub fn token_at<'t>(views: &[TokenView<'t>], place: usize) -> TokenView<'t>
-    requires { place < length views.now }
-    ensures { slice_get (map seen_of views.now) place ≡ Some (seen_of result) }
-{
-    views[place]
-}
-
-/// All tokens of a text as the grammar sees them.
-pub fn views_of<'t>(
-    alloc: Global,
-    text: &'t [u8],
-    tokens: &'t [Token16],
-) -> Result<Vec<TokenView<'t>>, OutOfMemory>
-    ensures { IfOk result (λ views. map seen_of views.items ≡ seen16 text.now tokens.now) }
-{
-    let mut views = Vec::with_capacity(alloc, tokens.len())?;
-    for place in 0..tokens.len() {
-        views.push(view_of(text, tokens, place, &tokens[place]))?;
-    }
-    Ok(views)
-}
-
 /// The token that stands at this place, where it lies in the text.
-fn view_of<'t>(
+pub fn view_of<'t>(
     text: &'t [u8],
     tokens: &'t [Token16],
     place: usize,

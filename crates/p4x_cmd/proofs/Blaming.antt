@@ -1,12 +1,9 @@
 -- What a fault of the run over the capture is blamed on.
-use Rattle.std.proofs.Common.{◌⊎◌, inl, inr, ℕ, ◌≤◌, List, [], Result, Ok, Err, ◌≡◌, ap, arith}
-use Rattle.std.specs.Global.{Vec}
-use Rattle.file_work.specs.Phases.{line_view}
+use Rattle.std.proofs.Common.{◌⊎◌, inl, inr, ℕ, ◌≤◌, List, [], Result, arith}
 use Rattle.p4x_io.specs.Desk.{DeskView, Rose, Moves}
 use Rattle.p4x_io.proofs.Desks.{rose_since}
 use Rattle.command_words.specs.Words.{CarryFiles, carry_inputs, carry_outputs}
 use Rattle.file_work.specs.declared.stop.Stop.{Stop}
-use Rattle.file_work.specs.declared.stop.Stop.TheVariants.{Fault, Usage}
 use Rattle.file_work.specs.Works.{Blames, DeskRose}
 
 -- an own count that rose behind the calls in front
@@ -26,11 +23,3 @@ run_blames f old read begun new outs result first second blames = record { fault
     since (inl rose) = inl (inr (inr (inl (rose_since _ _ _ (reads f.capture) rose))))
     since (inr (inl rose)) = inr (inr (inl (rose_since _ _ _ (writes f.sent) rose)))
     since (inr (inr rose)) = inr (inr (inr (inl (rose_since _ _ _ (writes f.report) rose))))
-
--- the same of the line as octets
-pub blames_view : (result : Result (Vec ℕ) Stop) (cause : Type 0) → Blames result cause → Blames (line_view result) cause
-blames_view (Ok line) cause blames = record { fault = λ is. absurd (cc is); usage = λ is. cc is }
-blames_view (Err stop) cause blames = record {
-  fault = λ is. let same : stop ≡ Fault = cc is in blames.fault (ap (λ (s : Stop). Err s) same);
-  usage = λ is. let same : stop ≡ Usage = cc is in blames.usage (ap (λ (s : Stop). Err s) same);
-}

@@ -1,70 +1,60 @@
 -- What an outcome says of each status.
-use Rattle.std.proofs.Common.{◌≡◌, ◌⊎◌, inl, inr, ℕ, All, OnOk, List, Option, Some, None, Result, Ok, Err, refl, sym, ◌∙◌, ap, subst, arith}
+use Rattle.std.proofs.Common.{◌≡◌, ◌⊎◌, inl, inr, ℕ, All, OnOk, List, [], Option, Some, None, Result, Ok, Err, refl, sym, ◌∙◌, ap, subst, arith}
 use Rattle.p416_ast.specs.declared.program.Syntax16.{Syntax16}
 use Rattle.p4x_io.specs.Desk.{DeskView, SinkView, NoneIs, Rose, put, said}
 use Rattle.p4x_io.specs.Files.{Says}
-use Rattle.fabric.specs.Numbers.{IsArrival}
+use Rattle.fabric.specs.Numbers.{IsArrival, IsBound}
 use Rattle.fabric.specs.declared.packets.Arrival.{Arrival}
 use Rattle.match_core.specs.declared.signatures.Signature.{Signature}
 use Rattle.match_core.specs.Signatures.{IsSignature}
 use Rattle.command_words.specs.Words.{CarryFiles, Command, carry, check, order, carry_inputs, carry_outputs, inputs_of, outputs_of}
 use Rattle.file_work.specs.declared.stop.Stop.{Stop}
-use Rattle.file_work.specs.declared.stop.Stop.TheVariants.{Fault, Program, Judged, Entries}
+use Rattle.file_work.specs.declared.stop.Stop.TheVariants.{Fault, Program, Judged, Unfit}
 use Rattle.file_work.specs.Clauses.{Ended, OwnRose, AsDue}
 use Rattle.file_work.specs.Stops.{code_of, line_of}
 use Rattle.file_work.specs.Works.{Due, Tells, IsLoose, AllExact, AllKept}
-use Rattle.file_work.proofs.Ends.{is_fault, is_usage, is_program, is_entries, loose_code, not_done}
+use Rattle.file_work.proofs.Ends.{is_fault, is_usage, is_program, is_unfit, loose_code, not_done}
 use Rattle.file_work.proofs.Files.{put_told}
 use Rattle.file_work.proofs.Laws.{IsDone, left_fronts, left_ends, left_as_due, left_done}
+use Rattle.file_work.proofs.Loose.{comes_loose, first_loose, loose_or, loose_says, of_ok, not_loose}
 use Rattle.file_work.proofs.Order.{due_status}
 use Rattle.p414_one_table.specs.declared.program.OneTable14.{OneTable14}
 use Rattle.p4x_cmd.specs.Calls.{OnTold, OnForm, AreTold, Carried, Done, CarryStatuses, Statuses, AcceptsAll, Usages, CarryKept, Kept, CarryLeft, Left, FilesLeft, Translated, IsEnd, PacketsFit, CarryWorks, WorksFor, inputs_in, outputs_in, RefusesCapture, OverCapture}
 use Rattle.p4x_cmd.specs.Carries.{SameRuns}
-use Rattle.p4x_cmd.specs.Carry.{CarryDue, ComesOnce, Unless, Begins, KeepsInOrder, StopsBefore, Written, capture_reports, delivered, program_read}
+use Rattle.p4x_cmd.specs.Carry.{CarryDue, ComesOnce, carry_lines, carried_word, Begins, KeepsInOrder, StopsBefore, Written, capture_reports, delivered, program_read}
 use Rattle.p4x_cmd.specs.Entries.{no_entries}
 use Rattle.p4x_cmd.specs.Meaning14.{signature14}
 use Rattle.p4x_cmd.specs.Meaning16.{Run16, signature16}
-use Rattle.p4x_cmd.specs.Runs.{default_bound, this_run, this_run14}
-use Rattle.p4x_cmd.proofs.Captured.{Whole, whole_capture, empty_reports}
+use Rattle.p4x_cmd.specs.Runs.{this_run, this_run14}
+use Rattle.run_stream.proofs.Whole.{Whole, whole_capture, empty_reports}
 use Rattle.p4x_cmd.proofs.Filling.{no_entries_fit, signature_is}
 use Rattle.p4x_cmd.proofs.Judging.{program_first, entries_first, ports_first}
-use Rattle.p4x_cmd.proofs.ProgramCauses.{one_program, no_usage, program_ends, program_statuses, program_done, program_left}
+use Rattle.program_commands.proofs.Stops.{one_program}
+use Rattle.p4x_cmd.proofs.ProgramCauses.{no_usage, program_ends, program_statuses, program_done, program_left}
 use Rattle.program_commands.specs.Lines.{PrintsAccepted, PrintsOrder}
 use Rattle.program_commands.specs.Programs.{ReadsOnce}
-use Rattle.p4x_cmd.proofs.Statuses.{AllStatuses, KnownSo, due_ends, statuses_are, statuses_loose, comes_loose, first_loose, begins_not}
+use Rattle.p4x_cmd.proofs.Statuses.{AllStatuses, KnownSo, due_ends, statuses_are, statuses_loose, begins_not}
 
 begun_by : (f : CarryFiles) (files : List ℕ → Option (List ℕ)) → RefusesCapture f files ⊎ OverCapture f files → (p : OneTable14) × (ports : List ℕ) × Begins f files p ports
 begun_by f files (inl is) = (is.0, is.1, is.2)
 begun_by f files (inr is) = (is.0, is.1, is.2)
 
 -- the run of the written program over packets that come in is the run of the program of P4_14
-same_run : (p : OneTable14) (text : List ℕ) (s : Syntax16) → Written p text s → (arrivals : List Arrival) → All IsArrival arrivals → SameRuns (this_run14 p arrivals) (this_run s arrivals)
-same_run p text s written arrivals fit =
-    subst (λ (g : Signature). SameRuns (this_run14 p arrivals) (Run16 s (no_entries g) default_bound arrivals)) written.carries.signatures
-    (written.carries.runs (no_entries (signature14 p)) default_bound arrivals (no_entries_fit (signature14 p)) (omega arith, omega arith) fit)
+same_run : (p : OneTable14) (text : List ℕ) (s : Syntax16) → Written p text s → (bound : ℕ) → IsBound bound → (arrivals : List Arrival) → All IsArrival arrivals → SameRuns (this_run14 p bound arrivals) (this_run s bound arrivals)
+same_run p text s written bound bounded arrivals fit =
+    subst (λ (g : Signature). SameRuns (this_run14 p bound arrivals) (Run16 s (no_entries g) bound arrivals)) written.carries.signatures
+    (written.carries.runs (no_entries (signature14 p)) bound arrivals (no_entries_fit (signature14 p)) bounded fit)
 
--- but for a fault or want of memory this holds
-loose_or : (P : Type 0) (end : Result (List ℕ) Stop) → Unless P end → IsLoose end ⊎ P
-loose_or P (Ok line) holds = inr holds
-loose_or P (Err stop) (inl fault) = inl (inl (ap (λ x. Err x) fault))
-loose_or P (Err stop) (inr (inl memory)) = inl (inr (ap (λ x. Err x) memory))
-loose_or P (Err stop) (inr (inr holds)) = inr holds
-
-loose_says : (end : Result (List ℕ) Stop) (status : ℕ) (before after : SinkView) → IsLoose end → Says (line_of end) (code_of end) status before after → (status ≡ 1) ⊎ (status ≡ 7)
-loose_says end status before after loose says = elim says.said [
-  | inl whole ↦ elim (loose_code end loose) [ inl one ↦ inl (whole.0 ∙ one) | inr seven ↦ inr (whole.0 ∙ seven) ]
-  | inr cut ↦ inl cut.0
-]
-
-of_ok : (end : Result (List ℕ) Stop) (P : Type 0) → 0 ≡ code_of end → OnOk end P → P
-of_ok (Ok line) P zero holds = holds
-of_ok (Err stop) P zero holds = absurd (not_done stop zero)
+-- nothing comes of no packets
+no_run : (s : Syntax16) (bound : ℕ) → (this_run s bound []).sent ≡ []
+unfolding Run16
+no_run s bound = refl
 
 module _ (f : CarryFiles) (files : List ℕ → Option (List ℕ)) (old new : DeskView) where
   -- a run that was done, from what was due
-  carried : (told : Tells (carry_inputs f) old files) (made : AreTold (carry_outputs f) old) (before after : SinkView) (end : Result (List ℕ) Stop) → PacketsFit f old end
-      → OnOk end ((text : List ℕ) → old.told f.program ≡ Some (Some text) → ReadsOnce text) → IsDone (CarryDue f files) old new before after end → Carried f files new before after
-  carried told made before after end fit once d = by_due d.due_is
+  carry_done : (told : Tells (carry_inputs f) old files) (made : AreTold (carry_outputs f) old) (before after : SinkView) (end : Result (List ℕ) Stop) → PacketsFit f old end
+      → OnOk end ((text : List ℕ) → old.told f.program ≡ Some (Some text) → ReadsOnce text) → IsBound f.passes → IsDone (CarryDue f files) old new before after end → Carried f files new before after
+  carry_done told made before after end fit once bound d = by_due d.due_is
     where
       zero : 0 ≡ code_of d.what.end
       zero = d.zero ∙ ap code_of d.end_is
@@ -72,9 +62,9 @@ module _ (f : CarryFiles) (files : List ℕ → Option (List ℕ)) (old new : De
       by_due : CarryDue f files d.what → Carried f files new before after
       by_due (inl early) = absurd (not_done early.0 (zero ∙ ap (λ (x : Due). code_of x.end) early.2))
       by_due (inr went) =
-          let outs : AllExact (delivered f went.2 (capture_reports went.3 went.1 (files f.capture))).outs old new = subst (λ (x : Due). AllExact x.outs old new) went.6 d.outs in
-          let run : Whole went.3 went.1 (files f.capture) (capture_reports went.3 went.1 (files f.capture)) =
-          whole_capture went.3 went.1 (files f.capture) (zero ∙ ap (λ (x : Due). code_of x.end) went.6) in
+          let outs : AllExact (delivered f went.2 (capture_reports went.3 f.passes went.1 (files f.capture))).outs old new = subst (λ (x : Due). AllExact x.outs old new) went.6 d.outs in
+          let run : Whole carried_word carry_lines (this_run went.3 f.passes) went.1 (files f.capture) (capture_reports went.3 f.passes went.1 (files f.capture)) =
+          whole_capture carried_word carry_lines (this_run went.3 f.passes) went.1 (files f.capture) (zero ∙ ap (λ (x : Due). code_of x.end) went.6) in
           let packets : All IsArrival run.arrivals =
           subst (λ (l : List Arrival). All IsArrival l) (sym run.whole.of_records) (of_ok end _ d.zero fit files run.octets went.1 told run.capture went.4.1) in
           let program = went.4.0.0 in
@@ -99,9 +89,10 @@ module _ (f : CarryFiles) (files : List ℕ → Option (List ℕ)) (old new : De
             packets = packets;
             formed = subst IsSignature went.5.carries.signatures (signature_is went.0);
             given = no_entries_fit (signature16 went.3);
-            ran = this_run went.3 run.arrivals;
+            ran = this_run went.3 f.passes run.arrivals;
+            bound = bound;
             runs = refl;
-            same = same_run went.0 went.2 went.3 went.5 run.arrivals packets;
+            same = same_run went.0 went.2 went.3 went.5 f.passes bound run.arrivals packets;
             text_is = put_told (old.told f.text) (new.told f.text) went.2 made.0 outs.0;
             sent_is = put_told (old.told f.sent) (new.told f.sent) _ made.1.0 (outs.1.0 ∙ ap (put (old.told f.sent)) run.sent);
             report_is = put_told (old.told f.report) (new.told f.report) _ made.1.1.0 (outs.1.1.0 ∙ ap (put (old.told f.report)) run.report);
@@ -112,7 +103,7 @@ module _ (f : CarryFiles) (files : List ℕ → Option (List ℕ)) (old new : De
   due_translated : ComesOnce (files f.program) → (p : OneTable14) (ports : List ℕ) → Begins f files p ports → (d : Due) → CarryDue f files d → AllExact d.outs old new → Translated f files old new
   due_translated once p ports begins d (inl early) exact = absurd (begins_not f files once p ports early.0 begins early.1)
   due_translated once p ports begins d (inr went) exact =
-      let outs : AllExact (delivered f went.2 (capture_reports went.3 went.1 (files f.capture))).outs old new = subst (λ (x : Due). AllExact x.outs old new) went.6 exact in
+      let outs : AllExact (delivered f went.2 (capture_reports went.3 f.passes went.1 (files f.capture))).outs old new = subst (λ (x : Due). AllExact x.outs old new) went.6 exact in
       record {
         source = went.0;
         ports = went.1;
@@ -124,7 +115,7 @@ module _ (f : CarryFiles) (files : List ℕ → Option (List ℕ)) (old new : De
         sent_is = outs.1.0;
         report_is = outs.1.1.0;
         empty = λ nothing.
-            let none = empty_reports went.3 went.1 (files f.capture) nothing in
+            let none = empty_reports carry_lines (this_run went.3 f.passes) (no_run went.3 f.passes) went.1 (files f.capture) nothing in
             (outs.1.0 ∙ ap (put (old.told f.sent)) none.0, outs.1.1.0 ∙ ap (put (old.told f.report)) none.1);
       }
 
@@ -137,10 +128,6 @@ module _ (f : CarryFiles) (files : List ℕ → Option (List ℕ)) (old new : De
   known_by status (inl one) = inl one
   known_by status (inr (inl seven)) = inr (inl seven)
   known_by status (inr (inr due)) = inr (inr (due_ends f files status due.0 due.1 due.2))
-
-  not_loose : (status : ℕ) → (status ≡ 1) ⊎ (status ≡ 7) → (status ≡ 5) ⊎ (status ≡ 6) → ⊥
-  not_loose status (inl one) five = elim five [ inl x ↦ omega arith | inr x ↦ omega arith ]
-  not_loose status (inr seven) five = elim five [ inl x ↦ omega arith | inr x ↦ omega arith ]
 
   module _ (before after : SinkView) (status : ℕ) (e : Ended (CarryWorks f old new) before after status) where
     -- a status of 1 or 7; or the program's file comes to one thing only
@@ -212,7 +199,9 @@ module _ (f : CarryFiles) (files : List ℕ → Option (List ℕ)) (old new : De
       ]
 
       by_entries : status ≡ 4 → AllKept (carry_outputs f) old new
-      by_entries four = keeps.own Entries (is_entries e.end (due_status (line_of e.end) (code_of e.end) status 4 before after e.says (λ one. omega arith) four)) (inl (inr refl))
+      by_entries four =
+          let stopped = is_unfit e.end (due_status (line_of e.end) (code_of e.end) status 4 before after e.says (λ one. omega arith) four) in
+          keeps.own (Unfit stopped.0) stopped.1 (inl (inr (stopped.0, refl)))
 
 -- one of three where the second doesn't hold
 not_second : (A B C : Type 0) → (B → ⊥) → A ⊎ B ⊎ C → A ⊎ C
@@ -272,7 +261,7 @@ module _ (c : Command) (files : List ℕ → Option (List ℕ)) (old new : DeskV
     where
       by_command : (c : Command) → Ended (WorksFor (Some c) old new) before after status → Tells (inputs_of c) old files → AreTold (outputs_of c) old → Done c files new before after
       by_command (carry f) e t m =
-          carried f files old new t m before after e.end e.is.packets e.is.once (left_done (carry_outputs f) (CarryDue f files) old new e.end (e.is.works.leaves files t) before after status e.says zero)
+          carry_done f files old new t m before after e.end e.is.packets e.is.once e.is.bound (left_done (carry_outputs f) (CarryDue f files) old new e.end (e.is.works.leaves files t) before after status e.says zero)
       by_command (check program) e t m = program_done PrintsAccepted program old new before after status e files t zero
       by_command (order program) e t m = program_done PrintsOrder program old new before after status e files t zero
 

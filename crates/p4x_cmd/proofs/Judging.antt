@@ -1,22 +1,24 @@
 -- Which status comes of the files that `carry` reads first.
-use Rattle.std.proofs.Common.{◌≡◌, ◌⊎◌, inl, inr, ℕ, List, Option, Result, Err, refl, subst, arith}
+use Rattle.std.proofs.Common.{◌≡◌, ◌⊎◌, inl, inr, ℕ, List, Option, Some, Result, Err, refl, ◌∙◌, ap, subst, arith}
 use Rattle.p4x_io.specs.Desk.{SinkView}
 use Rattle.p4x_io.specs.Files.{Says}
 use Rattle.p4x_fault.specs.declared.Fault.{Fault as Refusal}
 use Rattle.command_words.specs.Words.{CarryFiles}
 use Rattle.file_work.specs.declared.stop.Limited.{Limited}
-use Rattle.file_work.specs.declared.stop.Limited.TheVariants.{Program as TheProgram, Ports, Capture}
+use Rattle.file_work.specs.declared.stop.Limited.TheVariants.{Program as TheProgram, Entries, Ports, Capture}
 use Rattle.file_work.specs.declared.stop.Stop.{Stop}
-use Rattle.file_work.specs.declared.stop.Stop.TheVariants.{Fault, Program, Judged, Entries, Refused, Limit, Memory}
+use Rattle.file_work.specs.declared.stop.Stop.TheVariants.{Fault, Program, Judged, Unfit, Refused, Limit, Memory}
 use Rattle.file_work.specs.Clauses.{ComesWhere}
 use Rattle.file_work.specs.Phases.{StopsOrGoesOn}
 use Rattle.file_work.specs.Stops.{code_of, line_of, stop_code}
-use Rattle.file_work.proofs.Ends.{is_program, is_entries, is_refused, is_limit}
+use Rattle.file_work.proofs.Ends.{is_program, is_unfit, is_refused, is_limit}
 use Rattle.file_work.proofs.Order.{due_status, status_here, stops_or_on, stops_by_own}
-use Rattle.p4x_cmd.specs.Calls.{FirstStatuses, PortStatuses, RefusesProgram, RefusesEntries, RefusesPorts, OverText, OverPorts}
-use Rattle.p4x_cmd.specs.Carry.{ProgramIs, ComesOnce, StopsBefore, StopsAtProgram, StopsAtEntries, TakesProgram, TakesEntries, TakesPorts, OfProgram, OfEntries, OfPorts}
+use Rattle.p4x_cmd.specs.Calls.{FirstStatuses, PortStatuses, RefusesProgram, RefusesEntries, RefusesPorts, OverPorts}
+use Rattle.program_commands.specs.Commands.{OverText}
+use Rattle.p4x_cmd.specs.Carry.{ProgramIs, ComesOnce, StopsBefore, StopsAtProgram, StopsAtEntries, TakesProgram, TakesEntries, TakesPorts, OfProgram, OfEntries, OfPorts, not_taken}
 use Rattle.p4x_cmd.proofs.Programs.{not_here, taken_goes_on, stops_alike}
-use Rattle.p4x_cmd.proofs.Statuses.{stops_once, begins_not, entries_not_both, EntriesEnd, entries_ends, PortsEnd, ports_ends}
+use Rattle.p4x_cmd.proofs.Statuses.{stops_once, begins_not, entries_not_both, EntriesEnd, entries_ends}
+use Rattle.command_inputs.proofs.Ends.{PortsEnd, ports_ends}
 
 module _ (f : CarryFiles) (files : List ℕ → Option (List ℕ)) where
   entries_before : (stop : Stop) → StopsAtEntries f files stop → StopsBefore f files stop
@@ -28,9 +30,11 @@ module _ (f : CarryFiles) (files : List ℕ → Option (List ℕ)) where
   entries_not once taken stop (inl program) = taken_goes_on (files f.program) once taken.0 stop taken.1.0 program
   entries_not once taken stop (inr entries) = entries_not_both f files stop entries.2 taken.1.1
 
-  refuses_entries : StopsAtEntries f files Entries → RefusesEntries f files
-  refuses_entries (inl program) = absurd (not_here (files f.program) Entries program (λ is. cc is) (λ is. omega arith))
-  refuses_entries (inr entries) = entries
+  refuses_entries : (fault : Refusal) → StopsAtEntries f files (Unfit fault) → RefusesEntries f files
+  refuses_entries fault (inl program) = absurd (not_here (files f.program) (Unfit fault) program (λ is. cc is) (λ is. omega arith))
+  refuses_entries fault (inr entries) =
+      let same : fault ≡ not_taken = subst EntriesEnd entries.2 (entries_ends (files f.entries)) in
+      (entries.0, entries.1, entries.2 ∙ ap (λ (x : Refusal). Some (Unfit x)) same)
 
   refuses_ports : (fault : Refusal) → StopsBefore f files (Refused fault) → RefusesPorts f files
   refuses_ports fault (inl program) = absurd (not_here (files f.program) (Refused fault) program (λ is. cc is) (λ is. omega arith))
@@ -47,6 +51,11 @@ module _ (f : CarryFiles) (files : List ℕ → Option (List ℕ)) where
   over_text (inr (inl entries)) = absurd (subst EntriesEnd entries.2 (entries_ends (files f.entries)))
   over_text (inr (inr ports)) = absurd (subst PortsEnd ports.2 (ports_ends files f.ports))
 
+  over_entries : StopsBefore f files (Limit Entries) → ⊥
+  over_entries (inl program) = not_here (files f.program) (Limit Entries) program (λ is. cc is) (λ is. omega arith)
+  over_entries (inr (inl entries)) = subst EntriesEnd entries.2 (entries_ends (files f.entries))
+  over_entries (inr (inr ports)) = subst PortsEnd ports.2 (ports_ends files f.ports)
+
   over_not : StopsBefore f files (Limit Capture) → ⊥
   over_not (inl program) = not_here (files f.program) (Limit Capture) program (λ is. cc is) (λ is. omega arith)
   over_not (inr (inl entries)) = subst EntriesEnd entries.2 (entries_ends (files f.entries))
@@ -56,6 +65,10 @@ module _ (f : CarryFiles) (files : List ℕ → Option (List ℕ)) where
   over_or_on : (file : Limited) → StopsOrGoesOn {A = List ℕ} (StopsBefore f files) (TakesPorts f files) OfPorts (Err (Limit file)) → (OverText f.program files ⊎ OverPorts f files) ⊎ TakesPorts f files
   over_or_on TheProgram so =
       inl (inl (over_text (stops_by_own (StopsBefore f files) (TakesPorts f files) OfPorts (Limit TheProgram) (λ is. cc is) (λ is. cc is) (inl (inl (inr (inr refl)))) so)))
+  over_or_on Entries so = elim (stops_or_on (StopsBefore f files) (TakesPorts f files) OfPorts (Limit Entries) (λ is. cc is) (λ is. cc is) so) [
+    | inl is ↦ absurd (over_entries is)
+    | inr on ↦ inr on.0
+  ]
   over_or_on Ports so = inl (inr (over_ports (stops_by_own (StopsBefore f files) (TakesPorts f files) OfPorts (Limit Ports) (λ is. cc is) (λ is. cc is) (inr refl) so)))
   over_or_on Capture so = elim (stops_or_on (StopsBefore f files) (TakesPorts f files) OfPorts (Limit Capture) (λ is. cc is) (λ is. cc is) so) [
     | inl is ↦ absurd (over_not is)
@@ -64,6 +77,10 @@ module _ (f : CarryFiles) (files : List ℕ → Option (List ℕ)) where
 
   text_or_on : (file : Limited) → StopsOrGoesOn {A = List ℕ} (StopsAtProgram f files) (TakesProgram f files) OfProgram (Err (Limit file)) → OverText f.program files ⊎ TakesProgram f files
   text_or_on TheProgram so = inl (stops_by_own (StopsAtProgram f files) (TakesProgram f files) OfProgram (Limit TheProgram) (λ is. cc is) (λ is. cc is) (inr (inr refl)) so)
+  text_or_on Entries so = elim (stops_or_on (StopsAtProgram f files) (TakesProgram f files) OfProgram (Limit Entries) (λ is. cc is) (λ is. cc is) so) [
+    | inl is ↦ absurd (not_here (files f.program) (Limit Entries) is (λ is. cc is) (λ is. omega arith))
+    | inr on ↦ inr on.0
+  ]
   text_or_on Ports so = elim (stops_or_on (StopsAtProgram f files) (TakesProgram f files) OfProgram (Limit Ports) (λ is. cc is) (λ is. cc is) so) [
     | inl is ↦ absurd (not_here (files f.program) (Limit Ports) is (λ is. cc is) (λ is. omega arith))
     | inr on ↦ inr on.0
@@ -118,13 +135,14 @@ module _ (f : CarryFiles) (files : List ℕ → Option (List ℕ)) where
       where
         forth : status ≡ 4 → RefusesEntries f files
         forth four =
-            refuses_entries (stops_by_own (StopsAtEntries f files) (TakesEntries f files) OfEntries Entries (λ is. cc is) (λ is. cc is) (inr refl)
-            (subst (λ (e : Result (List ℕ) Stop). StopsOrGoesOn (StopsAtEntries f files) (TakesEntries f files) OfEntries e) (is_entries end (due 4 (λ e. omega arith) four)) so))
+            let stopped = is_unfit end (due 4 (λ e. omega arith) four) in
+            refuses_entries stopped.0 (stops_by_own (StopsAtEntries f files) (TakesEntries f files) OfEntries (Unfit stopped.0) (λ is. cc is) (λ is. cc is) (inr (stopped.0, refl))
+            (subst (λ (e : Result (List ℕ) Stop). StopsOrGoesOn (StopsAtEntries f files) (TakesEntries f files) OfEntries e) stopped.1 so))
 
         back : RefusesEntries f files → (status ≡ 4) ⊎ (status ≡ 1) ⊎ (status ≡ 7)
         back refuses =
-            status_here (StopsAtEntries f files) (TakesEntries f files) OfEntries end so status before after says Entries
-            (λ other is. stops_once f files once other Entries (entries_before other is) (inr (inl refuses))) (λ taken. entries_not once taken Entries (inr refuses))
+            status_here (StopsAtEntries f files) (TakesEntries f files) OfEntries end so status before after says (Unfit not_taken)
+            (λ other is. stops_once f files once other (Unfit not_taken) (entries_before other is) (inr (inl refuses))) (λ taken. entries_not once taken (Unfit not_taken) (inr refuses))
 
     module _ (so : StopsOrGoesOn (StopsBefore f files) (TakesPorts f files) OfPorts end) where
       -- what stops the command at the ports gives its status

@@ -9,9 +9,8 @@ use Rattle.file_work.specs.Works.{IsPart, Leaves}
 use Rattle.file_work.proofs.Files.{part_whole, part_empty, put_whole, put_part}
 use Rattle.command_words.specs.Words.{CarryFiles, carry_outputs}
 use Rattle.p414_one_table.specs.declared.program.OneTable14.{OneTable14}
-use Rattle.run_stream.specs.Captured.{Reports}
-use Rattle.p4x_cmd.specs.Carry.{CarryDue, StopsBefore, Begins, Written, capture_reports, untouched, delivered}
-use Rattle.p4x_cmd.specs.internal.Phases.{Delivers}
+use Rattle.run_stream.specs.Captured.{Reports, DeliversLine}
+use Rattle.p4x_cmd.specs.Carry.{CarryDue, StopsBefore, Begins, Written, capture_reports, carried_word, untouched, delivered}
 
 module _ (f : CarryFiles) (files : List ℕ → Option (List ℕ)) (old new : DeskView) where
   -- nothing was touched
@@ -30,7 +29,7 @@ module _ (f : CarryFiles) (files : List ℕ → Option (List ℕ)) (old new : De
   -- the text was written, and then the capture was run
   run_whole : (text : List ℕ) (r : Reports) → CarryDue f files (delivered f text r) → (end : Result (List ℕ) Stop) (mid : DeskView)
       → new.told f.text ≡ put (old.told f.text) text → mid.told f.sent ≡ put (old.told f.sent) [] → mid.told f.report ≡ put (old.told f.report) []
-      → Delivers r end (mid.told f.sent) (new.told f.sent) (mid.told f.report) (new.told f.report)
+      → DeliversLine carried_word r end (mid.told f.sent) (new.told f.sent) (mid.told f.report) (new.told f.report)
       → Leaves (carry_outputs f) (CarryDue f files) end old new
   run_whole text r due end mid wrote sent report (inl d) =
       inl (delivered f text r, due, d.0, (wrote, (put_whole _ _ _ r.sent sent d.1, (put_whole _ _ _ r.report report d.2, tt))))
@@ -39,15 +38,15 @@ module _ (f : CarryFiles) (files : List ℕ → Option (List ℕ)) (old new : De
 
   module _ (p : OneTable14) (ports text : List ℕ) (s : Syntax16) (begins : Begins f files p ports) (written : Written p text s) where
     -- the due of a text that was written
-    due_of : (r : Reports) → r ≡ capture_reports s ports (files f.capture) → CarryDue f files (delivered f text r)
+    due_of : (r : Reports) → r ≡ capture_reports s f.passes ports (files f.capture) → CarryDue f files (delivered f text r)
     due_of r is = inr (p, ports, text, s, begins, written, ap (delivered f text) is)
 
     pub left_begin : IsPart (old.told f.text) (new.told f.text) (Some text) → IsPart (old.told f.sent) (new.told f.sent) (Some []) → IsPart (old.told f.report) (new.told f.report) (Some [])
         → Leaves (carry_outputs f) (CarryDue f files) (Err Fault) old new
-    left_begin = part_begun text (capture_reports s ports (files f.capture)) (due_of _ refl)
+    left_begin = part_begun text (capture_reports s f.passes ports (files f.capture)) (due_of _ refl)
 
     pub left_run : (end : Result (List ℕ) Stop) (mid : DeskView)
         → new.told f.text ≡ put (old.told f.text) text → mid.told f.sent ≡ put (old.told f.sent) [] → mid.told f.report ≡ put (old.told f.report) []
-        → Delivers (capture_reports s ports (files f.capture)) end (mid.told f.sent) (new.told f.sent) (mid.told f.report) (new.told f.report)
+        → DeliversLine carried_word (capture_reports s f.passes ports (files f.capture)) end (mid.told f.sent) (new.told f.sent) (mid.told f.report) (new.told f.report)
         → Leaves (carry_outputs f) (CarryDue f files) end old new
-    left_run = run_whole text (capture_reports s ports (files f.capture)) (due_of _ refl)
+    left_run = run_whole text (capture_reports s f.passes ports (files f.capture)) (due_of _ refl)

@@ -1,5 +1,4 @@
 pub mod Blaming
-pub mod Captured
 pub mod Carrying
 pub mod Causes
 pub mod Delivering

@@ -4,14 +4,15 @@ use Rattle.std.specs.declared.alloc.Global.{Global}
 use Rattle.p4x_io.specs.Desk.{DeskView}
 use Rattle.command_words.specs.Words.{CarryFiles, carry_outputs}
 use Rattle.file_work.specs.declared.stop.Stop.{Stop}
-use Rattle.file_work.specs.declared.stop.Stop.TheVariants.{Fault, Entries, Memory}
+use Rattle.file_work.specs.declared.stop.Stop.TheVariants.{Fault, Unfit, Memory}
 use Rattle.file_work.specs.Phases.{Loosely, line_view}
 use Rattle.file_work.specs.Works.{Tells, AllKept}
 use Rattle.file_work.proofs.Order.{loosely_as, loosely_loose}
 use Rattle.run_stream.specs.Captured.{StopsRun}
 use Rattle.p414_one_table.specs.declared.program.OneTable14.{OneTable14}
-use Rattle.p4x_cmd.specs.Carry.{ProgramIs, ComesOnce, HasProgram, entries_stop, ports_end, OfProgram, OfEntries, OfPorts, InOrder, KeepsInOrder}
-use Rattle.p4x_cmd.specs.internal.Phases.{IsPortsStop, AnswersFile}
+use Rattle.p4x_cmd.specs.Carry.{ProgramIs, ComesOnce, HasProgram, entries_stop, not_taken, OfProgram, OfEntries, OfPorts, InOrder, KeepsInOrder}
+use Rattle.p4x_cmd.specs.internal.Phases.{AnswersFile}
+use Rattle.command_inputs.specs.PortsFile.{ports_end, IsPortsStop}
 use Rattle.p4x_cmd.proofs.Judging.{entries_not}
 use Rattle.p4x_cmd.proofs.Programs.{rank, rank_program, alone_once, taken_goes_on}
 use Rattle.p4x_cmd.proofs.Statuses.{begins_not}
@@ -20,13 +21,13 @@ use Rattle.p4x_cmd.proofs.Statuses.{begins_not}
 
 rank_entries : (stop : Stop) → OfEntries stop → rank stop ≤ 2
 rank_entries stop (inl is) = let here : rank stop ≡ 1 = rank_program stop is in omega arith
-rank_entries stop (inr is) = let here : rank stop ≡ 2 = ap rank is in omega arith
+rank_entries stop (inr (fault, is)) = let here : rank stop ≡ 2 = ap rank is in omega arith
 
 rank_ports : (stop : Stop) → OfPorts stop → rank stop ≤ 3
 rank_ports stop (inl is) = let here : rank stop ≤ 2 = rank_entries stop is in omega arith
 rank_ports stop (inr is) = let here : rank stop ≡ 3 = ap rank is in omega arith
 
-behind_program : (stop : Stop) → (stop ≡ Fault) ⊎ (stop ≡ Entries) → 2 ≤ rank stop
+behind_program : (stop : Stop) → (stop ≡ Fault) ⊎ (stop ≡ Unfit not_taken) → 2 ≤ rank stop
 behind_program stop (inl is) = let here : rank stop ≡ 4 = ap rank is in omega arith
 behind_program stop (inr is) = let here : rank stop ≡ 2 = ap rank is in omega arith
 
@@ -78,7 +79,7 @@ module _ (A : Type 0) (f : CarryFiles) (old : DeskView) where
     once_of files told = alone_once (files f.program) (Ok p) (answers (files f.program) told)
 
     -- the entries stop it
-    pub order_entries : (stop : Stop) → (stop ≡ Fault) ⊎ (stop ≡ Entries) → ((file : Option (List ℕ)) → old.told f.entries ≡ Some file → Loosely stop (entries_stop file ≡ Some stop)) → InOrder {A = A} f old (Err stop)
+    pub order_entries : (stop : Stop) → (stop ≡ Fault) ⊎ (stop ≡ Unfit not_taken) → ((file : Option (List ℕ)) → old.told f.entries ≡ Some file → Loosely stop (entries_stop file ≡ Some stop)) → InOrder {A = A} f old (Err stop)
     order_entries stop only gives = record {
       once = λ files told. inr (inr (once_of files told.0));
       program = λ files told. inr (inr (inr ((p, taken (files f.program) told.0), not_program stop (behind_program stop only))));

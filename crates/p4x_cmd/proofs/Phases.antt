@@ -4,7 +4,8 @@ use Rattle.file_work.specs.declared.stop.Stop.{Stop}
 use Rattle.file_work.specs.Phases.{Loosely}
 use Rattle.command_words.specs.Words.{CarryFiles}
 use Rattle.p414_one_table.specs.declared.program.OneTable14.{OneTable14}
-use Rattle.p4x_cmd.specs.Carry.{HasProgram, StopsBefore, ports_end}
+use Rattle.p4x_cmd.specs.Carry.{HasProgram, StopsBefore}
+use Rattle.command_inputs.specs.PortsFile.{ports_end}
 
 -- the ports stop the command
 pub stops_at_ports : (f : CarryFiles) (files : List ℕ → Option (List ℕ)) (p : OneTable14) (stop : Stop) → HasProgram f files p → Loosely stop (ports_end files f.ports ≡ Err stop) → Loosely stop (StopsBefore f files stop)

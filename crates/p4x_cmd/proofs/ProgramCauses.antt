@@ -7,39 +7,16 @@ use Rattle.p414_ast.specs.declared.syntax.Syntax14.{Syntax14}
 use Rattle.p414_reader.specs.Reading.{Reads14}
 use Rattle.file_work.specs.declared.stop.Limited.TheVariants as limited
 use Rattle.file_work.specs.declared.stop.Stop.{Stop}
-use Rattle.file_work.specs.declared.stop.Stop.TheVariants.{Fault, Usage, Program, Judged, Entries, Refused, Limit, Memory}
+use Rattle.file_work.specs.declared.stop.Stop.TheVariants.{Fault, Usage, Program, Judged, Unfit, Refused, Limit, Memory}
 use Rattle.file_work.specs.Clauses.{Ended, ComesWhere, EndsAsDue, AsDue}
 use Rattle.file_work.specs.Stops.{code_of, line_of, stop_code}
 use Rattle.file_work.specs.Works.{Due, Held, Tells, IsLoose}
 use Rattle.file_work.proofs.Ends.{is_usage, loose_code, not_done}
 use Rattle.file_work.proofs.Laws.{IsDone, left_ends, left_as_due, left_done}
-use Rattle.program_commands.specs.Commands.{ProgramDue, EndsAs}
+use Rattle.program_commands.specs.Commands.{ProgramDue, EndsAs, TakesText, RefusesText, OverText}
 use Rattle.program_commands.specs.Programs.{ReadsOnce, ProgramIs, IsProgramStop}
-use Rattle.p4x_cmd.specs.Calls.{Printed, TakesText, RefusesText, OverText, IsProgramStatus, ProgramStatuses, WorksOnProgram}
-
--- What stops such a command at its file.
-abbrev FileStop : Option (List ℕ) → Stop → Type 0
-FileStop o stop = (stop ≡ Fault) ⊎ ((fault : Refusal) × (stop ≡ Judged fault)) ⊎ (stop ≡ Limit limited.Program)
-
-file_stops : (o : Option (List ℕ)) (stop : Stop) → ProgramIs o (Err stop) → FileStop o stop
-file_stops None Fault is = inl refl
-file_stops None Usage is = absurd is
-file_stops None Program is = absurd is
-file_stops None (Judged fault) is = absurd is
-file_stops None Entries is = absurd is
-file_stops None (Refused fault) is = absurd is
-file_stops None (Limit file) is = absurd is
-file_stops None Memory is = absurd is
-file_stops (Some text) Fault is = absurd is
-file_stops (Some text) Usage is = absurd is
-file_stops (Some text) Program is = absurd is
-file_stops (Some text) (Judged fault) is = inr (inl (fault, refl))
-file_stops (Some text) Entries is = absurd is
-file_stops (Some text) (Refused fault) is = absurd is
-file_stops (Some text) (Limit limited.Program) is = inr (inr refl)
-file_stops (Some text) (Limit limited.Ports) is = absurd is
-file_stops (Some text) (Limit limited.Capture) is = absurd is
-file_stops (Some text) Memory is = absurd is
+use Rattle.program_commands.proofs.Stops.{FileStop, file_stops, one_program}
+use Rattle.p4x_cmd.specs.Calls.{Printed, IsProgramStatus, ProgramStatuses, WorksOnProgram}
 
 -- the status of what can stop it
 status_of : (end : Result (List ℕ) Stop) → IfErr end IsProgramStop → IsProgramStatus (code_of end)
@@ -48,14 +25,6 @@ status_of (Err stop) (inl fault) = inr (inl (ap stop_code fault))
 status_of (Err stop) (inr (inl memory)) = inr (inr (inr (inr (ap stop_code memory))))
 status_of (Err stop) (inr (inr (inl (fault, judged)))) = inr (inr (inl (ap stop_code judged)))
 status_of (Err stop) (inr (inr (inr limit))) = inr (inr (inr (inl (ap stop_code limit))))
-
--- a program that is taken is the only one that its text reads as
-pub one_program : (o : Option (List ℕ)) (s : Syntax14) → ProgramIs o (Ok s) → ((text : List ℕ) → o ≡ Some text → ReadsOnce text)
-    → (read : List ℕ) (other : Syntax14) → o ≡ Some read → Reads14 read other → other ≡ s
-one_program None s taken once read other is reads = absurd taken
-one_program (Some text) s taken once read other is reads =
-    let same : read ≡ text = cc is in
-    once text refl other s (subst (λ (l : List ℕ). Reads14 l other) same reads) taken.1.reads
 
 -- a loose end under its status
 loose_status : (status code : ℕ) (end : Result (List ℕ) Stop) → status ≡ code_of end → IsLoose end → (status ≡ code) ⊎ (status ≡ 1) ⊎ (status ≡ 7)
@@ -120,7 +89,7 @@ module _ (Prints : Syntax14 → List ℕ → Type 0) (program : List ℕ) (old n
           code : stop_code stopped.0 ≡ 3
           code = code_is d stopped.0 3 stopped.2 three
 
-          by_stop : FileStop (files program) stopped.0 → RefusesText program files
+          by_stop : FileStop stopped.0 → RefusesText program files
           by_stop (inl fault) = absurd (omega (arith, sym (ap stop_code fault) ∙ code))
           by_stop (inr (inl (fault, judged))) = (fault, subst (λ (s : Stop). ProgramIs (files program) (Err s)) judged stopped.1)
           by_stop (inr (inr limit)) = absurd (omega (arith, sym (ap stop_code limit) ∙ code))
@@ -132,7 +101,7 @@ module _ (Prints : Syntax14 → List ℕ → Type 0) (program : List ℕ) (old n
           code : stop_code stopped.0 ≡ 6
           code = code_is d stopped.0 6 stopped.2 six
 
-          by_stop : FileStop (files program) stopped.0 → OverText program files
+          by_stop : FileStop stopped.0 → OverText program files
           by_stop (inl fault) = absurd (omega (arith, sym (ap stop_code fault) ∙ code))
           by_stop (inr (inl (fault, judged))) = absurd (omega (arith, sym (ap stop_code judged) ∙ code))
           by_stop (inr (inr limit)) = subst (λ (s : Stop). ProgramIs (files program) (Err s)) limit stopped.1

@@ -3,9 +3,9 @@ use Rattle.std.proofs.Common.{◌≡◌, ◌⊎◌, inl, inr, ℕ, List, Option,
 use Rattle.p414_ast.specs.declared.syntax.Syntax14.{Syntax14}
 use Rattle.p414_one_table.specs.declared.program.OneTable14.{OneTable14}
 use Rattle.p414_one_table.specs.Form.{one_table_of}
-use Rattle.file_work.specs.declared.stop.Limited.TheVariants.{Program as TheProgram, Ports, Capture}
+use Rattle.file_work.specs.declared.stop.Limited.TheVariants.{Program as TheProgram, Entries, Ports, Capture}
 use Rattle.file_work.specs.declared.stop.Stop.{Stop}
-use Rattle.file_work.specs.declared.stop.Stop.TheVariants.{Fault, Usage, Program, Judged, Entries, Refused, Limit, Memory}
+use Rattle.file_work.specs.declared.stop.Stop.TheVariants.{Fault, Usage, Program, Judged, Unfit, Refused, Limit, Memory}
 use Rattle.file_work.proofs.Order.{loosely_as}
 use Rattle.program_commands.specs.Answers as answered
 use Rattle.program_commands.specs.Programs as programs
@@ -18,7 +18,8 @@ abbrev pub rank : Stop → ℕ
 rank Program = 1
 rank (Judged fault) = 1
 rank (Limit TheProgram) = 1
-rank Entries = 2
+rank (Unfit fault) = 2
+rank (Limit Entries) = 2
 rank (Limit Ports) = 3
 rank (Limit Capture) = 4
 rank Fault = 4
@@ -38,14 +39,16 @@ file_stops (Some text) Fault is = absurd is
 file_stops o Program is = inr (inl refl)
 file_stops o (Judged fault) is = inr (inr (inl (fault, refl)))
 file_stops o (Limit TheProgram) is = inr (inr (inr refl))
+file_stops None (Limit Entries) is = absurd is
+file_stops (Some text) (Limit Entries) is = absurd is
 file_stops None (Limit Ports) is = absurd is
 file_stops (Some text) (Limit Ports) is = absurd is
 file_stops None (Limit Capture) is = absurd is
 file_stops (Some text) (Limit Capture) is = absurd is
 file_stops None Usage is = absurd is
 file_stops (Some text) Usage is = absurd is
-file_stops None Entries is = absurd is
-file_stops (Some text) Entries is = absurd is
+file_stops None (Unfit fault) is = absurd is
+file_stops (Some text) (Unfit fault) is = absurd is
 file_stops None (Refused fault) is = absurd is
 file_stops (Some text) (Refused fault) is = absurd is
 file_stops None Memory is = absurd is
@@ -80,7 +83,7 @@ module _ (o : Option (List ℕ)) where
       none None is = is
       none (Some text) is = is
   as_stop (Judged fault) is = is
-  as_stop Entries is = is
+  as_stop (Unfit fault) is = is
   as_stop (Refused fault) is = is
   as_stop (Limit file) is = is
   as_stop Memory is = is
@@ -96,7 +99,7 @@ module _ (o : Option (List ℕ)) where
   whence (Err Usage) is = inl is
   whence (Err Program) is = inr (refl, is)
   whence (Err (Judged fault)) is = inl is
-  whence (Err Entries) is = inl is
+  whence (Err (Unfit fault)) is = inl is
   whence (Err (Refused fault)) is = inl is
   whence (Err (Limit file)) is = inl is
   whence (Err Memory) is = inl is

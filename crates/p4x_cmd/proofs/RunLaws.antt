@@ -1,5 +1,5 @@
 -- Runs over lists of arrivals, one packet after another.
-use Rattle.std.proofs.Common.{◌≡◌, ℕ, suc, ◌+◌, ◌%◌, ◌<◌, ◌≤◌, List, [], ◌∷◌, length, map, sum, drop, get_or, refl, sym, ◌∙◌, ap, add-one}
+use Rattle.std.proofs.Common.{◌≡◌, ℕ, zero, suc, ◌+◌, ◌%◌, ◌<◌, ◌≤◌, List, [], ◌∷◌, length, map, sum, drop, get_or, refl, sym, ◌∙◌, ap, add-one, arith}
 use Rattle.std.proofs.lemmas.List.{drop_all}
 use Rattle.std.proofs.lemmas.List.Sums.{sum_by-cons}
 use Rattle.std.specs.List.{sum_by}
@@ -16,27 +16,13 @@ use Rattle.fabric.specs.declared.packets.Sent.{Sent}
 use Rattle.p4x_cmd.specs.Passes.{PassEnd, dropped, leaves, Pass, run_from, sent_from}
 use Rattle.p4x_cmd.specs.Meaning16.{Run16, signature16}
 use Rattle.p4x_cmd.specs.internal.Plain.{plain_pass, no_store, own_pass, own_outcome, outs_of, IsSized}
-use Rattle.p4x_cmd.specs.Runs.{default_bound, this_run}
+use Rattle.fabric.specs.Numbers.{IsBound}
+use Rattle.p4x_cmd.specs.Runs.{this_run}
 use Rattle.p4x_cmd.proofs.Pass16.{pass16_is, no_default, TakesAction}
-
--- the run over the arrivals from a number on, for any pass
-abbrev pub run_left : (Arrival → Pass) → ℕ → List Arrival → Ran
-run_left f number arrivals = run_from f default_bound no_store number (drop number arrivals)
 
 -- one more packet
 abbrev pub once : (Arrival → Pass) → ℕ → Arrival → Ran
 once f number a = record { sent = sent_from number (f a).end; store = no_store; cut = 0; work = (f a).work }
-
-pub run_more : (f : Arrival → Pass) (number : ℕ) (arrivals : List Arrival) (a : Arrival) → number < length arrivals
-    → a ≡ get_or arrivals number a → run_left f number arrivals ≡ followed (once f number a) (run_left f (number + 1) arrivals)
-run_more f number arrivals a inside is =
-    let cons : drop number arrivals ≡ a ∷ drop (number + 1) arrivals =
-    drop-cons arrivals number a inside ∙ ap (λ (x : Arrival). x ∷ drop (suc number) arrivals) (sym is) ∙ ap (λ (n : ℕ). a ∷ drop n arrivals) (sym (add-one number)) in
-    ap (run_from f default_bound no_store number) cons
-
-pub run_done : (f : Arrival → Pass) (number : ℕ) (arrivals : List Arrival) → length arrivals ≤ number
-    → run_left f number arrivals ≡ record { sent = []; store = no_store; cut = 0; work = 0 }
-run_done f number arrivals past = ap (run_from f default_bound no_store number) (drop_all number arrivals past)
 
 pub sum_of_widths : (fields : List Field) → sum (map (λ x. x.width.value) (map bit_field fields)) ≡ sum_by (λ f. f.width) fields
 sum_of_widths [] = refl
@@ -52,22 +38,24 @@ own_pass_is q a sized octets =
     pass16_is q (no_entries (signature16 (program16 q))) a (takes_none q) octets (ap (λ (n : ℕ). n % 8) (sum_of_widths q.fields) ∙ sized.even)
     ∙ ap (λ (n : ℕ). plain_pass n q.port a) (sum_of_widths q.fields)
 
--- the run of the program is the run of its pass
-pub run_is : (q : OneTable16) (arrivals : List Arrival) → this_run (program16 q) arrivals ≡ run_left (own_pass q) 0 arrivals
-unfolding Run16 own_pass
-run_is q arrivals = refl
-
 sent_is : (number : ℕ) (end : PassEnd) → sent_from number end ≡ map (running.numbered number) (outs_of end)
 sent_is number dropped = refl
 sent_is number (leaves port octets) = refl
 
-run_by : (q : OneTable16) (number : ℕ) (arrivals : List Arrival) → run_from (own_pass q) default_bound no_store number arrivals ≡ running.run_from (own_outcome q) number no_store arrivals
-run_by q number [] = refl
-run_by q number (a ∷ arrivals) =
-    ap (λ (r : Ran). followed (once (own_pass q) number a) r) (run_by q (number + 1) arrivals)
+-- under a bound of one pass at least a packet makes its pass
+run_by : (q : OneTable16) (bound number : ℕ) (arrivals : List Arrival) → run_from (own_pass q) (suc bound) no_store number arrivals ≡ running.run_from (own_outcome q) number no_store arrivals
+run_by q bound number [] = refl
+run_by q bound number (a ∷ arrivals) =
+    ap (λ (r : Ran). followed (once (own_pass q) number a) r) (run_by q bound (number + 1) arrivals)
     ∙ ap (λ (l : List Sent). let one : Ran = record { sent = l; store = no_store; cut = 0; work = (own_pass q a).work } in followed one (running.run_from (own_outcome q) (number + 1) no_store arrivals))
     (sent_is number (own_pass q a).end)
 
+-- the run of the program is the run of its pass, under each bound
+run_is : (q : OneTable16) (bound : ℕ) (arrivals : List Arrival) → this_run (program16 q) bound arrivals ≡ run_from (own_pass q) bound no_store 0 arrivals
+unfolding Run16 own_pass
+run_is q bound arrivals = refl
+
 -- and that of the runner
-pub run_of_is : (q : OneTable16) (arrivals : List Arrival) → running.run_of (own_outcome q) no_store arrivals ≡ this_run (program16 q) arrivals
-run_of_is q arrivals = sym (run_is q arrivals ∙ run_by q 0 arrivals)
+pub run_of_is : (q : OneTable16) (bound : ℕ) → IsBound bound → (arrivals : List Arrival) → running.run_of (own_outcome q) no_store arrivals ≡ this_run (program16 q) bound arrivals
+run_of_is q zero some arrivals = absurd (omega (arith, some.0))
+run_of_is q (suc bound) some arrivals = sym (run_is q (suc bound) arrivals ∙ run_by q bound 0 arrivals)

@@ -4,68 +4,36 @@ use Rattle.p4x_fault.specs.declared.Fault.{Fault as Refusal}
 use Rattle.pcap_io.specs.Ports.{ports_of}
 use Rattle.p4x_io.specs.Desk.{DeskView}
 use Rattle.p414_one_table.specs.declared.program.OneTable14.{OneTable14}
-use Rattle.file_work.specs.declared.stop.Limited.TheVariants.{Program as TheProgram, Ports, Capture}
+use Rattle.file_work.specs.declared.stop.Limited.TheVariants.{Program as TheProgram, Entries, Ports, Capture}
 use Rattle.file_work.specs.declared.stop.Stop.{Stop}
-use Rattle.file_work.specs.declared.stop.Stop.TheVariants.{Fault, Usage, Program, Judged, Entries, Refused, Limit, Memory}
-use Rattle.p4x_cmd.specs.Calls.{CarryStatuses, Accepts, RefusesProgram, RefusesEntries, RefusesPorts, RefusesCapture, OverText, OverPorts, OverCapture}
-use Rattle.p4x_cmd.specs.Carry.{CarryDue, ProgramIs, ComesOnce, HasProgram, Begins, StopsBefore, OfProgram, entries_stop, taken_ports, ports_in, ports_end, ports_limit}
-use Rattle.file_work.specs.Clauses.{ComesWhere, ComesFirst}
+use Rattle.file_work.specs.declared.stop.Stop.TheVariants.{Fault, Usage, Program, Judged, Unfit, Refused, Limit, Memory}
+use Rattle.p4x_cmd.specs.Calls.{CarryStatuses, Accepts, RefusesProgram, RefusesEntries, RefusesPorts, RefusesCapture, OverPorts, OverCapture}
+use Rattle.program_commands.specs.Commands.{OverText}
+use Rattle.p4x_cmd.specs.Carry.{CarryDue, ProgramIs, ComesOnce, HasProgram, Begins, StopsBefore, OfProgram, entries_stop, not_taken, carry_lines, carried_word}
+use Rattle.p4x_cmd.specs.Runs.{this_run}
+use Rattle.command_inputs.specs.PortsFile.{ports_end}
+use Rattle.command_inputs.proofs.Ends.{PortsEnd, ports_ends}
+use Rattle.file_work.specs.Clauses.{ComesWhere}
 use Rattle.file_work.specs.Works.{Due, Tells}
 use Rattle.file_work.proofs.Ends.{stop_in, code_at, code_stop}
+use Rattle.file_work.proofs.Loose.{comes_loose}
 use Rattle.file_work.proofs.Ways.{Ends, Known, comes_where}
 use Rattle.file_work.specs.Stops.{code_of, stop_code}
 use Rattle.command_words.specs.Words.{CarryFiles, carry_inputs}
 use Rattle.p4x_cmd.proofs.Programs.{file_stops, taken_goes_on, stops_alike}
-use Rattle.p4x_cmd.proofs.Captured.{capture_stop, reports_stop, CaptureEnd, capture_ends, capture_taken, capture_over}
+use Rattle.run_stream.proofs.Whole.{capture_stop, reports_stop, CaptureEnd, capture_ends, capture_taken, capture_over}
 
--- a status of 1 or 7, which may come in the place of any
-pub comes_loose : (status code : ℕ) (P : Type 0) → (status ≡ 1) ⊎ (status ≡ 7) → (code ≡ 1 → ⊥) → (code ≡ 7 → ⊥) → ComesWhere status code P
-comes_loose status code P loose not_one not_seven = ((λ is. absurd (other loose is)), (λ so. inr loose))
-  where
-    other : (status ≡ 1) ⊎ (status ≡ 7) → status ≡ code → ⊥
-    other (inl one) is = not_one (sym is ∙ one)
-    other (inr seven) is = not_seven (sym is ∙ seven)
-
-pub first_loose : (status code : ℕ) (P Q : Type 0) → (status ≡ 1) ⊎ (status ≡ 7) → (code ≡ 1 → ⊥) → (code ≡ 7 → ⊥) → ComesFirst status code P Q
-first_loose status code P Q loose not_one not_seven =
-    let comes = comes_loose status code P loose not_one not_seven in
-    ((λ is. inl (comes.0 is)), comes.1)
-
--- What the entries and the ports can come to.
-
+-- What the entries can come to.
 abbrev pub EntriesEnd : Option Stop → Type 0
 EntriesEnd None = Unit {0}
 EntriesEnd (Some Fault) = Unit {0}
-EntriesEnd (Some Entries) = Unit {0}
+EntriesEnd (Some (Unfit fault)) = fault ≡ not_taken
 EntriesEnd (Some stop) = ⊥
 
 pub entries_ends : (o : Option (List ℕ)) → EntriesEnd (entries_stop o)
 entries_ends None = tt
 entries_ends (Some []) = tt
-entries_ends (Some (b ∷ octets)) = tt
-
-abbrev pub PortsEnd : Result (List ℕ) Stop → Type 0
-PortsEnd (Ok ports) = Unit {0}
-PortsEnd (Err Fault) = Unit {0}
-PortsEnd (Err (Refused fault)) = Unit {0}
-PortsEnd (Err (Limit Ports)) = Unit {0}
-PortsEnd (Err stop) = ⊥
-
-pub ports_ends : (files : List ℕ → Option (List ℕ)) (o : Option (List ℕ)) → PortsEnd (ports_end files o)
-ports_ends files None = tt
-ports_ends files (Some name) = in_file (files name)
-  where
-    taken : (ports : Result (List ℕ) Refusal) → PortsEnd (taken_ports ports)
-    taken (Ok ports) = tt
-    taken (Err fault) = tt
-
-    by_limit : (over : Bool) (text : List ℕ) → PortsEnd (if over then Err (Limit Ports) else taken_ports (ports_of text))
-    by_limit true text = tt
-    by_limit false text = taken (ports_of text)
-
-    in_file : (o : Option (List ℕ)) → PortsEnd (ports_in o)
-    in_file None = tt
-    in_file (Some text) = by_limit (nat_lt ports_limit (length text)) text
+entries_ends (Some (b ∷ octets)) = refl
 
 -- the statuses with their causes, where the desk tells all inputs
 pub record AllStatuses (f : CarryFiles) (files : List ℕ → Option (List ℕ)) (status : ℕ) : Type 0 where
@@ -94,7 +62,7 @@ module _ (f : CarryFiles) (files : List ℕ → Option (List ℕ)) where
 
   due_comes : (d : Due) → CarryDue f files d → Comes (stop_in d.end)
   due_comes d (inl early) = inl (early.0, early.1, ap (λ (x : Due). stop_in x.end) early.2)
-  due_comes d (inr went) = inr (went.0, went.1, went.4, ap (λ (x : Due). stop_in x.end) went.6 ∙ reports_stop went.3 went.1 (files f.capture))
+  due_comes d (inr went) = inr (went.0, went.1, went.4, ap (λ (x : Due). stop_in x.end) went.6 ∙ reports_stop carried_word carry_lines (this_run went.3 f.passes) went.1 (files f.capture))
 
   pub entries_not_both : (stop : Stop) → entries_stop (files f.entries) ≡ Some stop → entries_stop (files f.entries) ≡ None → ⊥
   entries_not_both stop some none = cc (some, none)
@@ -147,7 +115,7 @@ module _ (f : CarryFiles) (files : List ℕ → Option (List ℕ)) where
   entries_cause p taken Usage end is = absurd end
   entries_cause p taken Program end is = absurd end
   entries_cause p taken (Judged fault) end is = absurd end
-  entries_cause p taken Entries end is = (p, taken, is)
+  entries_cause p taken (Unfit fault) end is = (p, taken, is ∙ ap (λ (x : Refusal). Some (Unfit x)) end)
   entries_cause p taken (Refused fault) end is = absurd end
   entries_cause p taken (Limit file) end is = absurd end
   entries_cause p taken Memory end is = absurd end
@@ -157,9 +125,10 @@ module _ (f : CarryFiles) (files : List ℕ → Option (List ℕ)) where
   ports_cause p has Usage end is = absurd end
   ports_cause p has Program end is = absurd end
   ports_cause p has (Judged fault) end is = absurd end
-  ports_cause p has Entries end is = absurd end
+  ports_cause p has (Unfit fault) end is = absurd end
   ports_cause p has (Refused fault) end is = inl (p, has, (fault, is))
   ports_cause p has (Limit TheProgram) end is = absurd end
+  ports_cause p has (Limit Entries) end is = absurd end
   ports_cause p has (Limit Ports) end is = inr (inl (p, has, is))
   ports_cause p has (Limit Capture) end is = absurd end
   ports_cause p has Memory end is = absurd end
@@ -175,9 +144,10 @@ module _ (f : CarryFiles) (files : List ℕ → Option (List ℕ)) where
   capture_cause p ports begins (Some Usage) is = absurd is
   capture_cause p ports begins (Some Program) is = absurd is
   capture_cause p ports begins (Some (Judged fault)) is = absurd is
-  capture_cause p ports begins (Some Entries) is = absurd is
+  capture_cause p ports begins (Some (Unfit fault)) is = absurd is
   capture_cause p ports begins (Some (Refused fault)) is = inr (p, ports, begins, (fault, is))
   capture_cause p ports begins (Some (Limit TheProgram)) is = absurd is
+  capture_cause p ports begins (Some (Limit Entries)) is = absurd is
   capture_cause p ports begins (Some (Limit Ports)) is = absurd is
   capture_cause p ports begins (Some (Limit Capture)) is = inr (inr (p, ports, begins, is))
   capture_cause p ports begins (Some Memory) is = absurd is
@@ -194,7 +164,7 @@ module _ (f : CarryFiles) (files : List ℕ → Option (List ℕ)) where
   program_ends (inr is) = (Some Program, inl (Program, inl is, refl), refl)
 
   pub entries_end : RefusesEntries f files → EndsSo 4
-  entries_end is = (Some Entries, inl (Entries, inr (inl is), refl), refl)
+  entries_end is = (Some (Unfit not_taken), inl (Unfit not_taken, inr (inl is), refl), refl)
 
   pub refused_ends : RefusesPorts f files ⊎ RefusesCapture f files → EndsSo 5
   refused_ends (inl is) = (Some (Refused is.2.0), inl (Refused is.2.0, inr (inr (is.0, is.1, is.2.1)), refl), refl)

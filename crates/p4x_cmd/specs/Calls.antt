@@ -6,7 +6,7 @@ use Rattle.p4x_io.specs.Desk.{DeskView, SinkView, Rose, put, said}
 use Rattle.command_words.specs.Words.{CarryFiles, Command, carry, check, order, carry_inputs, carry_outputs, inputs_of, outputs_of}
 use Rattle.file_work.specs.declared.stop.Limited.TheVariants as limited
 use Rattle.file_work.specs.declared.stop.Stop.{Stop}
-use Rattle.file_work.specs.declared.stop.Stop.TheVariants.{Usage, Program, Judged, Entries, Refused, Limit}
+use Rattle.file_work.specs.declared.stop.Stop.TheVariants.{Usage, Program, Unfit, Refused, Limit}
 use Rattle.file_work.specs.Clauses.{ComesWhere, ComesFirst, EndsAsDue, OnlyThese, Fronts, AsDue}
 use Rattle.file_work.specs.Works.{Held, Due, Works, AllKept, Tells}
 use Rattle.p414_ast.specs.declared.syntax.Syntax14.{Syntax14}
@@ -14,23 +14,23 @@ use Rattle.p414_reader.specs.Reading.{Reads14}
 use Rattle.program_commands.specs.Programs.{IsProgramStop, ReadsOnce}
 use Rattle.program_commands.specs.Programs as programs
 use Rattle.program_commands.specs.Lines.{PrintsAccepted, PrintsOrder}
-use Rattle.program_commands.specs.Commands.{ProgramDue, CheckDue, OrderDue, EndsByFile}
-use Rattle.fabric.specs.Numbers.{IsArrival}
+use Rattle.program_commands.specs.Commands.{ProgramDue, CheckDue, OrderDue, EndsByFile, RefusesText, OverText, TakesText}
+use Rattle.fabric.specs.Numbers.{IsArrival, IsBound}
 use Rattle.fabric.specs.declared.packets.Arrival.{Arrival}
-use Rattle.pcap_io.specs.Captures.{IsCapture, reading_of, arrivals_of, refused, refusal}
+use Rattle.pcap_io.specs.Captures.{IsCapture, reading_of, arrivals_of}
 use Rattle.pcap_io.specs.Sent.{sent_bytes_of}
 use Rattle.match_core.specs.Signatures.{IsSignature}
 use Rattle.match_core.specs.Fits.{Fits}
 use Rattle.p414_one_table.specs.declared.program.OneTable14.{OneTable14}
 use Rattle.p414_one_table.specs.Form.{one_table_of}
 use Rattle.p4x_cmd.specs.Carries.{SameRuns}
-use Rattle.run_stream.specs.Captured.{capture_limit}
-use Rattle.p4x_cmd.specs.Carry.{CarryDue, ProgramIs, HasProgram, Begins, StopsBefore, StopsAtProgram, StopsAtEntries, TakesProgram, TakesPorts, InOrder, KeepsInOrder, Written, entries_stop, ports_end, program_read, entries_read, ports_read, capture_reports}
+use Rattle.run_stream.specs.Captured.{capture_limit, CaptureIs, IsOver, GivesNothing}
+use Rattle.command_inputs.specs.PortsFile.{ports_end}
+use Rattle.p4x_cmd.specs.Carry.{CarryDue, ProgramIs, HasProgram, Begins, StopsBefore, StopsAtProgram, StopsAtEntries, TakesProgram, TakesPorts, InOrder, KeepsInOrder, Written, entries_stop, not_taken, carried_word, program_read, entries_read, ports_read, capture_reports}
 use Rattle.p4x_cmd.specs.Entries.{no_entries}
 use Rattle.p4x_cmd.specs.Meaning16.{signature16}
 use Rattle.run_stream.specs.Runs.{Ran}
-use Rattle.run_stream.specs.Reports.{report_of}
-use Rattle.p4x_cmd.specs.Reports.{carried_line_of}
+use Rattle.run_stream.specs.Reports.{work_line, report_of, run_line}
 use Rattle.p4x_cmd.specs.Runs.{this_run, this_run14}
 
 -- The premise of what is said of content: the words are a form of this command, and the desk tells what its input files
@@ -76,14 +76,15 @@ pub record Carried (f : CarryFiles) (files : Held) (new : DeskView) (before afte
   pub formed : IsSignature (signature16 program)
   pub given : Fits (no_entries (signature16 program)) (signature16 program)
   pub ran : Ran
-  pub runs : ran ≡ this_run program arrivals
-  pub same : SameRuns (this_run14 source arrivals) ran
+  pub bound : IsBound f.passes
+  pub runs : ran ≡ this_run program f.passes arrivals
+  pub same : SameRuns (this_run14 source f.passes arrivals) ran
   pub text_is : new.told f.text ≡ Some (Some text)
   pub sent_is : new.told f.sent ≡ Some (Some (sent_bytes_of link nano arrivals ran.sent))
   pub report_is : new.told f.report
-      ≡ Some (Some (report_of (length arrivals) ran.sent (ran.cut % 2 ^ 64) (ran.work % 2 ^ 64)))
+      ≡ Some (Some (report_of (length arrivals) ran.sent (ran.cut % 2 ^ 64) (work_line (ran.work % 2 ^ 64))))
   pub line_is : after.printed
-      ≡ said before.printed (carried_line_of (length arrivals) (length ran.sent) (ran.cut % 2 ^ 64))
+      ≡ said before.printed (run_line carried_word (length arrivals) (length ran.sent) (ran.cut % 2 ^ 64))
 
 -- The program was taken: its file reads as it and as no other, within the limit, and it breaks no rule. What was printed
 -- is what the command prints of it.
@@ -104,14 +105,6 @@ Done (order program) files new before after = Printed PrintsOrder program files 
 
 -- The clauses `statuses` and `complete`: the cause of each status.
 
--- the program is refused: it breaks an L rule, S1 or a C rule
-abbrev pub RefusesText : List ℕ → Held → Type 0
-RefusesText program files = (fault : Refusal) × programs.ProgramIs (files program) (Err (Judged fault))
-
--- its file is over its limit
-abbrev pub OverText : List ℕ → Held → Type 0
-OverText program files = programs.ProgramIs (files program) (Err (Limit limited.Program))
-
 -- the program is refused, or it isn't of the one-table form
 abbrev pub RefusesProgram : CarryFiles → Held → Type 0
 RefusesProgram f files = RefusesText f.program files ⊎ ProgramIs (files f.program) (Err Program)
@@ -119,7 +112,7 @@ RefusesProgram f files = RefusesText f.program files ⊎ ProgramIs (files f.prog
 -- the program is taken, and the entries aren't
 abbrev pub RefusesEntries : CarryFiles → Held → Type 0
 RefusesEntries f files =
-    (p : OneTable14) × ProgramIs (files f.program) (Ok p) × (entries_stop (files f.entries) ≡ Some Entries)
+    (p : OneTable14) × ProgramIs (files f.program) (Ok p) × (entries_stop (files f.entries) ≡ Some (Unfit not_taken))
 
 -- the program and the entries are taken, and a P rule holds of the ports
 abbrev pub RefusesPorts : CarryFiles → Held → Type 0
@@ -130,21 +123,11 @@ RefusesPorts f files =
 abbrev pub OverPorts : CarryFiles → Held → Type 0
 OverPorts f files = (p : OneTable14) × HasProgram f files p × (ports_end files f.ports ≡ Err (Limit limited.Ports))
 
--- the capture is there, not over its limit, and this is the first of its K rules that holds, if any
-abbrev pub CaptureIs : Option (List ℕ) → Option Refusal → Type 0
-CaptureIs None found = ⊥
-CaptureIs (Some octets) found = (length octets ≤ capture_limit) × (refusal octets ≡ found)
-
 -- the files before the capture are taken, and a K rule holds of it
 abbrev pub RefusesCapture : CarryFiles → Held → Type 0
 RefusesCapture f files =
     (p : OneTable14) × (ports : List ℕ) × Begins f files p ports
     × ((fault : Refusal) × CaptureIs (files f.capture) (Some fault))
-
--- the capture is there, and over its limit
-abbrev pub IsOver : Option (List ℕ) → Type 0
-IsOver None = ⊥
-IsOver (Some octets) = capture_limit < length octets
 
 -- the files before the capture are taken, and it is over its limit
 abbrev pub OverCapture : CarryFiles → Held → Type 0
@@ -177,10 +160,6 @@ pub record CarryStatuses (f : CarryFiles) (old : DeskView) (files : Held) (statu
   pub limit : Tells (carry_inputs f) old files
       → ComesWhere status 6 (OverText f.program files ⊎ OverPorts f files ⊎ OverCapture f files)
   pub accepted : Tells (carry_inputs f) old files → ComesWhere status 0 (Accepts f files)
-
--- the program's file is taken
-abbrev pub TakesText : List ℕ → Held → Type 0
-TakesText program files = (s : Syntax14) × programs.ProgramIs (files program) (Ok s)
 
 -- the statuses that a command which reads a program and writes no file can have
 abbrev pub IsProgramStatus : ℕ → Type 0
@@ -225,10 +204,6 @@ Usages (Some c) old new before after status = status ≡ 2 → ⊥
 
 -- The clause `files`.
 
--- nothing of the capture is run: one of the rules K1 to K3 is the first that holds of it, or it is over its limit
-abbrev pub GivesNothing : Option (List ℕ) → Type 0
-GivesNothing file = ((rule : ℕ) × (rule ≤ 3) × CaptureIs file (Some (refused rule))) ⊎ IsOver file
-
 -- The text was written and the capture refused: the text is whole, and the sent file and the report hold what the whole
 -- records before the refused one give. They are empty where nothing of the capture is run.
 pub record Translated (f : CarryFiles) (files : Held) (old new : DeskView) : Type 0 where
@@ -239,8 +214,8 @@ pub record Translated (f : CarryFiles) (files : Held) (old new : DeskView) : Typ
   pub begins : Begins f files source ports
   pub written : Written source text program
   pub text_is : new.told f.text ≡ put (old.told f.text) text
-  pub sent_is : new.told f.sent ≡ put (old.told f.sent) (capture_reports program ports (files f.capture)).sent
-  pub report_is : new.told f.report ≡ put (old.told f.report) (capture_reports program ports (files f.capture)).report
+  pub sent_is : new.told f.sent ≡ put (old.told f.sent) (capture_reports program f.passes ports (files f.capture)).sent
+  pub report_is : new.told f.report ≡ put (old.told f.report) (capture_reports program f.passes ports (files f.capture)).report
   pub empty : GivesNothing (files f.capture)
       → (new.told f.sent ≡ put (old.told f.sent) []) × (new.told f.report ≡ put (old.told f.report) [])
 
@@ -325,6 +300,7 @@ pub record CarryWorks (f : CarryFiles) (old new : DeskView) (end : Result (List 
   pub order : InOrder f old end
   pub kept : KeepsInOrder f old new end
   pub once : OnOk end ((text : List ℕ) → old.told f.program ≡ Some (Some text) → ReadsOnce text)
+  pub bound : IsBound f.passes
 
 -- the work of any words: that of a command, or words that are no form
 abbrev pub WorksFor : Option Command → DeskView → DeskView → Result (List ℕ) Stop → Type 0

@@ -1,30 +1,27 @@
 -- The command `carry`: what is due for what its input files hold (this project's own).
-use Rattle.std.specs.Prelude.{◌≡◌, ◌⊎◌, ℕ, nat_lt, if◌then◌else◌, true, List, [], ◌∷◌, length, Option, Some, None, option_to_list, Result, Ok, Err}
+use Rattle.std.specs.Prelude.{◌≡◌, ◌⊎◌, ℕ, true, List, [], ◌∷◌, codes, Option, Some, None, option_to_list, Result, Ok, Err}
 use Rattle.p416_ast.specs.declared.program.Syntax16.{Syntax16}
 use Rattle.p416_reader.specs.Reading.{Reads16}
 use Rattle.p416_rules.specs.Breaks.{BreaksNone, program_rules}
 use Rattle.p4x_fault.specs.declared.Fault.{Fault as Refusal}
+use Rattle.p4x_fault.specs.declared.Rule.TheVariants.{E}
 use Rattle.p4x_io.specs.Desk.{DeskView}
-use Rattle.pcap_io.specs.Ports.{ports_of}
 use Rattle.p414_ast.specs.declared.syntax.Syntax14.{Syntax14}
 use Rattle.p414_one_table.specs.declared.program.OneTable14.{OneTable14}
 use Rattle.p414_one_table.specs.Form.{one_table_of}
 use Rattle.program_commands.specs.Programs as programs
 use Rattle.file_work.specs.declared.stop.Limited.TheVariants as limited
 use Rattle.file_work.specs.declared.stop.Stop.{Stop}
-use Rattle.file_work.specs.declared.stop.Stop.TheVariants.{Fault, Program, Judged, Entries, Refused, Limit}
+use Rattle.file_work.specs.declared.stop.Stop.TheVariants.{Fault, Program, Judged, Unfit, Limit}
 use Rattle.p4x_cmd.specs.Carries.{Carries}
 use Rattle.p4x_cmd.specs.FirstCut.{is_first_cut}
-use Rattle.file_work.specs.Phases.{Loosely, StopsOrGoesOn}
+use Rattle.file_work.specs.Phases.{Unless, StopsOrGoesOn}
 use Rattle.file_work.specs.Works.{Held, Due, Tells, AllKept}
-use Rattle.run_stream.specs.Captured.{Reports, reports_over}
-use Rattle.p4x_cmd.specs.Reports.{lined}
+use Rattle.run_stream.specs.Captured.{EndLines, Reports, reports_over, lined}
+use Rattle.run_stream.specs.Reports.{work_line}
+use Rattle.command_inputs.specs.PortsFile.{ports_end}
 use Rattle.p4x_cmd.specs.Runs.{this_run}
 use Rattle.command_words.specs.Words.{CarryFiles, carry_outputs}
-
--- the greatest length in octets of a ports file
-abbrev pub ports_limit : ℕ
-ports_limit = 4194304
 
 -- What the file of the program comes to: a program of the one-table form, which breaks no rule; or why there is none.
 -- A program that breaks no rule and isn't of the form is refused too.
@@ -37,27 +34,15 @@ ProgramIs file (Err stop) = programs.ProgramIs file (Err stop)
 abbrev pub ComesOnce : Option (List ℕ) → Type 0
 ComesOnce file = (a b : Result OneTable14 Stop) → ProgramIs file a → ProgramIs file b → a ≡ b
 
+-- the refusal of entries that aren't taken: E1 at the first line
+abbrev pub not_taken : Refusal
+not_taken = record { rule = E 1; place = Some (record { line = 1; column = 1 }) }
+
 -- what stops the command at the entries file: one with at least one octet isn't taken
 abbrev pub entries_stop : Option (List ℕ) → Option Stop
 entries_stop None = Some Fault
 entries_stop (Some []) = None
-entries_stop (Some (b ∷ octets)) = Some Entries
-
--- the ports of a text, or its refusal
-abbrev pub taken_ports : Result (List ℕ) Refusal → Result (List ℕ) Stop
-taken_ports (Ok ports) = Ok ports
-taken_ports (Err fault) = Err (Refused fault)
-
--- what the ports file comes to: its ports, or why there are none
-abbrev pub ports_in : Option (List ℕ) → Result (List ℕ) Stop
-ports_in None = Err Fault
-ports_in (Some text) =
-    if nat_lt ports_limit (length text) then Err (Limit limited.Ports) else taken_ports (ports_of text)
-
--- where no ports file is named, no packet has a port of its own
-abbrev pub ports_end : Held → Option (List ℕ) → Result (List ℕ) Stop
-ports_end files None = Ok []
-ports_end files (Some name) = ports_in (files name)
+entries_stop (Some (b ∷ octets)) = Some (Unfit not_taken)
 
 -- the command has a program, and entries that are taken
 abbrev pub HasProgram : CarryFiles → Held → OneTable14 → Type 0
@@ -110,15 +95,10 @@ OfProgram stop =
     (stop ≡ Program) ⊎ ((fault : Refusal) × (stop ≡ Judged fault)) ⊎ (stop ≡ Limit limited.Program)
 
 abbrev pub OfEntries : Stop → Type 0
-OfEntries stop = OfProgram stop ⊎ (stop ≡ Entries)
+OfEntries stop = OfProgram stop ⊎ ((fault : Refusal) × (stop ≡ Unfit fault))
 
 abbrev pub OfPorts : Stop → Type 0
 OfPorts stop = OfEntries stop ⊎ (stop ≡ Limit limited.Ports)
-
--- but for a fault or want of memory this holds
-abbrev pub Unless : {A : Type 0} → Type 0 → Result A Stop → Type 0
-Unless P (Ok done) = P
-Unless P (Err stop) = Loosely stop P
 
 -- How the work ends by the files that it reads first, whatever the desk tells of the others: it stops at them, or they
 -- are taken and it goes on. The program's file comes to one thing only.
@@ -151,9 +131,17 @@ pub record Written (p : OneTable14) (text : List ℕ) (s : Syntax16) : Type 0 wh
   pub whole : is_first_cut s ≡ true
   pub carries : Carries p s
 
--- what the file of the capture comes to, with packets on these ports
-abbrev pub capture_reports : Syntax16 → List ℕ → Option (List ℕ) → Reports
-capture_reports s ports file = reports_over (this_run s) ports file
+-- the report ends with the work, since the program has no counters and no registers
+abbrev pub carry_lines : EndLines
+carry_lines store work = work_line work
+
+-- what the file of the capture comes to, under this bound on passes, with packets on these ports
+abbrev pub capture_reports : Syntax16 → ℕ → List ℕ → Option (List ℕ) → Reports
+capture_reports s passes ports file = reports_over carry_lines (this_run s passes) ports file
+
+-- the word of the command's line
+abbrev pub carried_word : List ℕ
+carried_word = codes "carried"
 
 -- nothing is written
 abbrev pub untouched : CarryFiles → Stop → Due
@@ -163,7 +151,7 @@ untouched f stop = record { outs = (f.text, None) ∷ (f.sent, None) ∷ (f.repo
 abbrev pub delivered : CarryFiles → List ℕ → Reports → Due
 delivered f text r = record {
   outs = (f.text, Some text) ∷ (f.sent, Some r.sent) ∷ (f.report, Some r.report) ∷ [];
-  end = lined r.end;
+  end = lined carried_word r.end;
 }
 
 -- What is due: the first cause in the order of the work, or a text that reads as one program, with the files of this
@@ -172,4 +160,4 @@ abbrev pub CarryDue : CarryFiles → Held → Due → Type 0
 CarryDue f files d =
     ((stop : Stop) × StopsBefore f files stop × (d ≡ untouched f stop))
     ⊎ ((p : OneTable14) × (ports : List ℕ) × (text : List ℕ) × (s : Syntax16) × Begins f files p ports
-    × Written p text s × (d ≡ delivered f text (capture_reports s ports (files f.capture))))
+    × Written p text s × (d ≡ delivered f text (capture_reports s f.passes ports (files f.capture))))

@@ -4,8 +4,8 @@
 -- `program_commands` what the file of a program comes to, and `p414_one_table` which programs are of the one-table form):
 --   Calls      what each clause says: `Carried`, the cause of each status, the line, and what stands in the files
 --   Carry      what is due for the files that `carry` reads: what stops it, and the written text with this run's files
---   Runs       the run over the capture
---   Reports    the line of a run (`run_stream` says what its files are)
+--   Runs       the run over the capture (`run_stream` says what its files and its line are, and `command_inputs` what the
+--              ports come to)
 --
 -- What the written text is (`p416_ast` has the syntax of P4_16; `Reads16` of `p416_reader` says which text reads as which
 -- syntax, and `BreaksNone` of `p416_rules` that it is well-typed):
@@ -28,5 +28,4 @@ pub mod internal
 pub mod Meaning14
 pub mod Meaning16
 pub mod Passes
-pub mod Reports
 pub mod Runs

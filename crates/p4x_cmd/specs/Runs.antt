@@ -8,14 +8,10 @@ use Rattle.p4x_cmd.specs.Entries.{no_entries}
 use Rattle.p4x_cmd.specs.Meaning14.{Run14, signature14}
 use Rattle.p4x_cmd.specs.Meaning16.{Run16, signature16}
 
--- the bound on the passes of a packet that holds where no other is given
-abbrev pub default_bound : ℕ
-default_bound = 256
-
--- the run of a program of P4_16 without entries over these arrivals
-abbrev pub this_run : Syntax16 → List Arrival → Ran
-this_run s arrivals = Run16 s (no_entries (signature16 s)) default_bound arrivals
+-- the run of a program of P4_16 without entries over these arrivals, under this bound on passes
+abbrev pub this_run : Syntax16 → ℕ → List Arrival → Ran
+this_run s bound arrivals = Run16 s (no_entries (signature16 s)) bound arrivals
 
 -- the same of a program of P4_14
-abbrev pub this_run14 : OneTable14 → List Arrival → Ran
-this_run14 p arrivals = Run14 p (no_entries (signature14 p)) default_bound arrivals
+abbrev pub this_run14 : OneTable14 → ℕ → List Arrival → Ran
+this_run14 p bound arrivals = Run14 p (no_entries (signature14 p)) bound arrivals

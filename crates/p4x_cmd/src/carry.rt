@@ -1,35 +1,40 @@
 // The command `carry`.
-ghost use Rattle.std.specs.Prelude.{◌≡◌, ◌≢◌, ◌≤◌, ◌⊎◌, ◌∷◌, [], ℕ, List, true, Some, None, Option, Ok, Err, IfOk, OnOk, OnErr, IfErr, MatchResult, All, option_to_list};
+ghost use Rattle.std.specs.Prelude.{◌≡◌, ◌≢◌, ◌≤◌, ◌⊎◌, ◌∷◌, [], ℕ, List, true, Some, None, Option, IfOk, OnOk, OnErr, IfErr, MatchResult, All};
 ghost use Rattle.state_store.specs.Ports.{IsPort};
-ghost use Rattle.p4x_io.specs.Desk.{Rose, Moves, put, grown};
+ghost use Rattle.fabric.specs.Numbers.{IsBound};
+ghost use Rattle.p4x_io.specs.Desk.{Rose, Moves, put};
 ghost use Rattle.p414_one_table.specs.declared.program.OneTable14.{OneTable14};
 ghost use Rattle.p4x_cmd.specs.Calls.{PacketsFit};
-ghost use Rattle.p4x_cmd.specs.Carry.{ProgramIs, entries_stop, ports_in, ports_end, StopsBefore, Begins, CarryDue, InOrder, KeepsInOrder};
+ghost use Rattle.p4x_cmd.specs.Carry.{ProgramIs, entries_stop, not_taken, StopsBefore, Begins, CarryDue, InOrder, KeepsInOrder};
 ghost use Rattle.p414_one_table.specs.Programs.{is_one_table};
 ghost use Rattle.program_commands.specs.Programs.{ReadsOnce};
 ghost use Rattle.one_table_text.specs.Programs.{program16};
 ghost use Rattle.p4x_cmd.specs.internal.Lowering.{lowered};
-ghost use Rattle.p4x_cmd.specs.internal.Phases.{AnswersFile, IsPortsStop, IsTextOf};
-ghost use Rattle.file_work.specs.Works.{Blames, DeskRose, ReadsRose, Tells, Works, IsPart};
-ghost use Rattle.file_work.specs.Phases.{GrownByFront, Loosely, line_view};
+ghost use Rattle.p4x_cmd.specs.internal.Phases.{AnswersFile, IsTextOf};
+ghost use Rattle.file_work.specs.Works.{Blames, ReadsRose, Tells, Works, IsPart};
+ghost use Rattle.file_work.specs.Phases.{Loosely, line_view};
 ghost use Rattle.p4x_cmd.specs.internal.Plain.{IsSized};
 ghost use Rattle.command_words.specs.Words.{carry_inputs, carry_outputs};
 ghost use Rattle.command_words.specs.Views.{files_of};
 
 use crate::capture::run_capture;
 use crate::lowering::lower;
+use command_inputs::read_ports;
 use command_words::CarryNames;
-use file_work::{Limited, Stop};
+use file_work::Stop;
 use one_table_text::{OneTable16, text_of};
 use p4x_bits::{Numbers, Octets, OutOfMemory};
-use p4x_io::{Desk, Failed, ReadFault, append_all, has_octet, read_file};
+use p4x_fault::{Fault, Place, Rule};
+use p4x_io::{Desk, Failed, append_all, has_octet};
 use p414_one_table::{OneTable14, one_table_of};
-use pcap_io::PortFault;
 use program_commands::read_program;
 use std::alloc::Global;
 
-/// The most octets of a ports file.
-const PORTS_LIMIT: usize = 4194304;
+/// Why entries aren't taken.
+const NOT_TAKEN: Fault = Fault {
+    rule: Rule::E(1),
+    place: Some(Place { line: 1, column: 1 }),
+};
 
 // The written program with its text.
 #[derive(Drop)]
@@ -67,12 +72,12 @@ fn check_entries<D: Desk>(desk: &mut D, name: &str) -> Result<(), Stop>
     ensures moves { Moves [] (D.view desk.old) (D.view desk.new) }
     ensures gives { (file : Option (List ℕ)) → (D.view desk.old).told name.now ≡ Some file
         → MatchResult result (λ u. entries_stop file ≡ None) (λ e. Loosely e (entries_stop file ≡ Some e)) }
-    ensures only { IfErr result (λ e. (e ≡ Stop.Fault) ⊎ (e ≡ Stop.Entries)) }
+    ensures only { IfErr result (λ e. (e ≡ Stop.Fault) ⊎ (e ≡ Stop.Unfit not_taken)) }
     ensures cause { Blames result (Rose ((D.view desk.old).reads name.now) ((D.view desk.new).reads name.now)) }
 {
     match has_octet(desk, name, 0) {
         Ok(false) => Ok(()),
-        Ok(true) => Err(Stop::Entries),
+        Ok(true) => Err(Stop::Unfit(NOT_TAKEN)),
         Err(Failed) => Err(Stop::Fault),
     }
 }
@@ -108,7 +113,7 @@ fn prepare<D: Desk>(alloc: Global, desk: &mut D, names: &CarryNames<'_>) -> Resu
 {
     let program = read_one_table(alloc, desk, names.program)?;
     check_entries(desk, names.entries)?;
-    let ports = read_ports(alloc, desk, names)?;
+    let ports = read_ports(alloc, desk, names.ports)?;
     let Translation { program, text } = translate(alloc, &program)?;
     Ok(Beginning {
         program,
@@ -141,43 +146,6 @@ fn begin<D: Desk>(desk: &mut D, names: &CarryNames<'_>, text: &[u8]) -> Result<(
     Ok(())
 }
 
-// The ports that packets come in on, where a file of them is named.
-fn read_ports<D: Desk>(alloc: Global, desk: &mut D, names: &CarryNames<'_>) -> Result<Numbers, Stop>
-    ensures moves { Moves [] (D.view desk.old) (D.view desk.new) }
-    ensures gives { (files : List ℕ → Option (List ℕ)) → Tells (option_to_list (files_of names.now).ports) (D.view desk.old) files
-        → MatchResult result (λ ports. ports_end files (files_of names.now).ports ≡ Ok ports) (λ e. Loosely e (ports_end files (files_of names.now).ports ≡ Err e)) }
-    ensures fits { IfOk result (λ ports. All IsPort ports) }
-    ensures only { IfErr result (λ e. IsPortsStop e) }
-    ensures cause { Blames result (ReadsRose (option_to_list (files_of names.now).ports) (D.view desk.old) (D.view desk.new)) }
-{
-    match names.ports {
-        Some(name) => read_ports_file(alloc, desk, name),
-        None => Ok(Numbers::new(alloc)),
-    }
-}
-
-// The ports of a file.
-fn read_ports_file<D: Desk>(alloc: Global, desk: &mut D, name: &str) -> Result<Numbers, Stop>
-    ensures moves { Moves [] (D.view desk.old) (D.view desk.new) }
-    ensures gives { (file : Option (List ℕ)) → (D.view desk.old).told name.now ≡ Some file
-        → MatchResult result (λ ports. ports_in file ≡ Ok ports) (λ e. Loosely e (ports_in file ≡ Err e)) }
-    ensures fits { IfOk result (λ ports. All IsPort ports) }
-    ensures only { IfErr result (λ e. IsPortsStop e) }
-    ensures cause { Blames result (Rose ((D.view desk.old).reads name.now) ((D.view desk.new).reads name.now)) }
-{
-    let text = match read_file(alloc, desk, name, PORTS_LIMIT) {
-        Ok(text) => text,
-        Err(ReadFault::Limit) => return Err(Stop::Limit(Limited::Ports)),
-        Err(ReadFault::Failed) => return Err(Stop::Fault),
-        Err(ReadFault::Memory) => return Err(Stop::Memory),
-    };
-    match pcap_io::read_ports(alloc, &text) {
-        Ok(ports) => Ok(ports.list),
-        Err(PortFault::Refused(fault)) => Err(Stop::Refused(fault)),
-        Err(PortFault::Memory) => Err(Stop::Memory),
-    }
-}
-
 /// The command `carry`, with its parts one after another: the line that it prints, or why it stops.
 pub(crate) fn carry<D: Desk>(
     alloc: Global,
@@ -189,6 +157,7 @@ pub(crate) fn carry<D: Desk>(
     ensures order { InOrder (files_of names.now) (D.view desk.old) (line_view result) }
     ensures kept { KeepsInOrder (files_of names.now) (D.view desk.old) (D.view desk.new) (line_view result) }
     ensures once { OnOk (line_view result) ((text : List ℕ) → (D.view desk.old).told names.now.program.now ≡ Some (Some text) → ReadsOnce text) }
+    ensures bound { IsBound names.now.passes }
 {
     let beginning = prepare(alloc, desk, names)?;
     begin(desk, names, beginning.text.as_slice())?;

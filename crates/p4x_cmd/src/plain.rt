@@ -3,13 +3,14 @@ ghost use Rattle.std.specs.Prelude.{◌≡◌, ◌≤◌, ◌+◌, ◌%◌, ◌^
 ghost use Rattle.state_store.specs.Ports.{drop_port};
 ghost use Rattle.fabric.specs.Numbers.{IsArrival};
 ghost use Rattle.one_table_text.specs.declared.one_table.OneTable16.{OneTable16 as Program};
+ghost use Rattle.run_stream.specs.Reports.{work_line};
 ghost use Rattle.p4x_cmd.specs.internal.Plain.{plain_pass, own_outcome, no_store, outs_of, end_of, are_few, IsSized};
 
 use fabric::{Arrival, Fate, Out};
 use one_table_text::OneTable16;
 use p4x_bits::{Octets, OutOfMemory, Rows};
 use p414_one_table::Field;
-use run_stream::Runner;
+use run_stream::{Runner, put_work_line};
 use state_store::DROP_PORT;
 use std::alloc::Global;
 
@@ -98,8 +99,10 @@ impl<'a> Runner for Plain<'a> {
         Ok(Fate { sent, cut: 0 })
     }
 
-    fn work(&self) -> u64 {
-        self.work
+    ghost end_lines = { λ program store work. work_line work };
+
+    fn put_end_lines(&self, alloc: Global, into: &mut Octets) -> Result<(), OutOfMemory> {
+        put_work_line(alloc, into, self.work)
     }
 
     ghost few = { are_few };

@@ -34,8 +34,8 @@ fn run<D: Desk, K: Sink>(alloc: Global, words: &[String], desk: &mut D, out: &mu
 
 /// Runs a command line over a desk of files, prints one line to a sink and answers the status.
 ///
-/// The words are `carry PROGRAM ENTRIES CAPTURE --text F --sent F --report F [--ports F]`, with the options in any order, `check PROGRAM` or
-/// `order PROGRAM`. The status is 0 where the program was carried, or is accepted; 1 after a fault of a file that the words name or of the sink;
+/// The words are `carry PROGRAM ENTRIES CAPTURE --text F --sent F --report F [--ports F] [--passes N]`, with the options in any order,
+/// `check PROGRAM` or `order PROGRAM`. The status is 0 where the program was carried, or is accepted; 1 after a fault of a file that the words name or of the sink;
 /// 2 where the words are no form of a command; 3 where the program isn't taken: where its text breaks one of the rules L1 to L4, S1 and C1 to
 /// C28, and by `carry` also where it isn't of the one-table form; 4 where the entries file has an octet; 5 where the ports break one of the
 /// rules P1 and P2, or the capture one of the rules K1 to K5; 6 where the program, the ports file or the capture is over its limit; and 7 for

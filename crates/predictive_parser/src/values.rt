@@ -37,6 +37,13 @@ impl<T: Drop> ValueStack<T> {
         Ok(())
     }
 
+    /// Takes all values off. The memory stays for those to come.
+    pub fn clear(&mut self)
+        ensures { self.new ≡ [] }
+    {
+        self.items.clear();
+    }
+
     /// Takes the newest value off, if there is one.
     pub fn pop(&mut self) -> Option<T>
         ensures { MatchOption result ((self.old ≡ []) × (self.new ≡ [])) (λ item. self.old ≡ item ∷ self.new) }

@@ -1,4 +1,5 @@
 pub mod Exits
 pub mod Files
 pub mod Rules
+pub mod Stops
 pub mod Texts

@@ -13,3 +13,7 @@ IsAlone P answer = P answer × ((other : Result Syntax14 Stop) → P other → o
 abbrev pub AnswersFile : Option (List ℕ) → Result Syntax14 Stop → Type 0
 AnswersFile file (Ok s) = IsAlone (ProgramIs file) (Ok s)
 AnswersFile file (Err stop) = Loosely stop (IsAlone (ProgramIs file) (Err stop))
+
+-- the file comes to one thing only
+abbrev pub ComesOnce : Option (List ℕ) → Type 0
+ComesOnce file = (a b : Result Syntax14 Stop) → ProgramIs file a → ProgramIs file b → a ≡ b

@@ -1,7 +1,10 @@
 -- The commands `check` and `order`: what is due for what the file of the program holds (this project's own).
 use Rattle.std.specs.Prelude.{◌≡◌, ◌⊎◌, List, ℕ, [], Result, Ok, Err}
 use Rattle.p414_ast.specs.declared.syntax.Syntax14.{Syntax14}
+use Rattle.p4x_fault.specs.declared.Fault.{Fault as Refusal}
+use Rattle.file_work.specs.declared.stop.Limited.TheVariants as limited
 use Rattle.file_work.specs.declared.stop.Stop.{Stop}
+use Rattle.file_work.specs.declared.stop.Stop.TheVariants.{Judged, Limit}
 use Rattle.file_work.specs.Works.{Held, Due, IsLoose}
 use Rattle.program_commands.specs.Lines.{PrintsAccepted, PrintsOrder}
 use Rattle.program_commands.specs.Programs.{ProgramIs}
@@ -33,3 +36,14 @@ CheckDue = ProgramDue PrintsAccepted
 
 abbrev pub OrderDue : List ℕ → Held → Due → Type 0
 OrderDue = ProgramDue PrintsOrder
+
+-- The program that a file holds is refused: it breaks an L rule, S1 or a C rule; or the file is over its limit; or it is
+-- taken.
+abbrev pub RefusesText : List ℕ → Held → Type 0
+RefusesText program files = (fault : Refusal) × ProgramIs (files program) (Err (Judged fault))
+
+abbrev pub OverText : List ℕ → Held → Type 0
+OverText program files = ProgramIs (files program) (Err (Limit limited.Program))
+
+abbrev pub TakesText : List ℕ → Held → Type 0
+TakesText program files = (s : Syntax14) × ProgramIs (files program) (Ok s)

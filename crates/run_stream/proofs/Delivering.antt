@@ -12,8 +12,8 @@ use Rattle.file_work.specs.declared.stop.Stop.{Stop}
 use Rattle.file_work.specs.declared.stop.Stop.TheVariants.{Fault, Refused, Limit, Memory}
 use Rattle.file_work.specs.Phases.{GrownByFront}
 use Rattle.run_stream.specs.declared.counts.Counts.{Counts}
-use Rattle.run_stream.specs.Captured.{Reports, capture_limit, reports_over, reading_reports, run_reports, stopped, IsLoose, Delivers}
-use Rattle.run_stream.specs.Reports.{end_lines}
+use Rattle.run_stream.specs.Captured.{EndLines, Reports, capture_limit, reports_over, reading_reports, run_reports, stopped, IsLoose, Delivers}
+use Rattle.run_stream.specs.Reports.{end_part}
 use Rattle.run_stream.specs.Runs.{Outcome, Ran, run_of, AreFew}
 use Rattle.run_stream.specs.internal.Streams.{View, run_view, Cut, Refuses, PieceEnds, PiecesEnd}
 use Rattle.run_stream.proofs.Pieces.{exact_part, grown_still, grown_whole, grown_part, grown_front}
@@ -24,26 +24,26 @@ loose_end stop (inl is) = inl (ap (λ (s : Stop). Err s) is)
 loose_end stop (inr is) = inr (ap (λ (s : Stop). Err s) is)
 
 -- what a capture comes to, by whether it is over its limit
-abbrev limited_by : (List Arrival → Ran) → List ℕ → List ℕ → Bool → Reports
-limited_by run ports text over = if over then stopped (Limit limited.Capture) else reading_reports run ports (reading_of text)
+abbrev limited_by : EndLines → (List Arrival → Ran) → List ℕ → List ℕ → Bool → Reports
+limited_by lines run ports text over = if over then stopped (Limit limited.Capture) else reading_reports lines run ports (reading_of text)
 
-pub within : (run : List Arrival → Ran) (ports text : List ℕ) → length text ≤ capture_limit → reports_over run ports (Some text) ≡ reading_reports run ports (reading_of text)
-within run ports text fits =
+pub within : (lines : EndLines) (run : List Arrival → Ran) (ports text : List ℕ) → length text ≤ capture_limit → reports_over lines run ports (Some text) ≡ reading_reports lines run ports (reading_of text)
+within lines run ports text fits =
     let not_over : nat_lt capture_limit (length text) ≡ false = grind (arith, nat_tests) in
-    ap (limited_by run ports text) not_over
+    ap (limited_by lines run ports text) not_over
 
-over : (run : List Arrival → Ran) (ports text : List ℕ) → capture_limit < length text → reports_over run ports (Some text) ≡ stopped (Limit limited.Capture)
-over run ports text long =
+over : (lines : EndLines) (run : List Arrival → Ran) (ports text : List ℕ) → capture_limit < length text → reports_over lines run ports (Some text) ≡ stopped (Limit limited.Capture)
+over lines run ports text long =
     let is_over : nat_lt capture_limit (length text) ≡ true = grind (arith, nat_tests) in
-    ap (limited_by run ports text) is_over
+    ap (limited_by lines run ports text) is_over
 
 -- how many packets came and left, as a view tells
 abbrev pub counts_in : View → Counts
 counts_in v = record { arrivals = v.held.arrivals; sent = v.held.departures; cut = v.held.cut }
 
 -- the end part that a view tells
-abbrev pub end_in : View → List ℕ
-end_in v = end_lines v.held.arrivals v.held.departures v.held.cut v.work
+abbrev pub end_in : EndLines → View → List ℕ
+end_in lines v = end_part v.held.arrivals v.held.departures v.held.cut (lines v.store v.work)
 
 module _ (sent report sent' report' : Option (Option (List ℕ))) where
   abbrev Delivered : Reports → Result Counts Stop → Type 0
@@ -59,12 +59,12 @@ module _ (sent report sent' report' : Option (Option (List ℕ))) where
       )
 
   -- the capture is over its limit
-  pub delivers_over : (run : List Arrival → Ran) (ports text : List ℕ) → capture_limit < length text → sent' ≡ sent → report' ≡ report → Delivered (reports_over run ports (Some text)) (Err (Limit limited.Capture))
-  delivers_over run ports text long same_sent same_report =
-      subst (λ (r : Reports). Delivered r (Err (Limit limited.Capture))) (sym (over run ports text long))
+  pub delivers_over : (lines : EndLines) (run : List Arrival → Ran) (ports text : List ℕ) → capture_limit < length text → sent' ≡ sent → report' ≡ report → Delivered (reports_over lines run ports (Some text)) (Err (Limit limited.Capture))
+  delivers_over lines run ports text long same_sent same_report =
+      subst (λ (r : Reports). Delivered r (Err (Limit limited.Capture))) (sym (over lines run ports text long))
       (inl (refl, same_sent ∙ sym (grown_none sent), same_report ∙ sym (grown_none report)))
 
-  module _ (outcome : Contents → Arrival → Outcome) (store : Contents) (few : AreFew outcome) (ports text : List ℕ) (fits : length text ≤ capture_limit) where
+  module _ (lines : EndLines) (outcome : Contents → Arrival → Outcome) (store : Contents) (few : AreFew outcome) (ports text : List ℕ) (fits : length text ≤ capture_limit) where
     abbrev packets : List Arrival
     packets = arrivals_of ports (reading_of text).records
 
@@ -75,39 +75,40 @@ module _ (sent report sent' report' : Option (Option (List ℕ))) where
     view = run_view outcome store ports (reading_of text)
 
     abbrev due : Option Refusal → Reports
-    due found = run_reports found (reading_of text).head packets ran
+    due found = run_reports lines found (reading_of text).head packets ran
 
     means : IsRunOf ran (reading_of text).head packets view
     means = is_run_of outcome store ports text few fits
 
-    due_is : (found : Option Refusal) → refusal_in (reading_of text) ≡ found → reports_over (run_of outcome store) ports (Some text) ≡ due found
-    due_is found is = within (run_of outcome store) ports text fits ∙ ap due is
+    due_is : (found : Option Refusal) → refusal_in (reading_of text) ≡ found → reports_over lines (run_of outcome store) ports (Some text) ≡ due found
+    due_is found is = within lines (run_of outcome store) ports text fits ∙ ap due is
 
-    by_due : (found : Option Refusal) (end : Result Counts Stop) → refusal_in (reading_of text) ≡ found → Delivered (due found) end → Delivered (reports_over (run_of outcome store) ports (Some text)) end
+    by_due : (found : Option Refusal) (end : Result Counts Stop) → refusal_in (reading_of text) ≡ found → Delivered (due found) end → Delivered (reports_over lines (run_of outcome store) ports (Some text)) end
     by_due found end is so = subst (λ (r : Reports). Delivered r end) (sym (due_is found is)) so
 
     -- the capture is refused behind the records that were run
     pub delivers_refused : (fault : Refusal) → refusal_in (reading_of text) ≡ Some fault → sent' ≡ grown sent view.held.sent → report' ≡ grown report view.held.report
-        → Delivered (reports_over (run_of outcome store) ports (Some text)) (Err (Refused fault))
+        → Delivered (reports_over lines (run_of outcome store) ports (Some text)) (Err (Refused fault))
     delivers_refused fault is now_sent now_report =
         by_due (Some fault) (Err (Refused fault)) is (inl (refl, now_sent ∙ ap (grown sent) means.sent, now_report ∙ ap (grown report) means.report))
 
     abbrev pub end_text : List ℕ
-    end_text = end_in view
+    end_text = end_in lines view
 
     report_due : (due None).report ≡ view.held.report ++ end_text
     report_due =
-        sym (ap (λ (l : List ℕ). l ++ end_lines (length packets) (length ran.sent) (ran.cut % 2 ^ 64) (ran.work % 2 ^ 64)) means.report)
-        ∙ ap (λ (n : ℕ). view.held.report ++ end_lines n (length ran.sent) (ran.cut % 2 ^ 64) (ran.work % 2 ^ 64)) (sym means.arrivals)
-        ∙ ap (λ (n : ℕ). view.held.report ++ end_lines view.held.arrivals n (ran.cut % 2 ^ 64) (ran.work % 2 ^ 64)) (sym means.departures)
-        ∙ ap (λ (n : ℕ). view.held.report ++ end_lines view.held.arrivals view.held.departures n (ran.work % 2 ^ 64)) (sym means.cut)
-        ∙ ap (λ (n : ℕ). view.held.report ++ end_lines view.held.arrivals view.held.departures view.held.cut n) (sym means.work)
+        sym (ap (λ (l : List ℕ). l ++ end_part (length packets) (length ran.sent) (ran.cut % 2 ^ 64) (lines ran.store (ran.work % 2 ^ 64))) means.report)
+        ∙ ap (λ (n : ℕ). view.held.report ++ end_part n (length ran.sent) (ran.cut % 2 ^ 64) (lines ran.store (ran.work % 2 ^ 64))) (sym means.arrivals)
+        ∙ ap (λ (n : ℕ). view.held.report ++ end_part view.held.arrivals n (ran.cut % 2 ^ 64) (lines ran.store (ran.work % 2 ^ 64))) (sym means.departures)
+        ∙ ap (λ (n : ℕ). view.held.report ++ end_part view.held.arrivals view.held.departures n (lines ran.store (ran.work % 2 ^ 64))) (sym means.cut)
+        ∙ ap (λ (c : Contents). view.held.report ++ end_part view.held.arrivals view.held.departures view.held.cut (lines c (ran.work % 2 ^ 64))) (sym means.store)
+        ∙ ap (λ (n : ℕ). view.held.report ++ end_part view.held.arrivals view.held.departures view.held.cut (lines view.store n)) (sym means.work)
 
     -- a fault or want of memory before the end of the capture
-    pub delivers_cut : (stop : Stop) → Cut view sent report sent' report' stop → Delivered (reports_over (run_of outcome store) ports (Some text)) (Err stop)
+    pub delivers_cut : (stop : Stop) → Cut view sent report sent' report' stop → Delivered (reports_over lines (run_of outcome store) ports (Some text)) (Err stop)
     delivers_cut stop cut = by_refusal (refusal_in (reading_of text)) refl
       where
-        by_refusal : (found : Option Refusal) → refusal_in (reading_of text) ≡ found → Delivered (reports_over (run_of outcome store) ports (Some text)) (Err stop)
+        by_refusal : (found : Option Refusal) → refusal_in (reading_of text) ≡ found → Delivered (reports_over lines (run_of outcome store) ports (Some text)) (Err stop)
         by_refusal None is =
             by_due None (Err stop) is
             (inr (loose_end stop cut.0, subst (λ (l : List ℕ). GrownByFront sent l sent') means.sent cut.1, grown_front report report' view.held.report end_text (due None).report report_due cut.2))
@@ -117,7 +118,7 @@ module _ (sent report sent' report' : Option (Option (List ℕ))) where
 
     -- the same while the end part of the report is appended
     pub delivers_part : (stop : Stop) (report0 : Option (Option (List ℕ))) → refusal_in (reading_of text) ≡ None → (stop ≡ Fault) ⊎ (stop ≡ Memory) → sent' ≡ grown sent view.held.sent → report0 ≡ grown report view.held.report
-        → GrownByFront report0 end_text report' → Delivered (reports_over (run_of outcome store) ports (Some text)) (Err stop)
+        → GrownByFront report0 end_text report' → Delivered (reports_over lines (run_of outcome store) ports (Some text)) (Err stop)
     delivers_part stop report0 is loose now_sent had some =
         by_due None (Err stop) is
         (inr (loose_end stop loose, exact_part sent sent' (due None).sent (now_sent ∙ ap (grown sent) means.sent), grown_part report report0 report' view.held.report end_text (due None).report report_due had some))
@@ -130,35 +131,35 @@ module _ (sent report sent' report' : Option (Option (List ℕ))) where
 
     -- all was appended
     pub delivers_all : (counts : Counts) (report0 : Option (Option (List ℕ))) → refusal_in (reading_of text) ≡ None → sent' ≡ grown sent view.held.sent → report0 ≡ grown report view.held.report → report' ≡ grown report0 end_text
-        → counts ≡ counts_in view → Delivered (reports_over (run_of outcome store) ports (Some text)) (Ok counts)
+        → counts ≡ counts_in view → Delivered (reports_over lines (run_of outcome store) ports (Some text)) (Ok counts)
     delivers_all counts report0 is now_sent had now counts_are =
         by_due None (Ok counts) is
         (inl (ap (λ (c : Counts). let e : Result Counts Stop = Ok c in e) (counts_are ∙ counts_due), now_sent ∙ ap (grown sent) means.sent, grown_whole report report0 report' view.held.report end_text (due None).report report_due had now))
 
 -- How the run of the pieces ends.
 
-module _ (sent report sent' report' : Option (Option (List ℕ))) (outcome : Contents → Arrival → Outcome) (store : Contents) (few : AreFew outcome) (ports : List ℕ) (reader : Reading) (stream : View) where
+module _ (sent report sent' report' : Option (Option (List ℕ))) (lines : EndLines) (outcome : Contents → Arrival → Outcome) (store : Contents) (few : AreFew outcome) (ports : List ℕ) (reader : Reading) (stream : View) where
   abbrev ended : Option (List ℕ) → Result Counts Stop → Type 0
-  ended file end = Delivers (reports_over (run_of outcome store) ports file) end sent sent' report report'
+  ended file end = Delivers (reports_over lines (run_of outcome store) ports file) end sent sent' report report'
 
   -- it was refused or cut short
   pub pieces_stopped : (file : Option (List ℕ)) (stop : Stop) (end : Result (Unit {0}) Stop) → end ≡ Err stop → ((text : List ℕ) → file ≡ Some text → length text ≤ capture_limit)
       → PiecesEnd outcome store ports file sent report sent' report' reader stream end → ended file (Err stop)
   pieces_stopped None stop end is fits so =
       let kept = subst (λ (e : Result (Unit {0}) Stop). IsErrAnd e (λ s. ((s ≡ Fault) ⊎ (s ≡ Memory)) × (sent' ≡ sent) × (report' ≡ report))) is so in
-      delivers_nothing sent report sent' report' (reports_over (run_of outcome store) ports None) stop kept.0 kept.1 kept.2
+      delivers_nothing sent report sent' report' (reports_over lines (run_of outcome store) ports None) stop kept.0 kept.1 kept.2
   pieces_stopped (Some text) stop end is fits so =
       by_end (subst (λ (e : Result (Unit {0}) Stop). PieceEnds outcome store ports text sent report sent' report' reader stream e) is (so (fits text refl)))
     where
       refused : Refuses outcome store ports text sent report sent' report' stop → ended (Some text) (Err stop)
       refused found =
           subst (λ (s : Stop). ended (Some text) (Err s)) (sym found.1)
-          (delivers_refused sent report sent' report' outcome store few ports text (fits text refl) found.0
+          (delivers_refused sent report sent' report' lines outcome store few ports text (fits text refl) found.0
           (ap (λ (f : Option Refusal). refusal_by f (reading_of text).head (reading_of text).left) found.2) found.3 found.4)
 
       by_end : PieceEnds outcome store ports text sent report sent' report' reader stream (Err stop) → ended (Some text) (Err stop)
       by_end (inl found) = refused found
-      by_end (inr cut) = delivers_cut sent report sent' report' outcome store few ports text (fits text refl) stop cut
+      by_end (inr cut) = delivers_cut sent report sent' report' lines outcome store few ports text (fits text refl) stop cut
 
   -- the capture is refused at its end
   pub pieces_refused : (file : Option (List ℕ)) (fault : Refusal) → ((text : List ℕ) → file ≡ Some text → length text ≤ capture_limit)
@@ -166,30 +167,30 @@ module _ (sent report sent' report' : Option (Option (List ℕ))) (outcome : Con
   pieces_refused None fault fits so is = absurd so
   pieces_refused (Some text) fault fits so is =
       let done = (so (fits text refl)).1 in
-      delivers_refused sent report sent' report' outcome store few ports text (fits text refl) fault (sym (ap refusal_in done.reader_is) ∙ is) done.sent_is done.report_is
+      delivers_refused sent report sent' report' lines outcome store few ports text (fits text refl) fault (sym (ap refusal_in done.reader_is) ∙ is) done.sent_is done.report_is
 
--- the end part with the work under another name
-pub reported_by : (told told' : Option (Option (List ℕ))) (arrivals departures cut n work : ℕ) → n ≡ work → told' ≡ grown told (end_lines arrivals departures cut n) → told' ≡ grown told (end_lines arrivals departures cut work)
-reported_by told told' arrivals departures cut n work is now = now ∙ ap (λ (k : ℕ). grown told (end_lines arrivals departures cut k)) is
+-- the end part with lines that are equal
+pub reported_by : (told told' : Option (Option (List ℕ))) (arrivals departures cut : ℕ) (a b : List ℕ) → a ≡ b → told' ≡ grown told (end_part arrivals departures cut a) → told' ≡ grown told (end_part arrivals departures cut b)
+reported_by told told' arrivals departures cut a b is now = now ∙ ap (λ (l : List ℕ). grown told (end_part arrivals departures cut l)) is
 
-pub partly_by : (told told' : Option (Option (List ℕ))) (arrivals departures cut n work : ℕ) → n ≡ work → GrownByFront told (end_lines arrivals departures cut n) told' → GrownByFront told (end_lines arrivals departures cut work) told'
-partly_by told told' arrivals departures cut n work is part = subst (λ (k : ℕ). GrownByFront told (end_lines arrivals departures cut k) told') is part
+pub partly_by : (told told' : Option (Option (List ℕ))) (arrivals departures cut : ℕ) (a b : List ℕ) → a ≡ b → GrownByFront told (end_part arrivals departures cut a) told' → GrownByFront told (end_part arrivals departures cut b) told'
+partly_by told told' arrivals departures cut a b is part = subst (λ (l : List ℕ). GrownByFront told (end_part arrivals departures cut l) told') is part
 
 -- the end part of the report is appended
-module _ (sent report sent' report0 report' : Option (Option (List ℕ))) (outcome : Contents → Arrival → Outcome) (store : Contents) (few : AreFew outcome) (ports : List ℕ) (reader : Reading) (stream : View) where
+module _ (sent report sent' report0 report' : Option (Option (List ℕ))) (lines : EndLines) (outcome : Contents → Arrival → Outcome) (store : Contents) (few : AreFew outcome) (ports : List ℕ) (reader : Reading) (stream : View) where
   pub pieces_reported : (file : Option (List ℕ)) → ((text : List ℕ) → file ≡ Some text → length text ≤ capture_limit) → PiecesEnd outcome store ports file sent report sent' report0 reader stream (Ok tt)
-      → refusal_in reader ≡ None → report' ≡ grown report0 (end_in stream) → Delivers (reports_over (run_of outcome store) ports file) (Ok (counts_in stream)) sent sent' report report'
+      → refusal_in reader ≡ None → report' ≡ grown report0 (end_in lines stream) → Delivers (reports_over lines (run_of outcome store) ports file) (Ok (counts_in stream)) sent sent' report report'
   pieces_reported None fits so is now = absurd so
   pieces_reported (Some text) fits so is now =
       let done = (so (fits text refl)).1 in
-      delivers_all sent report sent' report' outcome store few ports text (fits text refl) (counts_in stream) report0 (sym (ap refusal_in done.reader_is) ∙ is) done.sent_is done.report_is
-      (now ∙ ap (λ (v : View). grown report0 (end_in v)) done.stream_is) (ap counts_in done.stream_is)
+      delivers_all sent report sent' report' lines outcome store few ports text (fits text refl) (counts_in stream) report0 (sym (ap refusal_in done.reader_is) ∙ is) done.sent_is done.report_is
+      (now ∙ ap (λ (v : View). grown report0 (end_in lines v)) done.stream_is) (ap counts_in done.stream_is)
 
   -- the desk failed there, or there was no memory
   pub pieces_partly : (file : Option (List ℕ)) (stop : Stop) → ((text : List ℕ) → file ≡ Some text → length text ≤ capture_limit) → PiecesEnd outcome store ports file sent report sent' report0 reader stream (Ok tt)
-      → refusal_in reader ≡ None → (stop ≡ Fault) ⊎ (stop ≡ Memory) → GrownByFront report0 (end_in stream) report' → Delivers (reports_over (run_of outcome store) ports file) (Err stop) sent sent' report report'
+      → refusal_in reader ≡ None → (stop ≡ Fault) ⊎ (stop ≡ Memory) → GrownByFront report0 (end_in lines stream) report' → Delivers (reports_over lines (run_of outcome store) ports file) (Err stop) sent sent' report report'
   pieces_partly None stop fits so is loose part = absurd so
   pieces_partly (Some text) stop fits so is loose part =
       let done = (so (fits text refl)).1 in
-      delivers_part sent report sent' report' outcome store few ports text (fits text refl) stop report0 (sym (ap refusal_in done.reader_is) ∙ is) loose done.sent_is done.report_is
-      (subst (λ (l : List ℕ). GrownByFront report0 l report') (ap end_in done.stream_is) part)
+      delivers_part sent report sent' report' lines outcome store few ports text (fits text refl) stop report0 (sym (ap refusal_in done.reader_is) ∙ is) loose done.sent_is done.report_is
+      (subst (λ (l : List ℕ). GrownByFront report0 l report') (ap (end_in lines) done.stream_is) part)

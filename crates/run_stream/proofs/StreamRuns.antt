@@ -112,6 +112,11 @@ module _ (outcome : Contents → Arrival → Outcome) where
       ∙ mod-add-mod (v.work + o.work) (2 ^ 64) rest.work
       ∙ ap (λ (n : ℕ). n % 2 ^ 64) (add_assoc v.work o.work rest.work)
 
+  store_all : (number : ℕ) (records : List Record) (v : View) → (after_all outcome records v).store ≡ (run number v.store (arrivals_of v.held.ports records)).store
+  unfolding after_all
+  store_all number [] v = refl
+  store_all number (one ∷ records) v = store_all (number + 1) records (after_one outcome one v)
+
   departures_all : (number : ℕ) (records : List Record) (v : View)
       → (after_all outcome records v).held.departures % 2 ^ 64 ≡ (v.held.departures + length (run number v.store (arrivals_of v.held.ports records)).sent) % 2 ^ 64
   unfolding after_all
@@ -200,8 +205,8 @@ pub arrivals_many : (ports : List ℕ) (records : List Record) → length (arriv
 arrivals_many ports [] = refl
 arrivals_many ports (one ∷ records) = ap (λ (n : ℕ). suc n) (arrivals_many (drop 1 ports) records)
 
--- What a run has come to is the run over the packets so far: so many came in and were sent, so many items were cut, with this work, and
--- these octets are those of the sent file and of the records' part of the report.
+-- What a run has come to is the run over the packets so far: so many came in and were sent, so many items were cut, with this work and
+-- store, and these octets are those of the sent file and of the records' part of the report.
 pub record IsRunOf (ran : Ran) (head : Option Head) (packets : List Arrival) (v : View) : Type 0 where
   pub sent : v.held.sent ≡ sent_file head packets ran.sent
   pub report : v.held.report ≡ sent_lines ran.sent
@@ -209,6 +214,7 @@ pub record IsRunOf (ran : Ran) (head : Option Head) (packets : List Arrival) (v 
   pub departures : v.held.departures ≡ length ran.sent
   pub cut : v.held.cut ≡ ran.cut % 2 ^ 64
   pub work : v.work ≡ ran.work % 2 ^ 64
+  pub store : v.store ≡ ran.store
 
 module _ (outcome : Contents → Arrival → Outcome) (store : Contents) (ports : List ℕ) where
   abbrev run_over : List Record → Ran
@@ -243,6 +249,10 @@ module _ (outcome : Contents → Arrival → Outcome) (store : Contents) (ports 
   work_by None records = work_all outcome 0 records (start ports store) ∙ ap (λ (n : ℕ). n % 2 ^ 64) (zero-add (run_over records).work)
   work_by (Some head) records = work_all outcome 0 records (begun (Some head) (start ports store)) ∙ ap (λ (n : ℕ). n % 2 ^ 64) (zero-add (run_over records).work)
 
+  store_by : (head : Option Head) (records : List Record) → (view_after head records).store ≡ (run_over records).store
+  store_by None records = store_all outcome 0 records (start ports store)
+  store_by (Some head) records = store_all outcome 0 records (begun (Some head) (start ports store))
+
   start_small : (head : Option Head) → Small (begun head (start ports store))
   start_small None = record { arrivals = some; departures = some; cut = some; work = some }
   start_small (Some head) = record { arrivals = some; departures = some; cut = some; work = some }
@@ -267,4 +277,5 @@ is_run_of outcome store ports octets few short =
       departures = below _ _ small.departures (omega arith) (departures_by outcome store ports reading.head reading.records);
       cut = sym (mod-eq_of_lt small.cut) ∙ cut_by outcome store ports reading.head reading.records;
       work = sym (mod-eq_of_lt small.work) ∙ work_by outcome store ports reading.head reading.records;
+      store = store_by outcome store ports reading.head reading.records;
     }

@@ -16,13 +16,24 @@ sent_line packet = (codes "sent " ++ decimal packet.port) ++ (32 ∷ decimal (le
 abbrev pub sent_lines : List Sent → List ℕ
 sent_lines sent = flat_map sent_line sent
 
--- The end part of the report: how many packets came in and went out, how many items the bound on passes cut, and the
--- work. It is that of a program without counters and registers, which have no lines yet.
-abbrev pub end_lines : ℕ → ℕ → ℕ → ℕ → List ℕ
-end_lines arrivals departures cut work =
-    count_line (codes "in") arrivals
-    ++ (count_line (codes "out") departures ++ (count_line (codes "cut") cut ++ count_line (codes "work") work))
+-- the line of the work
+abbrev pub work_line : ℕ → List ℕ
+work_line work = count_line (codes "work") work
+
+-- how many packets came in and went out, and how many items the bound on passes cut
+abbrev pub count_lines : ℕ → ℕ → ℕ → List ℕ
+count_lines arrivals departures cut =
+    count_line (codes "in") arrivals ++ (count_line (codes "out") departures ++ count_line (codes "cut") cut)
+
+-- the end part of the report: these counts, and then the lines that the runner ends it with
+abbrev pub end_part : ℕ → ℕ → ℕ → List ℕ → List ℕ
+end_part arrivals departures cut own = count_lines arrivals departures cut ++ own
 
 -- the report of a run over a whole capture
-abbrev pub report_of : ℕ → List Sent → ℕ → ℕ → List ℕ
-report_of arrivals sent cut work = sent_lines sent ++ end_lines arrivals (length sent) cut work
+abbrev pub report_of : ℕ → List Sent → ℕ → List ℕ → List ℕ
+report_of arrivals sent cut own = sent_lines sent ++ end_part arrivals (length sent) cut own
+
+-- the line that a command prints of a run: its word, packets in, packets out, and what was cut
+abbrev pub run_line : List ℕ → ℕ → ℕ → ℕ → List ℕ
+run_line word arrivals departures cut =
+    word ++ (32 ∷ decimal arrivals) ++ (32 ∷ decimal departures) ++ (32 ∷ decimal cut) ++ 10 ∷ []

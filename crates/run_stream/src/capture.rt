@@ -7,7 +7,7 @@ ghost use Rattle.pcap_io.specs.Captures.{reading_of, refusal_in, IsRecord};
 ghost use Rattle.file_work.specs.Works.{Blames};
 ghost use Rattle.file_work.specs.Phases.{GrownByFront};
 ghost use Rattle.run_stream.specs.Captured.{capture_limit, reports_over, Delivers, StopsRun};
-ghost use Rattle.run_stream.specs.Reports.{end_lines};
+ghost use Rattle.run_stream.specs.Reports.{end_part};
 ghost use Rattle.run_stream.specs.Runs.{run_of};
 ghost use Rattle.run_stream.specs.internal.Streams.{held_of, view_of, empty, start, cleared, nothing_read, Streamed, PieceEnds, PiecesEnd};
 
@@ -106,6 +106,7 @@ fn run_pieces<D: Desk, R: Runner>(
     ensures gives { (file : Option (List ℕ)) → (D.view desk.old).told names.now.capture.now ≡ Some file
         → PiecesEnd (R.outcome (R.setting runner.old)) (R.store runner.old) stream.old.ports.now file ((D.view desk.old).told names.now.sent.now) ((D.view desk.old).told names.now.report.now) ((D.view desk.new).told names.now.sent.now) ((D.view desk.new).told names.now.report.now) reader.new (view_of stream.new (R.store runner.new) (R.done runner.new)) result }
     ensures report_there { OnOk result ((D.view desk.new).told names.now.report.now ≡ Some None → ⊥) }
+    ensures setting { OnOk result (R.setting runner.new ≡ R.setting runner.old) }
     ensures stops { IfErr result (λ e. StopsRun e) }
     ensures cause { Blames result (Rose ((D.view desk.old).reads names.now.capture.now) ((D.view desk.new).reads names.now.capture.now)
         ⊎ Rose ((D.view desk.old).writes names.now.sent.now) ((D.view desk.new).writes names.now.sent.now)
@@ -137,22 +138,22 @@ fn end_capture(reader: &CaptureReader) -> Result<(), Stop>
 }
 
 // Appends the end part of the report.
-fn end_report<D: Desk>(
+fn end_report<D: Desk, R: Runner>(
     alloc: Global,
     desk: &mut D,
     name: &str,
     counts: Counts,
-    work: u64,
+    runner: &R,
 ) -> Result<(), Stop>
     requires there { (D.view desk.old).told name.now ≡ Some None → ⊥ }
     ensures moves { Moves (name.now ∷ []) (D.view desk.old) (D.view desk.new) }
-    ensures line { OnOk result ((D.view desk.new).told name.now ≡ grown ((D.view desk.old).told name.now) (end_lines counts.arrivals counts.sent counts.cut work)) }
+    ensures line { OnOk result ((D.view desk.new).told name.now ≡ grown ((D.view desk.old).told name.now) (end_part counts.arrivals counts.sent counts.cut (R.end_lines (R.setting runner.now) (R.store runner.now) (R.done runner.now)))) }
     ensures only { IfErr result (λ e. (e ≡ Stop.Fault) ⊎ (e ≡ Stop.Memory)) }
-    ensures part { OnErr result (GrownByFront ((D.view desk.old).told name.now) (end_lines counts.arrivals counts.sent counts.cut work) ((D.view desk.new).told name.now)) }
+    ensures part { OnErr result (GrownByFront ((D.view desk.old).told name.now) (end_part counts.arrivals counts.sent counts.cut (R.end_lines (R.setting runner.now) (R.store runner.now) (R.done runner.now))) ((D.view desk.new).told name.now)) }
     ensures cause { Blames result (Rose ((D.view desk.old).writes name.now) ((D.view desk.new).writes name.now)) }
 {
-    let part = end_part(alloc, counts, work)?;
-    append_all(desk, name, part.as_bytes())?;
+    let part = end_part(alloc, counts, runner)?;
+    append_all(desk, name, part.as_slice())?;
     Ok(())
 }
 
@@ -175,7 +176,7 @@ pub fn run_capture<D: Desk, R: Runner>(
     requires report_there { (D.view desk.old).told names.now.report.now ≡ Some None → ⊥ }
     ensures moves { Moves (names.now.sent.now ∷ names.now.report.now ∷ []) (D.view desk.old) (D.view desk.new) }
     ensures gives { (file : Option (List ℕ)) → (D.view desk.old).told names.now.capture.now ≡ Some file
-        → Delivers (reports_over (run_of (R.outcome (R.setting runner.old)) (R.store runner.old)) ports.now file) result ((D.view desk.old).told names.now.sent.now) ((D.view desk.new).told names.now.sent.now) ((D.view desk.old).told names.now.report.now) ((D.view desk.new).told names.now.report.now) }
+        → Delivers (reports_over (R.end_lines (R.setting runner.old)) (run_of (R.outcome (R.setting runner.old)) (R.store runner.old)) ports.now file) result ((D.view desk.old).told names.now.sent.now) ((D.view desk.new).told names.now.sent.now) ((D.view desk.old).told names.now.report.now) ((D.view desk.new).told names.now.report.now) }
     ensures known { OnOk result ((text : List ℕ) → (D.view desk.old).told names.now.capture.now ≡ Some (Some text) → All IsRecord (reading_of text).records) }
     ensures stops { IfErr result (λ e. StopsRun e) }
     ensures cause { Blames result (Rose ((D.view desk.old).reads names.now.capture.now) ((D.view desk.new).reads names.now.capture.now)
@@ -189,6 +190,6 @@ pub fn run_capture<D: Desk, R: Runner>(
     let mut stream = Stream::new(alloc, ports);
     run_pieces(desk, names, runner, &mut reader, &mut stream)?;
     end_capture(&reader)?;
-    end_report(alloc, desk, names.report, stream.counts, runner.work())?;
+    end_report(alloc, desk, names.report, stream.counts, runner)?;
     Ok(stream.counts)
 }

@@ -9,9 +9,11 @@
 
 mod capture;
 mod counts;
+mod line;
 mod runner;
 mod stream;
 
 pub use capture::{RunNames, run_capture};
 pub use counts::Counts;
+pub use line::{put_work_line, run_command};
 pub use runner::Runner;

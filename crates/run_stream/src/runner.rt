@@ -1,12 +1,13 @@
 // Runners of packets.
-ghost use Rattle.std.specs.Prelude.{◌≡◌, ℕ, ◌+◌, ◌%◌, ◌^◌, IfOk, OnOk};
+ghost use Rattle.std.specs.Prelude.{◌≡◌, ℕ, ◌+◌, ◌%◌, ◌^◌, ◌++◌, List, IfOk, OnOk};
 ghost use Rattle.state_store.specs.State.{Contents};
 ghost use Rattle.fabric.specs.declared.packets.Arrival.{Arrival as Came};
 ghost use Rattle.fabric.specs.Numbers.{IsArrival};
 ghost use Rattle.run_stream.specs.Runs.{Outcome, AreFew};
 
 use fabric::{Arrival, Fate};
-use p4x_bits::OutOfMemory;
+use p4x_bits::{Octets, OutOfMemory};
+use std::alloc::Global;
 
 /// A runner of packets: a program with what stands in its tables and a bound on passes, and the counters,
 /// registers and meters as the packets so far left them.
@@ -37,9 +38,16 @@ pub trait Runner {
         ensures sent { IfOk result (λ fate. fate.sent ≡ (outcome (setting self.old) (store self.old) arrival.now).sent) }
         ensures cut { IfOk result (λ fate. fate.cut ≡ (outcome (setting self.old) (store self.old) arrival.now).cut % 2 ^ 64) };
 
-    /// How many statements and transitions began so far, modulo 2^64.
-    fn work(&self) -> u64
-        ensures { result ≡ done self.now };
+    // The lines that end the report, by the store and the work.
+    ghost end_lines: { Setting → Contents → ℕ → List ℕ };
+
+    /// Puts the lines last that end the report of the packets so far, behind how many came in and left. They tell of
+    /// the runner's counters and registers, and of its work where it tells that.
+    ///
+    /// # Errors
+    /// It fails for want of memory alone.
+    fn put_end_lines(&self, alloc: Global, into: &mut Octets) -> Result<(), OutOfMemory>
+        ensures { OnOk result (into.new ≡ into.old ++ end_lines (setting self.now) (store self.now) (done self.now)) };
 
     // A pass sends at most one packet.
     ghost few: { (s : Setting) → AreFew (outcome s) };

@@ -3,13 +3,13 @@ ghost use Rattle.std.specs.Prelude.{◌≡◌, ◌∷◌, [], ◌≤◌, string_
 ghost use Rattle.state_store.specs.Ports.{IsPort};
 ghost use Rattle.pcap_io.specs.Captures.{IsRecord};
 ghost use Rattle.pcap_io.specs.Reader.{fed, taken_from};
-ghost use Rattle.run_stream.specs.Reports.{end_lines};
+ghost use Rattle.run_stream.specs.Reports.{count_lines, end_part};
 ghost use Rattle.run_stream.specs.internal.Streams.{held_of, view_of, empty, headed_by, begun, with_out, with_outs, after_one, after_all, drained};
 
 use crate::counts::Counts;
 use crate::runner::Runner;
 use fabric::{Arrival, Out};
-use p4x_bits::OutOfMemory;
+use p4x_bits::{Octets, OutOfMemory};
 use p4x_fault::Fault;
 use pcap_io::{CaptureFault, CaptureReader, Record, arrive, file_header, record_header};
 use std::alloc::Global;
@@ -161,14 +161,29 @@ fn feed_piece(reader: &mut CaptureReader, piece: &[u8]) -> Result<Option<Fault>,
     }
 }
 
-/// The end part of the report of a run with this work.
-pub(crate) fn end_part(alloc: Global, counts: Counts, work: u64) -> Result<String, OutOfMemory>
-    ensures { IfOk result (λ text. string_bytes text ≡ end_lines counts.arrivals counts.sent counts.cut work) }
+/// The lines of how many packets came in and left, with which the end part of the report begins.
+fn count_lines(alloc: Global, counts: Counts) -> Result<Octets, OutOfMemory>
+    ensures { IfOk result (λ lines. lines ≡ count_lines counts.arrivals counts.sent counts.cut) }
 {
     let Counts {
         arrivals,
         sent,
         cut,
     } = counts;
-    Ok(format!(in alloc; "in {arrivals}\nout {sent}\ncut {cut}\nwork {work}\n")?)
+    let lines = format!(in alloc; "in {arrivals}\nout {sent}\ncut {cut}\n")?;
+    let lines = Octets::from_slice(alloc, lines.as_bytes())?;
+    Ok(lines)
+}
+
+/// The end part of the report of a run with these counts.
+pub(crate) fn end_part<R: Runner>(
+    alloc: Global,
+    counts: Counts,
+    runner: &R,
+) -> Result<Octets, OutOfMemory>
+    ensures { IfOk result (λ part. part ≡ end_part counts.arrivals counts.sent counts.cut (R.end_lines (R.setting runner.now) (R.store runner.now) (R.done runner.now))) }
+{
+    let mut part = count_lines(alloc, counts)?;
+    runner.put_end_lines(alloc, &mut part)?;
+    Ok(part)
 }

@@ -1,10 +1,11 @@
 //! A runner that sends each packet twice.
 ghost use Rattle.std.specs.Prelude.{◌≡◌, ◌∷◌, [], ℕ, IfOk};
+ghost use Rattle.run_stream.specs.Reports.{work_line};
 ghost use Rattle.run_stream_examples.specs.Twice.{leaving, twice, no_store, are_few};
 
 use fabric::{Arrival, Fate, Out};
 use p4x_bits::{Octets, OutOfMemory, Rows};
-use run_stream::Runner;
+use run_stream::{Runner, put_work_line};
 use std::alloc::Global;
 
 /// A runner whose program sends each packet on one port and queues it again, under a bound of two passes: so
@@ -67,8 +68,10 @@ impl Runner for Twice {
         Ok(Fate { sent, cut: 1 })
     }
 
-    fn work(&self) -> u64 {
-        self.passes
+    ghost end_lines = { λ port store work. work_line work };
+
+    fn put_end_lines(&self, alloc: Global, into: &mut Octets) -> Result<(), OutOfMemory> {
+        put_work_line(alloc, into, self.passes)
     }
 
     ghost few = { are_few };

@@ -1,16 +1,20 @@
 -- What the states of a parser are made of, by its places.
-use Rattle.std.specs.Prelude.{ℕ, ◌<◌, List, length, Option, Some, None, All}
+use Rattle.std.specs.Prelude.{ℕ, ◌<◌, ◌^◌, List, length, slice_index, Option, Some, None, All}
+use Rattle.v1_sem.specs.declared.parser_error.ParserError.{ParserError}
+use Rattle.v1_sem.specs.Frames.{error_number}
+use Rattle.v1_frames.specs.Layouts.{Layout}
 use Rattle.v1_ready_expressions.specs.Ready.{Ready}
 use Rattle.v1_ready_selects.specs.Selects.{FitsTransition}
 use Rattle.v1_ready_blocks.specs.Moments.{Moment}
-use Rattle.v1_ready_blocks.specs.Nodes.{Tree}
+use Rattle.v1_ready_blocks.specs.Nodes.{IsRange, IsSlot, Tree}
 use Rattle.v1_ready_states.specs.declared.states.ReadyState.{ReadyState}
 use Rattle.v1_ready_states.specs.declared.states.ReadyParser.{ReadyParser}
 use Rattle.v1_ready_states.specs.States.{State, Parser, Onward, onward, finished}
 use Rattle.v1_ready_states.specs.Rows.{state_of, states_of, parser_of}
 
--- the expressions and the statements that are kept
+-- the parts of frames, and the expressions and the statements that are kept
 pub record Made : Type 0 where
+  pub layout : Layout
   pub expressions : List Ready
   pub statements : List Tree
 
@@ -28,7 +32,14 @@ pub record FitsState (made : Made) (r : ReadyState) : Type 0 where
   pub body : r.body < length made.statements
   pub transition : FitsTransition (length made.expressions) r.transition
 
+-- a slot that has room for the number of each error
+pub record HoldsErrors (l : Layout) (slot : ℕ) : Type 0 where
+  pub there : IsSlot l slot
+  pub wide : (e : ParserError) → error_number e < 2 ^ slice_index l.widths slot
+
 pub record FitsParser (made : Made) (r : ReadyParser) : Type 0 where
+  pub headers : IsRange made.layout r.headers
+  pub error : HoldsErrors made.layout r.error
   pub variables : r.variables < length made.statements
   pub states : All (FitsState made) r.states
 

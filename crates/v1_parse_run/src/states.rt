@@ -13,6 +13,8 @@ use v1_sem::ParserError;
 
 /// The state where parsing goes on; none where it ends.
 fn follow<M: Machine>(machine: &mut M, led: Led) -> Option<u32>
+    requires { M.works machine.old }
+    ensures works { M.works machine.new }
     ensures made { M.made machine.new ≡ M.made machine.old }
     ensures onward { shown_onward result (M.moment machine.new) ≡ to_led led (M.moment machine.old) }
 {
@@ -28,7 +30,9 @@ fn follow<M: Machine>(machine: &mut M, led: Led) -> Option<u32>
 
 /// A state: its statements, and then its transition, unless an error stopped the parser.
 fn run_state<M: Machine>(machine: &mut M, state: &ReadyState) -> Result<Option<u32>, OutOfMemory>
-    requires { FitsState (M.made machine.old) state.now }
+    requires works { M.works machine.old }
+    requires fits { FitsState (M.made machine.old) state.now }
+    ensures works { OnOk result (M.works machine.new) }
     ensures made { OnOk result (M.made machine.new ≡ M.made machine.old) }
     ensures onward { IfOk result (λ next. shown_onward next (M.moment machine.new) ≡ in_state (made_state (M.made machine.old) state.now) (M.moment machine.old)) }
 {
@@ -47,7 +51,9 @@ fn run_next<M: Machine>(
     states: &[ReadyState],
     number: u32,
 ) -> Result<Option<u32>, OutOfMemory>
-    requires { All (FitsState (M.made machine.old)) states.now }
+    requires works { M.works machine.old }
+    requires fits { All (FitsState (M.made machine.old)) states.now }
+    ensures works { OnOk result (M.works machine.new) }
     ensures made { OnOk result (M.made machine.new ≡ M.made machine.old) }
     ensures onward { IfOk result (λ next. shown_onward next (M.moment machine.new) ≡ from_state (slice_get (made_states (M.made machine.old) states.now) number) (M.moment machine.old)) }
 {
@@ -65,7 +71,9 @@ fn run_states<M: Machine>(
     first: u32,
     most: u128,
 ) -> Result<(), OutOfMemory>
-    requires { All (FitsState (M.made machine.old)) states.now }
+    requires works { M.works machine.old }
+    requires fits { All (FitsState (M.made machine.old)) states.now }
+    ensures works { OnOk result (M.works machine.new) }
     ensures made { OnOk result (M.made machine.new ≡ M.made machine.old) }
     ensures moment { OnOk result (M.moment machine.new ≡ parse_from (made_states (M.made machine.old) states.now) most first (M.moment machine.old)) }
 {
@@ -85,6 +93,7 @@ fn run_states<M: Machine>(
 
 /// More states than parsing can run: between two extractions each state stands once at most.
 fn most_states<M: Machine>(machine: &M, states: &[ReadyState]) -> u128
+    requires { M.works machine.now }
     ensures { result ≡ most_states (made_states (M.made machine.now) states.now) (M.moment machine.now) }
 {
     (machine.unparsed().len() as u128 + 1) * (states.len() as u128 + 1)
@@ -97,7 +106,9 @@ pub fn parse_ready<M: Machine>(
     machine: &mut M,
     parser: &ReadyParser,
 ) -> Result<ParserError, OutOfMemory>
-    requires { FitsParser (M.made machine.old) parser.now }
+    requires works { M.works machine.old }
+    requires fits { FitsParser (M.made machine.old) parser.now }
+    ensures works { OnOk result (M.works machine.new) }
     ensures made { OnOk result (M.made machine.new ≡ M.made machine.old) }
     ensures error { IfOk result (λ error. error ≡ (ready_parse (made_parser (M.made machine.old) parser.now) (M.moment machine.old)).error) }
     ensures moment { OnOk result (M.moment machine.new ≡ (ready_parse (made_parser (M.made machine.old) parser.now) (M.moment machine.old)).moment) }

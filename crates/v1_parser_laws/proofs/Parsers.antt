@@ -56,7 +56,7 @@ parse_ends c p vars r made m n h = record {
       (end_by c p vars r made m n m.stopped h);
 }
 
-module _ (c : Setting) (p : Parser16) (vars : List Variable) (r : ready.Parser) (made : ParserIsMade c p vars r) (m : sem.Moment) (n : blocks.Moment) (h : Shows c.syntax nobody m n) where
+module _ (c : Setting) (p : Parser16) (vars : List Variable) (r : ready.Parser) (made : ParserIsMade c p vars r) (m : sem.Moment) (n : blocks.Moment) (h : Shows c.syntax nobody m n) (unstopped : m.stopped ≡ None) where
   begins : Shows c.syntax nobody (parsing.without_headers c m) (ready.with_headers_empty r.headers n)
   begins = made.headers m n h
 
@@ -70,13 +70,13 @@ module _ (c : Setting) (p : Parser16) (vars : List Variable) (r : ready.Parser) 
       subst (λ (k : ℕ). ShowsIn c.syntax vars (parsing.parse_from (parser_world c p) p.states (parsing.most_states p.states (parsing.without_headers c m)) (codes "start") (begun (parser_world c p) p.vars (parsing.without_headers c m))) (ready.parse_from r.states (ready.most_states r.states (ready.with_headers_empty r.headers n)) k (parser_run r.variables (ready.with_headers_empty r.headers n)))) (sym made.first)
       (subst (λ (k : ℕ). ShowsIn c.syntax vars (parsing.parse_from (parser_world c p) p.states (parsing.most_states p.states (parsing.without_headers c m)) (codes "start") (begun (parser_world c p) p.vars (parsing.without_headers c m))) (ready.parse_from r.states k (number_of_state (state_names p.states) (codes "start")) (parser_run r.variables (ready.with_headers_empty r.headers n)))) most_is
       (parses c.syntax (parser_world c p) vars p.states r.states made.states (parsing.most_states p.states (parsing.without_headers c m)) (codes "start") (begun (parser_world c p) p.vars (parsing.without_headers c m)) (parser_run r.variables (ready.with_headers_empty r.headers n))
-      ([], made.variables (parsing.without_headers c m) (ready.with_headers_empty r.headers n) begins)))
+      ([], made.variables (parsing.without_headers c m) (ready.with_headers_empty r.headers n) begins unstopped)))
 
   whole : ParseShows c.syntax (parsing.parse_ended (parsing.run_states (parser_world c p) p (parsing.without_headers c m))) (ready.ready_parse r n)
   whole = parse_ends c p vars r made _ _ (block_ends c.syntax vars runs.0 _ _ runs.1)
 
 pub made_parser_shows : MadeParserShows
 unfolding parse16
-made_parser_shows c p vars r m n is made h =
+made_parser_shows c p vars r m n is made h unstopped =
     subst (λ (o : Option Parser16). ParseShows c.syntax (parsing.parse_ended (parsing.run_parser c o m)) (ready.ready_parse r n)) (sym is)
-    (whole c p vars r made m n h)
+    (whole c p vars r made m n h unstopped)

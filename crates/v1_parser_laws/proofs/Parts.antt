@@ -148,18 +148,28 @@ whole_number c i n fit w = by (is_live c i) where
 pub whole_slot : (c : Cells) (i : ℕ) → AreWhole c → AreWhole (with_slot c i 0)
 whole_slot c i w = whole_number c i 0 (pow_pos (get_or c.layout.widths i 0)) w
 
-pub whole_place : (c : Cells) (i : ℕ) → AreWhole c → AreWhole (with_stack_place c i 0)
-whole_place c i w = record {
+-- what is put at a place of a list is there at most
+put_most : (xs : List ℕ) (i n : ℕ) → get_or (set xs i n) i 0 ≤ n
+put_most [] zero n = omega arith
+put_most [] (suc i) n = omega arith
+put_most (x ∷ xs) zero n = omega arith
+put_most (x ∷ xs) (suc i) n = put_most xs i n
+
+pub whole_stack : (c : Cells) (i place : ℕ) → place ≤ stack_size c i → AreWhole c → AreWhole (with_stack_place c i place)
+whole_stack c i place fit w = record {
   numbers = w.numbers;
   valids = w.valids;
-  places = length-set c.places i 0 ∙ w.places;
+  places = length-set c.places i place ∙ w.places;
   fits = w.fits;
   within = λ s.
       elim (cases_eq s i) [
-        | inl same ↦ subst (λ (n : ℕ). n ≤ stack_size c s) (sym (ap (λ (j : ℕ). get_or (set c.places i 0) j 0) same ∙ zero_put c.places i)) (omega arith)
-        | inr apart ↦ subst (λ (n : ℕ). n ≤ stack_size c s) (sym (get_or-set_other c.places i s 0 0 apart)) (w.within s)
+        | inl same ↦ subst (λ (j : ℕ). get_or (set c.places i place) j 0 ≤ stack_size c j) (sym same) (omega (arith, put_most c.places i place, fit))
+        | inr apart ↦ subst (λ (n : ℕ). n ≤ stack_size c s) (sym (get_or-set_other c.places i s place 0 apart)) (w.within s)
       ];
 }
+
+pub whole_place : (c : Cells) (i : ℕ) → AreWhole c → AreWhole (with_stack_place c i 0)
+whole_place c i w = whole_stack c i 0 (omega arith) w
 
 cleared_length : (from to : ℕ) (xs : List ℕ) → from ≤ to → to ≤ length xs → length (take from xs ++ replicate (to - from) 0 ++ drop to xs) ≡ length xs
 cleared_length from to xs order within =
@@ -196,18 +206,18 @@ either_fits : (n m k : ℕ) → (n ≡ m) ⊎ (n ≡ 0) → m < k → n < k
 either_fits n m k (inl e) lt = omega arith
 either_fits n m k (inr e) lt = omega arith
 
-pub whole_validity : (c : Cells) (fields : ℕ) (b : Start) → IsHeader c.layout fields b → AreWhole c → AreWhole (with_validity c b.header false)
-whole_validity c fields b laid w = by (is_same_truth (header_valid c b.header) false) where
+pub whole_marked : (c : Cells) (fields : ℕ) (b : Start) (on : Bool) → IsHeader c.layout fields b → AreWhole c → AreWhole (with_validity c b.header on)
+whole_marked c fields b on laid w = by (is_same_truth (header_valid c b.header) on) where
   room : b.slot + fields ≤ length c.numbers
   room = omega (arith, laid.room, w.numbers)
 
   put : List Bool
-  put = set c.valids b.header false
+  put = set c.valids b.header on
 
   by : (same : Bool) → AreWhole (record c { numbers = cond same c.numbers (cleared_numbers (get_or c.layout.headers b.header no_slots) c.numbers); valids = put })
   by true = record {
     numbers = w.numbers;
-    valids = length-set c.valids b.header false ∙ w.valids;
+    valids = length-set c.valids b.header on ∙ w.valids;
     places = w.places;
     fits = w.fits;
     within = w.within;
@@ -216,8 +226,11 @@ whole_validity c fields b laid w = by (is_same_truth (header_valid c b.header) f
       subst (λ (s : HeaderSlots). AreWhole (record c { numbers = cleared_numbers s c.numbers; valids = put })) (sym laid.slots)
       (record {
         numbers = cleared_length b.slot (b.slot + fields) c.numbers (omega arith) room ∙ w.numbers;
-        valids = length-set c.valids b.header false ∙ w.valids;
+        valids = length-set c.valids b.header on ∙ w.valids;
         places = w.places;
         fits = λ s lt. either_fits _ _ _ (cleared_number b.slot (b.slot + fields) c.numbers s (omega arith) room) (w.fits s lt);
         within = w.within;
       })
+
+pub whole_validity : (c : Cells) (fields : ℕ) (b : Start) → IsHeader c.layout fields b → AreWhole c → AreWhole (with_validity c b.header false)
+whole_validity c fields b laid w = whole_marked c fields b false laid w

@@ -26,7 +26,7 @@ use Rattle.v1_ready_blocks.specs.Moments as blocks
 use Rattle.v1_ready_blocks.specs.Blocks.{parser_run}
 use Rattle.v1_ready_states.specs.States as ready
 use Rattle.v1_parser_laws.specs.Leading.{LeadAlike}
-use Rattle.v1_parser_laws.specs.Shown.{Shows, in_block, ShowsIn, OnwardShows, both_go_on, both_end}
+use Rattle.v1_parser_laws.specs.Shown.{Shows, in_block, ShowsIn, BodyShows, OnwardShows, both_go_on, both_end}
 use Rattle.v1_parser_laws.specs.States.{StateShows, StatesShow, StateIsMade}
 use Rattle.v1_parser_laws.specs.Laws.{MadeStatesShow, ParsingShows}
 use Rattle.v1_parser_laws.proofs.Transitions.{transitions_lead}
@@ -45,7 +45,7 @@ no_inner syntax vars inner m n h = record {
   hit = h.hit;
 }
 
-ticked_shows : (syntax : Syntax16) (who : InScope) (m : sem.Moment) (n : blocks.Moment) → Shows syntax who m n → Shows syntax who (sem.ticked m) (blocks.ticked n)
+pub ticked_shows : (syntax : Syntax16) (who : InScope) (m : sem.Moment) (n : blocks.Moment) → Shows syntax who m n → Shows syntax who (sem.ticked m) (blocks.ticked n)
 ticked_shows syntax who m n h = record {
   frame = h.frame;
   whole = h.whole;
@@ -57,7 +57,7 @@ ticked_shows syntax who m n h = record {
   hit = h.hit;
 }
 
-stopped_shows : (syntax : Syntax16) (who : InScope) (e : ParserError) (m : sem.Moment) (n : blocks.Moment) → Shows syntax who m n → Shows syntax who (stopped_by e m) (record n { stopped = Some e })
+pub stopped_shows : (syntax : Syntax16) (who : InScope) (e : ParserError) (m : sem.Moment) (n : blocks.Moment) → Shows syntax who m n → Shows syntax who (stopped_by e m) (record n { stopped = Some e })
 stopped_shows syntax who e m n h = record {
   frame = h.frame;
   whole = h.whole;
@@ -73,7 +73,7 @@ raised_by : (syntax : Syntax16) (who : InScope) (e : ParserError) (m : sem.Momen
 raised_by syntax who e m n true h = h
 raised_by syntax who e m n false h = stopped_shows syntax who e m n h
 
-raised_shows : (syntax : Syntax16) (who : InScope) (e : ParserError) (m : sem.Moment) (n : blocks.Moment) → Shows syntax who m n → Shows syntax who (sem.raised e m) (blocks.raised e n)
+pub raised_shows : (syntax : Syntax16) (who : InScope) (e : ParserError) (m : sem.Moment) (n : blocks.Moment) → Shows syntax who m n → Shows syntax who (sem.raised e m) (blocks.raised e n)
 raised_shows syntax who e m n h =
     subst (λ (o : Option ParserError). Shows syntax who (sem.raised e m) (cond (is_some o) n (record n { stopped = Some e }))) h.stopped
     (raised_by syntax who e m n (is_some m.stopped) h)
@@ -113,11 +113,12 @@ module _ (syntax : Syntax16) (vars : List Variable) (names : List Name) where
 if_some : (P : Transition → Type 0) (o : Option Transition) (t : Transition) → o ≡ Some t → IfSome o P → P t
 if_some P o t is h = subst (λ (q : Option Transition). IfSome q P) is h
 
-passed_by : (syntax : Syntax16) (w : World) (vars : List Variable) (names : List Name) (x : State) (r : ready.State) (made : StateIsMade syntax w vars names x r) (m : sem.Moment) (n : blocks.Moment) (b : Bool) → BreaksNone syntax program_rules → Shows syntax (in_block vars made.inner) m n → is_some m.stopped ≡ b
+passed_by : (syntax : Syntax16) (w : World) (vars : List Variable) (names : List Name) (x : State) (r : ready.State) (made : StateIsMade syntax w vars names x r) (m : sem.Moment) (n : blocks.Moment) (b : Bool) → BreaksNone syntax program_rules → BodyShows syntax vars made.inner m n → is_some m.stopped ≡ b
     → OnwardShows syntax vars names (cond b (parsing.finished m) (parsing.leads w (behind x.body w.around.scope) x.transition (sem.ticked m))) (cond b (ready.finished n) (ready.to_led (lead n.cells n.unparsed r.transition) (blocks.ticked n)))
-passed_by syntax w vars names x r made m n true accepted h is = both_end m n (made.inner, h)
-passed_by syntax w vars names x r made m n false accepted h is =
+passed_by syntax w vars names x r made m n true accepted shown is = both_end m n shown.0
+passed_by syntax w vars names x r made m n false accepted shown is =
     let runs = none_of m.stopped is in
+    let h : Shows syntax (in_block vars made.inner) m n = shown.1 runs in
     lead_by syntax vars names made.inner _ _ (sem.ticked m) (blocks.ticked n) (ticked_shows syntax (in_block vars made.inner) m n h) runs
     (subst (λ (left : List ℕ). LeadAlike names (parsing.leads w (behind x.body w.around.scope) x.transition (sem.ticked m)) (lead n.cells left r.transition) (sem.ticked m)) h.unparsed
     (if_some (λ (t : Transition). LeadAlike names (parsing.leads w (behind x.body w.around.scope) x.transition (sem.ticked m)) (lead n.cells m.unparsed t) (sem.ticked m)) _ r.transition made.transition
@@ -128,8 +129,8 @@ made_states_show syntax w vars names x r accepted made m n (inner, h) =
     let start = no_inner syntax vars inner m n h in
     let ran = run w w.around.scope no_label x.body (sem.with_inner no_members m) in
     let done = parser_run r.body n in
-    let shown : Shows syntax (in_block vars made.inner) ran done = made.body (sem.with_inner no_members m) n start in
-    subst (λ (o : Option ParserError). OnwardShows syntax vars names (parsing.passed w (behind x.body w.around.scope) x.transition ran) (cond (is_some o) (ready.finished done) (ready.to_led (lead done.cells done.unparsed r.transition) (blocks.ticked done)))) shown.stopped
+    let shown : BodyShows syntax vars made.inner ran done = made.body (sem.with_inner no_members m) n start in
+    subst (λ (o : Option ParserError). OnwardShows syntax vars names (parsing.passed w (behind x.body w.around.scope) x.transition ran) (cond (is_some o) (ready.finished done) (ready.to_led (lead done.cells done.unparsed r.transition) (blocks.ticked done)))) shown.0.1.stopped
     (passed_by syntax w vars names x r made ran done (is_some ran.stopped) accepted shown refl)
 
 -- the state with a name, and that with its number

@@ -63,5 +63,5 @@ pub record ParseShows (syntax : Syntax16) (x : parsing.Parsed) (y : ready.Parsed
 abbrev pub MadeParserShows : Type 0
 MadeParserShows =
     (c : Setting) (p : Parser16) (vars : List Variable) (r : ready.Parser) (m : Moment) (n : blocks.Moment) →
-    parsing.parser_of c.syntax ≡ Some p → ParserIsMade c p vars r → Shows c.syntax nobody m n →
+    parsing.parser_of c.syntax ≡ Some p → ParserIsMade c p vars r → Shows c.syntax nobody m n → m.stopped ≡ None →
     ParseShows c.syntax (parsing.parse16 c m) (ready.ready_parse r n)

@@ -1,5 +1,5 @@
 -- When a moment of a ready block is one of the program's meaning (this project's own).
-use Rattle.std.specs.Prelude.{◌≡◌, List}
+use Rattle.std.specs.Prelude.{◌≡◌, List, None}
 use Rattle.p4x_bits.specs.BitLists.{octet_bits}
 use Rattle.p416_ast.specs.declared.program.Syntax16.{Syntax16}
 use Rattle.p416_rules.specs.Names.{Name}
@@ -29,6 +29,11 @@ in_block vars inner = record { variables = vars; inner = inner }
 -- the variables of the block are these; whichever those of statements are
 abbrev pub ShowsIn : Syntax16 → List Variable → sem.Moment → Moment → Type 0
 ShowsIn syntax vars m n = (inner : List Variable) × Shows syntax (in_block vars inner) m n
+
+-- Behind statements that declare these variables they are in scope, where no error stopped that: then it may be fewer of them.
+abbrev pub BodyShows : Syntax16 → List Variable → List Variable → sem.Moment → Moment → Type 0
+BodyShows syntax vars inner m n =
+    ShowsIn syntax vars m n × (m.stopped ≡ None → Shows syntax (in_block vars inner) m n)
 
 -- behind a state: both go on in the same one, or both ended
 pub data OnwardShows (syntax : Syntax16) (vars : List Variable) (names : List Name) : parsing.Onward → ready.Onward → Type 0 where

@@ -1,5 +1,5 @@
 -- When the states of a ready parser do what those of the program do (P4_16 1.2, "Parser states").
-use Rattle.std.specs.Prelude.{◌≡◌, List, [], ◌∷◌, Some, codes}
+use Rattle.std.specs.Prelude.{◌≡◌, List, [], ◌∷◌, Some, None, codes}
 use Rattle.p416_ast.specs.declared.program.Syntax16.{Syntax16}
 use Rattle.p416_ast.specs.declared.parsers.State.{State}
 use Rattle.p416_ast.specs.declared.parsers.Parser16.{Parser16}
@@ -23,7 +23,7 @@ use Rattle.v1_ready_blocks.specs.Moments.{Moment}
 use Rattle.v1_ready_blocks.specs.Blocks.{parser_run}
 use Rattle.v1_ready_states.specs.States as ready
 use Rattle.v1_block_laws.specs.Keeping.{TransitionKeeps}
-use Rattle.v1_parser_laws.specs.Shown.{Shows, in_block, ShowsIn, OnwardShows}
+use Rattle.v1_parser_laws.specs.Shown.{Shows, in_block, ShowsIn, BodyShows, OnwardShows}
 
 -- from moments that are one they come to what is one
 abbrev pub StateShows : Syntax16 → World → List Variable → List Name → State → ready.State → Type 0
@@ -46,7 +46,7 @@ seats_behind syntax w vars inner = seats_in syntax w.around.roots (in_block vars
 -- behind them, where names are declared as what stands at their seats, and its keys keep the rules on types and sizes.
 pub record StateIsMade (syntax : Syntax16) (w : World) (vars : List Variable) (names : List Name) (x : State) (r : ready.State) : Type 0 where
   pub inner : List Variable
-  pub body : (m : sem.Moment) (n : Moment) → Shows syntax (in_block vars []) m n → Shows syntax (in_block vars inner) (run w w.around.scope no_label x.body m) (parser_run r.body n)
+  pub body : (m : sem.Moment) (n : Moment) → Shows syntax (in_block vars []) m n → BodyShows syntax vars inner (run w w.around.scope no_label x.body m) (parser_run r.body n)
   pub transition : transition_ready (behind x.body w.around.scope) (seats_behind syntax w vars inner) names x.transition ≡ Some r.transition
   pub layouts : (behind x.body w.around.scope).layouts ≡ layouts_of syntax.decls
   pub seated : NamesSeated (behind x.body w.around.scope) (seats_behind syntax w vars inner)
@@ -61,7 +61,7 @@ parser_world c p = quiet_world (around_parser c p)
 -- the same.
 pub record ParserIsMade (c : Setting) (p : Parser16) (vars : List Variable) (r : ready.Parser) : Type 0 where
   pub headers : (m : sem.Moment) (n : Moment) → Shows c.syntax nobody m n → Shows c.syntax nobody (without_headers c m) (ready.with_headers_empty r.headers n)
-  pub variables : (m : sem.Moment) (n : Moment) → Shows c.syntax nobody m n → Shows c.syntax (in_block vars []) (begun (parser_world c p) p.vars m) (parser_run r.variables n)
+  pub variables : (m : sem.Moment) (n : Moment) → Shows c.syntax nobody m n → m.stopped ≡ None → Shows c.syntax (in_block vars []) (begun (parser_world c p) p.vars m) (parser_run r.variables n)
   pub states : StatesShow c.syntax (parser_world c p) vars (state_names p.states) p.states r.states
   pub first : r.first ≡ number_of_state (state_names p.states) (codes "start")
   pub error : (m : sem.Moment) (n : Moment) (e : ParserError) → Shows c.syntax nobody m n → Shows c.syntax nobody (with_error (Some e) m) (ready.with_error r.error (Some e) n)

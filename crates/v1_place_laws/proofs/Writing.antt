@@ -85,7 +85,7 @@ path_stands types c (step ∷ path) t u narrow stands at =
       by None further e leads = absurd (cc e)
       by (Some x) further e leads = further x leads.1 e
 
-part_stands : (syntax : Syntax16) (c : Cells) (p : FramePart) (t : Seat) → c.layout ≡ layout16 syntax → TypesNarrow (layouts_of syntax.decls) → KindsNarrow (frame_kinds syntax) → part_seat syntax p ≡ Some t → Stands c.layout (layouts_of syntax.decls) t
+pub part_stands : (syntax : Syntax16) (c : Cells) (p : FramePart) (t : Seat) → c.layout ≡ layout16 syntax → TypesNarrow (layouts_of syntax.decls) → KindsNarrow (frame_kinds syntax) → part_seat syntax p ≡ Some t → Stands c.layout (layouts_of syntax.decls) t
 part_stands syntax c p t layout narrow kinds at = by (owner_seat syntax p.owner) at (owner_stands syntax c p.owner layout kinds) where
   by : (o : Option Seat) → seat_behind (λ s. seat_at (layouts_of syntax.decls) p.path s) o ≡ Some t → IfSome o (At c (layouts_of syntax.decls) (owner_value (numbered16 syntax c) p.owner)) → Stands c.layout (layouts_of syntax.decls) t
   by None e stands = absurd (cc e)

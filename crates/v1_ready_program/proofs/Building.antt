@@ -32,13 +32,13 @@ module _ (s : Scope) (seats : List NamedSeat) where
 
   -- parts, one behind another
 
-  two : (a b : Exp16) → Builds a → Builds b → (p q : Ask) (qs : List Ask) (more : List Exp16)
+  pub two : (a b : Exp16) → Builds a → Builds b → (p q : Ask) (qs : List Ask) (more : List Exp16)
       → after (p ∷ q ∷ qs) ((subexpressions a ++ subexpressions b) ++ more) ≡ ready_by s seats p a ∷ ready_by s seats q b ∷ after qs more
   two a b of_a of_b p q qs more =
       ap (after (p ∷ q ∷ qs)) (append_assoc (subexpressions a) (subexpressions b) more)
       ∙ (of_a p (q ∷ qs) (subexpressions b ++ more) ∙ ap (λ vs. ready_by s seats p a ∷ vs) (of_b q qs more))
 
-  three : (c a b : Exp16) → Builds c → Builds a → Builds b → (o p q : Ask) (qs : List Ask) (more : List Exp16)
+  pub three : (c a b : Exp16) → Builds c → Builds a → Builds b → (o p q : Ask) (qs : List Ask) (more : List Exp16)
       → after (o ∷ p ∷ q ∷ qs) ((subexpressions c ++ subexpressions a ++ subexpressions b) ++ more)
       ≡ ready_by s seats o c ∷ ready_by s seats p a ∷ ready_by s seats q b ∷ after qs more
   three c a b of_c of_a of_b o p q qs more =

@@ -1,7 +1,7 @@
 mod Naming
 mod Spotting
 mod Walking
-mod Asking
-mod Valuing
-mod Building
-mod Turning
+pub mod Asking
+pub mod Valuing
+pub mod Building
+pub mod Turning

@@ -122,7 +122,7 @@ fn method_ask<'a>(kind: Kind<'_>, alone: bool) -> Ask<'a>
 }
 
 /// Passes the parts of an expression over, but for what stands before a member, of which this is asked.
-fn fill_parts<'a>(
+pub fn fill_parts<'a>(
     asks: &mut Stack<Ask<'a>>,
     owner: Ask<'a>,
     head: ExpHead<'a>,

@@ -21,9 +21,12 @@ use work_stack::Stack;
 /// The places of the expressions that at most three parts are, where they are some.
 #[derive(Clone, Copy, Drop)]
 pub struct Parts {
-    first: Option<usize>,
-    second: Option<usize>,
-    third: Option<usize>,
+    /// The first.
+    pub first: Option<usize>,
+    /// The second.
+    pub second: Option<usize>,
+    /// The third.
+    pub third: Option<usize>,
 }
 
 /// Takes the next value; none where none is left.

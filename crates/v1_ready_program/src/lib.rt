@@ -2,15 +2,15 @@
 //! of the program's frames alone.
 #![tactic(auto)]
 
-mod asks;
-mod build;
+pub mod asks;
+pub mod build;
 mod expressions;
 mod leaves;
 mod names;
-mod plans;
+pub mod plans;
 mod scope;
 pub mod spots;
-mod ways;
+pub mod ways;
 
 pub use expressions::ready_expression;
 pub use names::NamedSeats;

@@ -62,7 +62,7 @@ impl<'a> Ways<'a> {
     }
 
     /// The first step of the way at a place.
-    fn step(&self, place: usize) -> Step<'a>
+    pub fn step(&self, place: usize) -> Step<'a>
         requires ways { AreWays self.now }
         requires place { place < length (seen_ways self.now) }
         ensures way { way_at (seen_ways self.now) place ≡ way_of (seen_ways self.now) result }

@@ -1,4 +1,5 @@
--- That rows lead where the cases of the program do.
+-- That rows lead where the cases of the program do (P4_16 1.2, "Select expressions").
+-- A state is told by its number among those of its parser.
 use Rattle.std.specs.Prelude.{◌≡◌, List, map, slice_get, Option, Some, None}
 use Rattle.p416_ast.specs.declared.parsers.Target.{Target}
 use Rattle.p416_ast.specs.declared.parsers.SelectCase.{SelectCase}

@@ -1,4 +1,4 @@
--- What calls ask of the parts of a frame, and what an extraction comes to.
+-- What calls ask of the parts of a frame, and what an extraction comes to (P4_16 1.2, "Data extraction").
 use Rattle.std.specs.Prelude.{◌≡◌, ℕ, ◌/◌, ◌<◌, ◌≤◌, true, List, length, Option, Some, None}
 use Rattle.p4x_bits.specs.BitLists.{octet_bits}
 use Rattle.v1_frames.specs.Layouts.{Layout}

@@ -10,4 +10,6 @@ options_of f = record {
   sent = option_map (λ value. value.now) f.sent;
   report = option_map (λ value. value.now) f.report;
   ports = option_map (λ value. value.now) f.ports;
+  rule = option_map (λ value. value.now) f.rule;
+  passes = option_map (λ value. value.now) f.passes;
 }

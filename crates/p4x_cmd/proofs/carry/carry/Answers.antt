@@ -2,13 +2,14 @@ use Rattle.std.proofs.Common.{rules, ◌≡◌, inl, ℕ, List, [], Some, refl, 
 use Rattle.std.proofs.lemmas.Result.{err_from_is_err_and}
 use Rattle.p4x_io.specs.Desk.{put}
 use Rattle.file_work.specs.declared.stop.Stop.TheVariants.{Fault}
-use Rattle.p4x_cmd.specs.Carry.{capture_reports}
-use Rattle.p4x_cmd.specs.internal.Phases.{Delivers}
+use Rattle.p4x_cmd.specs.Carry.{capture_reports, carried_word}
+use Rattle.run_stream.specs.Captured.{DeliversLine}
 use Rattle.one_table_text.specs.Programs.{program16}
 use Rattle.file_work.specs.Works.{IsPart}
 use Rattle.file_work.specs.Phases.{line_view}
 use Rattle.command_words.specs.Views.{files_of}
-use Rattle.p4x_cmd.proofs.Blaming.{run_blames, blames_view}
+use Rattle.file_work.proofs.Phases.{blames_view}
+use Rattle.p4x_cmd.proofs.Blaming.{run_blames}
 use Rattle.p4x_cmd.proofs.Left.{left_early, left_begin, left_run}
 use Rattle.p4x_cmd.proofs.Order.{order_loose, order_stopped, order_run, once_run, run_late, fault_late, keeps_all, keeps_begun}
 use Rattle.p4x_cmd.proofs.Packets.{packets_of}
@@ -66,7 +67,7 @@ returns-clause-works g c = record {
       (c.run_capture.ensures.moves.others n.text.now ((apart_of n).1.0, ((apart_of n).1.1.0, tt)) ∙ c.in_ok-begin.ensures.text ∙ ap (λ t. put t c.as_slice.result.now) (kept n.text.now tt) ∙ ap (λ (x : List ℕ). put (before.told n.text.now) x) c.as_slice.ensures)
       (c.in_ok-begin.ensures.sent ∙ ap (λ t. put t []) (kept n.sent.now tt))
       (c.in_ok-begin.ensures.report ∙ ap (λ t. put t []) (kept n.report.now tt))
-      (subst (λ (x : List ℕ). Delivers (capture_reports (program16 w.program) x (files n.capture.now)) (line_view c.run_capture.result) (mid.told n.sent.now) (after.told n.sent.now) (mid.told n.report.now) (after.told n.report.now))
+      (subst (λ (x : List ℕ). DeliversLine carried_word (capture_reports (program16 w.program) n.passes x (files n.capture.now)) (line_view c.run_capture.result) (mid.told n.sent.now) (after.told n.sent.now) (mid.told n.report.now) (after.told n.report.now))
       c.as_slice-ports.ensures (c.run_capture.ensures.gives (files n.capture.now) here));
 }
 

@@ -28,7 +28,7 @@ returns-in_err-run_pieces-clause-gives g c = λ file told.
     let fits : (text : List ℕ) → file ≡ Some text → length text ≤ capture_limit = λ text is. not_over _ _ c.if-branch.false (c.in_ok-has_octet.ensures.exact text (told ∙ ap Some is)) in
     let ends = c.in_err-run_pieces.ensures.gives file (kept n.capture.now tt ∙ told) in
     let from = ends_from _ _ _ c.args.ports.now file _ _ _ _ _ _ _ _ _ (ap (λ (h : Held). h.ports) c.new-stream.ensures) (kept n.sent.now tt) (kept n.report.now tt) ends in
-    rw (p.1, p.2) (pieces_stopped _ _ _ _ _ _ few c.args.ports.now _ _ file c.in_err-run_pieces.field-0.0 _ refl fits from)
+    rw (p.1, p.2) (pieces_stopped _ _ _ _ (g.R.Runner.end_lines (g.R.Runner.setting c.args.runner.now)) _ _ few c.args.ports.now _ _ file c.in_err-run_pieces.field-0.0 _ refl fits from)
 
 pub returns-in_err-end_capture-clause-gives : goal.returns-in_err-end_capture-clause-gives
 returns-in_err-end_capture-clause-gives g c = λ file told.
@@ -40,7 +40,7 @@ returns-in_err-end_capture-clause-gives g c = λ file told.
     let ends = c.in_ok-run_pieces.ensures.gives file (kept n.capture.now tt ∙ told) in
     let from = ends_from _ _ _ c.args.ports.now file _ _ _ _ _ _ _ _ _ (ap (λ (h : Held). h.ports) c.new-stream.ensures) (kept n.sent.now tt) (kept n.report.now tt) ends in
     let found = c.in_err-end_capture.ensures.refused in
-    rw (p.1, p.2, found.2) (pieces_refused _ _ _ _ _ _ few c.args.ports.now _ _ file found.0 fits from found.1)
+    rw (p.1, p.2, found.2) (pieces_refused _ _ _ _ (g.R.Runner.end_lines (g.R.Runner.setting c.args.runner.now)) _ _ few c.args.ports.now _ _ file found.0 fits from found.1)
 
 pub returns-in_err-end_report-clause-gives : goal.returns-in_err-end_report-clause-gives
 returns-in_err-end_report-clause-gives g c = λ file told.
@@ -53,8 +53,9 @@ returns-in_err-end_report-clause-gives g c = λ file told.
     let from = ends_from _ _ _ c.args.ports.now file _ _ _ _ _ _ _ _ _ (ap (λ (h : Held). h.ports) c.new-stream.ensures) (kept n.sent.now tt) (kept n.report.now tt) ends in
     let still = c.end_report.ensures.moves.others n.sent.now (n.apart, tt) in
     let failed = c.in_err-end_report.ensures in
-    let part = partly_by _ _ _ _ _ _ _ c.work.ensures failed.part in
-    rw (p.1, p.2, still) (pieces_partly _ _ _ _ _ _ _ few c.args.ports.now _ _ file _ fits from c.in_ok-end_capture.ensures.ends failed.only part)
+    let same = ap (λ (s : g.R.Runner.Setting). g.R.Runner.end_lines s (g.R.Runner.store c.run_pieces.new.runner) (g.R.Runner.done c.run_pieces.new.runner)) c.in_ok-run_pieces.ensures.setting in
+    let part = partly_by _ _ _ _ _ _ _ same failed.part in
+    rw (p.1, p.2, still) (pieces_partly _ _ _ _ _ (g.R.Runner.end_lines (g.R.Runner.setting c.args.runner.now)) _ _ few c.args.ports.now _ _ file _ fits from c.in_ok-end_capture.ensures.ends failed.only part)
 
 pub returns-clause-gives : goal.returns-clause-gives
 returns-clause-gives g c = λ file told.
@@ -65,8 +66,9 @@ returns-clause-gives g c = λ file told.
     let ends = c.in_ok-run_pieces.ensures.gives file (kept n.capture.now tt ∙ told) in
     let from = ends_from _ _ _ c.args.ports.now file _ _ _ _ _ _ _ _ _ (ap (λ (h : Held). h.ports) c.new-stream.ensures) (kept n.sent.now tt) (kept n.report.now tt) ends in
     let still = c.end_report.ensures.moves.others n.sent.now (n.apart, tt) in
-    let now = reported_by _ _ _ _ _ _ _ c.work.ensures c.in_ok-end_report.ensures.line in
-    rw still (pieces_reported _ _ _ _ _ _ _ few c.args.ports.now _ _ file fits from c.in_ok-end_capture.ensures.ends now)
+    let same = ap (λ (s : g.R.Runner.Setting). g.R.Runner.end_lines s (g.R.Runner.store c.run_pieces.new.runner) (g.R.Runner.done c.run_pieces.new.runner)) c.in_ok-run_pieces.ensures.setting in
+    let now = reported_by _ _ _ _ _ _ _ same c.in_ok-end_report.ensures.line in
+    rw still (pieces_reported _ _ _ _ _ (g.R.Runner.end_lines (g.R.Runner.setting c.args.runner.now)) _ _ few c.args.ports.now _ _ file fits from c.in_ok-end_capture.ensures.ends now)
 
 pub returns-clause-known : goal.returns-clause-known
 returns-clause-known g c = λ text told.

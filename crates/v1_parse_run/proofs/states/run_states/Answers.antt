@@ -9,6 +9,7 @@ returns-in-None-clause-moment g c =
 
 pub loop-preserved : goal.loop-preserved
 loop-preserved g c = record {
+  works = c.in_ok-next.ensures.works;
   made = c.in_ok-next.ensures.made ∙ c.loop.invariant.made;
   same =
       next_goes (g.M.Machine.made c.loop.machine) (g.M.Machine.made c.args.machine.now) c.args.states.now c.args.most c.loop.counter c.loop.number c.in-Some.next (g.M.Machine.moment c.loop.machine) (g.M.Machine.moment c.run_next.new.machine)

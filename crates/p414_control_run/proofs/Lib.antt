@@ -1,0 +1,3 @@
+mod Naming
+mod Front
+mod Passing

@@ -1,0 +1,6 @@
+mod Reading
+mod Leading
+mod Placing
+mod Entering
+mod Beginning
+mod Looping

@@ -1,0 +1,16 @@
+//! The statements of a block, run over a packed frame, the store and what a run keeps, by a stack of what is still to be done. No
+//! name is looked up, and nothing calls itself.
+#![tactic(auto)]
+
+mod arranging;
+mod block;
+mod calls;
+mod counting;
+mod levels;
+mod nodes;
+mod run;
+mod tasks;
+
+pub use block::{Chosen, ReadyAction, ReadyBlock, ReadyTable};
+pub use run::{run_action, run_statements};
+pub use tasks::{Level, Task};

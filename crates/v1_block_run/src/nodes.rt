@@ -1,0 +1,37 @@
+// The nodes of statements, by their places.
+ghost use Rattle.std.specs.Prelude.{◌≡◌, ◌<◌, IfSome, MatchOption, length};
+ghost use Rattle.v1_ready_blocks.specs.Nodes.{IsStatement, statement_at, statement_of};
+ghost use Rattle.v1_ready_blocks.specs.Statements.{nothing};
+ghost use Rattle.v1_ready_steps.specs.Steps.{ground_of, trees_of};
+ghost use Rattle.v1_block_run.specs.Steps.{is_counted};
+
+use v1_ready_blocks::{Node, StatementNode};
+use v1_ready_steps::Code;
+
+/// The node of a statement; None where another one stands there.
+#[tactic(auto, using(crate::proofs::Reading::is_statement, crate::proofs::Reading::fits_statement))]
+pub fn statement_node(code: &Code<'_>, place: usize) -> Option<StatementNode>
+    requires { place < length code.now.statements.nodes }
+    ensures tree { MatchOption result (statement_at (trees_of code.now) place ≡ nothing) (λ node. statement_at (trees_of code.now) place ≡ statement_of (trees_of code.now) node) }
+    ensures fits { IfSome result (IsStatement (ground_of code.now).layout (ground_of code.now).shapes (length code.now.statements.nodes)) }
+{
+    match code.statements.node(place) {
+        Node::Statement(node) => Some(node),
+        _ => None,
+    }
+}
+
+/// Whether a statement counts as one that begins to run: blocks, empty statements, cases, and variables without an initial value
+/// don't.
+pub fn is_counted(node: StatementNode) -> bool
+    ensures { result ≡ is_counted node }
+{
+    match node {
+        StatementNode::Nothing => false,
+        StatementNode::Sequence(..) => false,
+        StatementNode::Start(..) => false,
+        StatementNode::Labelled(..) => false,
+        StatementNode::Otherwise(..) => false,
+        _ => true,
+    }
+}

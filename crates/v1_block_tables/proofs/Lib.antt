@@ -1,0 +1,6 @@
+mod Looking
+mod Filling
+mod Keying
+mod Choosing
+mod Giving
+mod Arriving

@@ -1,0 +1,11 @@
+pub mod Whole
+pub mod Alike
+pub mod Matching
+pub mod Apart
+pub mod Copying
+pub mod Parts
+pub mod Slots
+pub mod Headers
+pub mod Extracting
+pub mod Emitting
+pub mod Externs

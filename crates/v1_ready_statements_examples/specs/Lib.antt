@@ -1,0 +1,2 @@
+-- When a ready control does what the control does.
+pub mod Alike
