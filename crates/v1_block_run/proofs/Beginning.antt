@@ -3,14 +3,14 @@ use Rattle.std.proofs.Common.{◌≡◌, ℕ, ◌+◌, ◌<◌, Bool, true, fals
 use Rattle.state_store.specs.State.{Contents}
 use Rattle.v1_sem.specs.declared.parser_error.ParserError.{ParserError}
 use Rattle.v1_sem.specs.Frames.{Hit}
-use Rattle.v1_sem.specs.Values.{Value, is_true}
+use Rattle.v1_sem.specs.Values.{is_true}
 use Rattle.v1_frames.specs.Cells.{Cells}
 use Rattle.v1_ready_expressions.specs.declared.scalar.Scalar.{Scalar}
 use Rattle.v1_ready_expressions.specs.Scalars.{seen_scalar}
 use Rattle.v1_ready_blocks.specs.Moments.{Moment, raised}
 use Rattle.v1_ready_blocks.specs.Nodes.{statement_at, test_at}
 use Rattle.v1_ready_blocks.specs.Statements.{run}
-use Rattle.v1_ready_blocks.specs.Tests.{Applied, Test, Valued, test_value, with_test}
+use Rattle.v1_ready_blocks.specs.Tests.{Applied, Valued, test_value, with_test}
 use Rattle.v1_ready_externs.specs.declared.run.Run.{Run}
 use Rattle.v1_ready_externs.specs.Seen.{moment, seen_hit}
 use Rattle.v1_ready_steps.specs.declared.tables.Told.{Told}

@@ -4,9 +4,9 @@ use Rattle.std.proofs.lemmas.List.{length-map}
 use Rattle.state_store.specs.State.{Contents}
 use Rattle.v1_frames.specs.Cells.{Cells}
 use Rattle.v1_ready_blocks.specs.Arguments.{Incoming, Outgoing, brought_in, given_back, all_back}
-use Rattle.v1_ready_blocks.specs.Blocks.{Block, acted, body_of}
+use Rattle.v1_ready_blocks.specs.Blocks.{acted, body_of}
 use Rattle.v1_ready_blocks.specs.Moments.{Moment, going_on, is_stopped}
-use Rattle.v1_ready_blocks.specs.Nodes.{Ground, incoming_at, outgoing_at, statement_at}
+use Rattle.v1_ready_blocks.specs.Nodes.{Ground, outgoing_at, statement_at}
 use Rattle.v1_ready_blocks.specs.Statements.{Statement, called, nothing, run}
 use Rattle.v1_ready_blocks.specs.Tests.{Applied, no_table_applies}
 use Rattle.v1_ready_externs.specs.declared.run.Run.{Run}
@@ -19,8 +19,8 @@ use Rattle.v1_block_run.specs.declared.tasks.Task.TheVariants as task
 use Rattle.v1_block_run.specs.declared.block.ReadyAction.{ReadyAction}
 use Rattle.v1_block_run.specs.declared.block.ReadyBlock.{ReadyBlock}
 use Rattle.v1_block_run.specs.Blocks.{HasBody, IsRunnable, count_of, seen_block, seen_body}
-use Rattle.v1_block_run.specs.Tasks.{AreThere, body_steps, calls_at, finish, load, steps, task_done, task_steps, world_at}
-use Rattle.v1_block_run.specs.Steps.{Acts, Enters, Leads, done_by, steps_of}
+use Rattle.v1_block_run.specs.Tasks.{AreThere, body_steps, calls_at, finish, load, steps, world_at}
+use Rattle.v1_block_run.specs.Steps.{Acts, Enters, Leads, done_by}
 
 pub as_many_bodies : (b : ReadyBlock) → length b.actions ≡ length (seen_block b).bodies
 as_many_bodies b = sym (length-map b.actions (seen_body b))

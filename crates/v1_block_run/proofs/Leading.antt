@@ -1,12 +1,12 @@
 -- What a statement comes to that is done at once, and one that does nothing.
-use Rattle.std.proofs.Common.{◌≡◌, ℕ, ◌+◌, ◌<◌, List, refl, sym, ap, arith}
+use Rattle.std.proofs.Common.{ℕ, ◌<◌, List, refl, sym, ap, arith}
 use Rattle.v1_ready_blocks.specs.Moments.{Moment}
 use Rattle.v1_ready_blocks.specs.Tests.{Applied}
 use Rattle.v1_ready_steps.specs.Steps.{IsOver, Comes, ground_of}
 use Rattle.v1_block_run.specs.declared.tasks.Task.{Task}
 use Rattle.v1_block_run.specs.declared.block.ReadyBlock.{ReadyBlock}
 use Rattle.v1_block_run.specs.Blocks.{count_of}
-use Rattle.v1_block_run.specs.Tasks.{AreThere, finish, load}
+use Rattle.v1_block_run.specs.Tasks.{AreThere, finish}
 use Rattle.v1_block_run.specs.Steps.{Leads}
 
 module _ (runs : ℕ → Moment → Applied) (b : ReadyBlock) (tasks : List Task) where

@@ -18,7 +18,7 @@ use Rattle.v1_block_run.specs.declared.tasks.Task.{Task}
 use Rattle.v1_block_run.specs.declared.tasks.Task.TheVariants as task
 use Rattle.v1_block_run.specs.declared.block.ReadyBlock.{ReadyBlock}
 use Rattle.v1_block_run.specs.Blocks.{count_of, seen_block}
-use Rattle.v1_block_run.specs.Tasks.{AreThere, body_steps, calls_at, finish, load, steps, task_done, world_at}
+use Rattle.v1_block_run.specs.Tasks.{AreThere, body_steps, calls_at, finish, load, steps, world_at}
 use Rattle.v1_block_run.specs.Steps.{Acts, Leads, arranged, begun, is_counted, ticked_run}
 
 -- a statement by its node

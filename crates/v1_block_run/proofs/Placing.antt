@@ -1,5 +1,5 @@
 -- What statements come to that don't count.
-use Rattle.std.proofs.Common.{◌≡◌, ℕ, ◌+◌, ◌<◌, Bool, true, false, cond, List, ◌∷◌, Option, None, refl, sym, ap, subst, ◌∙◌, arith}
+use Rattle.std.proofs.Common.{◌≡◌, ℕ, ◌+◌, ◌<◌, Bool, true, false, cond, List, ◌∷◌, Option, None, sym, ap, subst, ◌∙◌, arith}
 use Rattle.state_store.specs.State.{Contents}
 use Rattle.v1_frames.specs.Cells.{Cells}
 use Rattle.v1_frames.specs.Layouts.{Layout}

@@ -1,5 +1,5 @@
 -- What a node of a statement does, and what a step comes to.
-use Rattle.std.specs.Prelude.{◌≡◌, ℕ, ◌+◌, ◌<◌, ◌%◌, ◌^◌, Bool, true, false, if◌then◌else◌, List, ◌∷◌, Option, Some, None, IfSome}
+use Rattle.std.specs.Prelude.{◌≡◌, ℕ, ◌+◌, ◌<◌, ◌%◌, ◌^◌, Bool, true, false, if◌then◌else◌, List, Option, Some, None, IfSome}
 use Rattle.v1_sem.specs.Values.{is_true}
 use Rattle.v1_ready_blocks.specs.declared.nodes.StatementNode.{StatementNode}
 use Rattle.v1_ready_blocks.specs.declared.nodes.StatementNode.TheVariants as node
@@ -13,7 +13,6 @@ use Rattle.v1_ready_externs.specs.declared.run.Run.{Run}
 use Rattle.v1_ready_steps.specs.Steps.{IsOver, ground_of, trees_of}
 use Rattle.v1_block_run.specs.declared.tasks.Level.{Level}
 use Rattle.v1_block_run.specs.declared.tasks.Task.{Task}
-use Rattle.v1_block_run.specs.declared.tasks.Task.TheVariants as task
 use Rattle.v1_block_run.specs.declared.block.ReadyBlock.{ReadyBlock}
 use Rattle.v1_block_run.specs.Blocks.{seen_block, count_of}
 use Rattle.v1_block_run.specs.Tasks.{AreThere, IsThere, body_steps, calls_at, finish, load, task_done, task_steps}

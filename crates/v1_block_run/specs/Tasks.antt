@@ -1,5 +1,5 @@
 -- What tasks come to, one after another, and how many steps they take at most.
-use Rattle.std.specs.Prelude.{ℕ, zero, suc, ◌+◌, ◌<◌, List, [], ◌∷◌, length, Option, Some, None}
+use Rattle.std.specs.Prelude.{ℕ, zero, suc, ◌+◌, ◌<◌, List, [], ◌∷◌, length}
 use Rattle.v1_ready_blocks.specs.Moments.{Moment, going_on}
 use Rattle.v1_ready_blocks.specs.Tests.{World, Applied, no_table_applies}
 use Rattle.v1_ready_blocks.specs.Arguments.{given_back}

@@ -1,5 +1,5 @@
 -- What an application of a table comes to.
-use Rattle.std.proofs.Common.{◌≡◌, ℕ, List, [], drop, map, All, slice_get, slice_index_or, is_some, Option, Some, None, refl, sym, ap, subst, ◌∙◌, length}
+use Rattle.std.proofs.Common.{◌≡◌, ℕ, List, [], drop, All, slice_get, slice_index_or, is_some, Option, Some, None, sym, ap, subst, ◌∙◌, length}
 use Rattle.std.specs.Prelude.{option_map}
 use Rattle.state_store.specs.State.{Contents}
 use Rattle.v1_sem.specs.Frames as sem
@@ -10,7 +10,6 @@ use Rattle.v1_ready_blocks.specs.Blocks as blocks
 use Rattle.v1_ready_blocks.specs.Moments.{Moment, with_hit}
 use Rattle.v1_ready_blocks.specs.Nodes.{Ground}
 use Rattle.v1_ready_blocks.specs.Tables.{Chosen, Fill, Table, action_in, applied, applied_by, bound_numbers, chosen, found, hit_of, noted, run_chosen}
-use Rattle.v1_ready_blocks.specs.Tests.{Applied}
 use Rattle.v1_ready_externs.specs.declared.run.Hit.{Hit}
 use Rattle.v1_ready_externs.specs.declared.run.Run.{Run}
 use Rattle.v1_ready_externs.specs.Seen.{given_of, moment, seen_hit}

@@ -1,5 +1,5 @@
 -- The call that an application makes.
-use Rattle.std.proofs.Common.{◌≡◌, ℕ, List, Option, Some, None, slice_index_or, sym, ap, ◌∙◌}
+use Rattle.std.proofs.Common.{◌≡◌, ℕ, List, Option, Some, None, slice_index_or, ap, ◌∙◌}
 use Rattle.std.specs.Prelude.{option_map}
 use Rattle.match_core.specs.declared.entries.Entry.{Entry}
 use Rattle.match_core.specs.declared.entries.DefaultCall.{DefaultCall}

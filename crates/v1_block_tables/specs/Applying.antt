@@ -1,8 +1,7 @@
 -- What parts of an application come to.
-use Rattle.std.specs.Prelude.{◌≡◌, ℕ, List, map, slice_index_or, Option, None, option_map}
+use Rattle.std.specs.Prelude.{ℕ, List, slice_index_or, Option}
 use Rattle.match_core.specs.declared.entries.Entry.{Entry}
 use Rattle.match_core.specs.declared.entries.DefaultCall.{DefaultCall}
-use Rattle.v1_sem.specs.Frames as sem
 use Rattle.v1_ready_blocks.specs.Tables.{Chosen}
 use Rattle.v1_ready_externs.specs.declared.run.Hit.{Hit}
 use Rattle.v1_ready_externs.specs.declared.run.Run.{Run}

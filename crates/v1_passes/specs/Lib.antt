@@ -1,0 +1,11 @@
+-- The passes of a packet under a P4_16 program. Read in this order:
+--
+--   Moments   as a block begins, and what it leaves, by the packed frame
+--   Tags      preserved and held values with the program that they are of, and the machine over these
+--
+-- `internal` has what only private functions and proofs name.
+pub mod Codes
+pub mod internal
+pub mod Moments
+pub mod Runs
+pub mod Tags

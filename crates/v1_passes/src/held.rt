@@ -1,0 +1,110 @@
+// What is kept between two passes, and what is held between ingress and egress.
+ghost use Rattle.std.specs.Prelude.{◌≡◌, IfOk};
+ghost use Rattle.state_store.specs.Ports.{IsPort};
+ghost use Rattle.v1_frame_values.specs.Frames.{IsFrameOf};
+ghost use Rattle.v1_frame_values.specs.Programs.{layout16};
+ghost use Rattle.v1_pass_slots.specs.Starts.{metadata_start};
+ghost use Rattle.v1_packets.specs.Packets.{packet_frame, kept_value, AreFitting};
+
+use p4x_bits::{Octets, OutOfMemory};
+use std::alloc::Global;
+use std::marker::Model;
+use v1_frames::Frame;
+use v1_packets::Packets;
+
+/// What is preserved of the metadata of a packet, by the numbers in its slots, of which those that are 0 at the end needn't stand
+/// there. Contracts see the program and the metadata.
+#[derive(Drop)]
+pub struct Kept16<'r> {
+    pub(crate) packets: &'r Packets<'r>,
+    pub(crate) numbers: Vec<u128>,
+}
+
+impl<'r> Model for Kept16<'r> {
+    ghost use Rattle.v1_sem.specs.Values.{Value as Metadata};
+    ghost use Rattle.v1_frame_values.specs.Programs.{layout16};
+    ghost use Rattle.v1_pass_slots.specs.Starts.{metadata_start};
+    ghost use Rattle.v1_packets.specs.Packets.{kept_value, AreFitting};
+    ghost use Rattle.v1_passes.specs.Tags.{Tagged, coded_kept};
+
+    ghost Value = { Tagged Metadata };
+
+    ghost coded = { coded_kept };
+
+    ghost view = { λ k. record { program = k.packets.now; value = kept_value k.packets.now k.numbers.items } };
+
+    ghost invariant = { λ k. AreFitting (layout16 k.packets.now).widths (metadata_start k.packets.now).slot k.numbers.items };
+}
+
+/// What is held of a packet between ingress and egress: its frame, the octets that weren't parsed, and the port of arrival.
+/// Contracts see the program and what is held.
+#[derive(Drop)]
+pub struct Held16<'r> {
+    pub(crate) packets: &'r Packets<'r>,
+    pub(crate) frame: Frame<'r>,
+    pub(crate) unparsed: Octets,
+    pub(crate) port: u16,
+}
+
+impl<'r> Model for Held16<'r> {
+    ghost use Rattle.state_store.specs.Ports.{IsPort};
+    ghost use Rattle.v1_sem.specs.Passes.{Held};
+    ghost use Rattle.v1_frame_values.specs.Frames.{IsFrameOf};
+    ghost use Rattle.v1_packets.specs.Packets.{packet_frame};
+    ghost use Rattle.v1_passes.specs.Tags.{Tagged, coded_hold};
+
+    ghost Value = { Tagged Held };
+
+    ghost coded = { coded_hold };
+
+    ghost view = { λ h. record { program = h.packets.now; value = record { frame = packet_frame h.packets.now h.frame; unparsed = h.unparsed; port = h.port } } };
+
+    ghost invariant = { λ h. IsFrameOf h.packets.now h.frame × IsPort h.port };
+}
+
+impl<'r> Kept16<'r> {
+    /// The numbers in the slots of the metadata.
+    pub(crate) fn numbers(&self) -> &[u128]
+        ensures value { self.now.value ≡ kept_value self.now.program result.now }
+        ensures fits { AreFitting (layout16 self.now.program).widths (metadata_start self.now.program).slot result.now }
+    {
+        &self.numbers
+    }
+}
+
+/// The parts of what is held.
+#[derive(Drop)]
+pub(crate) struct HeldParts<'r> {
+    pub(crate) frame: Frame<'r>,
+    pub(crate) unparsed: Octets,
+    pub(crate) port: u16,
+}
+
+impl<'r> Held16<'r> {
+    /// Its parts.
+    pub(crate) fn into_parts(self) -> HeldParts<'r>
+        ensures frame { IsFrameOf self.entry.program result.frame }
+        ensures value { self.entry.value ≡ record { frame = packet_frame self.entry.program result.frame; unparsed = result.unparsed; port = result.port } }
+        ensures port { IsPort result.port }
+    {
+        HeldParts {
+            frame: self.frame,
+            unparsed: self.unparsed,
+            port: self.port,
+        }
+    }
+
+    /// The same again. The one error is want of memory.
+    pub fn copy(&self, alloc: Global) -> Result<Self, OutOfMemory>
+        ensures { IfOk result (λ held. held ≡ self.now) }
+    {
+        let frame = self.frame.copy(alloc)?;
+        let unparsed = Octets::from_slice(alloc, self.unparsed.as_slice())?;
+        Ok(Held16 {
+            packets: self.packets,
+            frame,
+            unparsed,
+            port: self.port,
+        })
+    }
+}
