@@ -1,11 +1,11 @@
 // The rows of the table.
 
 /// A row has nine cells: its name; the program; the entries; the ports, or `-` where no file of them is named; the packets, between blanks;
-/// further words, or all words behind `=`; the status; the line; what is sent, and the report. The program is one of `eth` (a header of three fields, `/*a*/` in the
-/// body of its action, `/*e*/` at its end), `four` (a header of four octets, with the same marks and `/*c*/` for its control), `router`,
-/// `labels`, `lpm` and `again`, or a text behind `'`; behind it stand texts for its marks, each between `~`, as `a=..`. A packet is in
-/// hexadecimal digits; `!` and digits behind the packets are octets that follow them as they are. In texts `^` is a line feed.
-/// Where nothing is written the cells of what is sent and of the report are `-`.
+/// further words, or all words behind `=`; the status; the line; what is sent, and the report. The program is one of `eth` (a header of three
+/// fields, with the mark `#a` in the body of its action and `#e` at its end), `four` (a header of four octets, with the same marks and `#c` for
+/// its control), `router`, `labels`, `lpm` and `again`, or a text behind `'`; behind it stand texts for its marks, each behind a `~`, as `a=..`.
+/// A packet is in hexadecimal digits; `!` and digits behind the packets are octets that follow them as they are, and `&` in front of a packet has
+/// it there 10,000 times. In texts `^` is a line feed. Where nothing is written the cells of what is sent and of the report are `-`.
 pub fn cases() -> &'static [u8] {
     b"a route|router|table_add routes route 192.168.0.0/24 => 3 02:00:00:00:00:07^|-|020000000001020000000002080045000073000040004011b861c0a80001c0a800c7||0|ran 1 1 0^|020000000007020000000002080045000073000040003f11b961c0a80001c0a800c7|sent 3 34^in 1^out 1^cut 0^direct routed 0 1 0^
 a wrong checksum|router|table_add routes route 192.168.0.0/24 => 3 02:00:00:00:00:07^|-|020000000001020000000002080045000073000040004011b862c0a80001c0a800c7||0|ran 1 0 0^||in 1^out 0^cut 0^
@@ -29,6 +29,7 @@ one pass alone|again||-|12340000|--passes 1|0|ran 1 0 1^||in 1^out 0^cut 1^
 a direct counter|'header_type four_t { fields { x : 16; y : 8; z : 8; } } header four_t f; parser start { extract(f); return ingress; } action go(port) { modify_field(standard_metadata.egress_spec, port); } table ta { reads { f.x : exact; } actions { go; } } table tb { reads { f.x : exact; } actions { go; } } counter dc { type : packets; direct : ta; } control ingress { apply(ta); apply(tb); }|table_add ta go 0x1234 => 1^table_add tb go 0x5678 => 2^|-|12340000 56780000 56780000||0|ran 3 3 0^|12340000 56780000 56780000|sent 1 4^sent 2 4^sent 2 4^in 3^out 3^cut 0^direct dc 0 1 0^
 only the other table|'header_type four_t { fields { x : 16; y : 8; z : 8; } } header four_t f; parser start { extract(f); return ingress; } action go(port) { modify_field(standard_metadata.egress_spec, port); } table ta { reads { f.x : exact; } actions { go; } } table tb { reads { f.x : exact; } actions { go; } } counter dc { type : packets; direct : ta; } control ingress { apply(ta); apply(tb); }|table_add tb go 0x5678 => 2^|-|56780000||0|ran 1 1 0^|56780000|sent 2 4^in 1^out 1^cut 0^
 registers and counters|four~a=register_write(r, 0, -1); register_read(m.v, r, 0); add_to_field(m.v, 1); register_write(r, 1, m.v); count(n, 1);~e=register r { width : 128; instance_count : 2; } counter n { type : packets_and_bytes; instance_count : 2; } header_type w_t { fields { v : 128; } } metadata w_t m;~||-|12340000 00000000||0|ran 2 2 0^|12340000 00000000|sent 3 4^sent 3 4^in 2^out 2^cut 0^counter n 1 2 8^register r 0 340282366920938463463374607431768211455^
+ten thousand packets|four~a=drop(); count(n, 1);~e=counter n { type : packets_and_bytes; instance_count : 2; }~||-|&12340000||0|ran 10000 0 0^||in 10000^out 0^cut 0^counter n 1 10000 40000^
 names of words|'header_type eth_t { fields { a : 48; b : 48; type : 16; } } header eth_t eth; parser start { extract(eth); return ingress; } action out3() { modify_field(standard_metadata.egress_spec, 3); } table select { actions { out3; } } control ingress { apply(select); }|table_set_default select out3^|-|0102030405060708090a0b0c0d0e||0|ran 1 1 0^|0102030405060708090a0b0c0d0e|sent 3 14^in 1^out 1^cut 0^
 ports|four~a=modify_field(standard_metadata.egress_spec, standard_metadata.ingress_port);~||510^7^|12340000 12340000 12340000||0|ran 3 3 0^|12340000 12340000 12340000|sent 510 4^sent 7 4^sent 0 4^in 3^out 3^cut 0^
 a register too wide|four~e=register r { width : 129; instance_count : 2; }~||-|12340000||3|refused C3^|-|-

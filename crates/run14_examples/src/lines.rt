@@ -131,14 +131,24 @@ const READ: &[u8] = b"d4c3b2a1020004000000000000000000ffff000001000000";
 
 const SENT: &[u8] = b"d4c3b2a10200040000000000000000000000040001000000";
 
-fn add_record(file: &mut Vec<u8>, digits: &'static [u8]) -> Result<(), Fail> {
-    if let [b'!', more @ ..] = digits {
-        return add_octets(file, more);
-    }
+fn add_packet(file: &mut Vec<u8>, digits: &[u8]) -> Result<(), Fail> {
     let size = (digits.len() / 2 % 256) as u8;
     add_octets(file, b"0100000002000000")?;
     file.extend_from_slice(&[size, 0, 0, 0, size, 0, 0, 0])?;
     add_octets(file, digits)
+}
+
+fn add_record(file: &mut Vec<u8>, digits: &'static [u8]) -> Result<(), Fail> {
+    match digits {
+        [b'!', more @ ..] => add_octets(file, more),
+        [b'&', packet @ ..] => {
+            for _ in 0..10000 {
+                add_packet(file, packet)?;
+            }
+            Ok(())
+        }
+        _ => add_packet(file, digits),
+    }
 }
 
 fn add_records(file: &mut Vec<u8>, packets: &'static [u8]) -> Result<(), Fail> {
