@@ -46,7 +46,7 @@ pub trait Blocks<'r> {
     /// The parser on these octets. The count of work goes up by the statements and transitions that began, modulo 2^64.
     fn parse(
         &mut self,
-        frame: &mut Frame<'_>,
+        frame: &mut Frame<'r>,
         octets: &[u8],
         work: &mut u64,
     ) -> Result<ParseEnd, OutOfMemory>
@@ -61,7 +61,7 @@ pub trait Blocks<'r> {
     fn control(
         &mut self,
         block: Block,
-        frame: &mut Frame<'_>,
+        frame: &mut Frame<'r>,
         unparsed: &[u8],
         emitted: &mut Octets,
         work: &mut u64,

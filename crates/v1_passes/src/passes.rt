@@ -54,7 +54,7 @@ fn is_no_error(error: ParserError) -> bool
 /// Verification, which is left out after an error.
 fn verify<'r, B: Blocks<'r> + Drop>(
     blocks: &mut B,
-    frame: &mut Frame<'_>,
+    frame: &mut Frame<'r>,
     unparsed: &[u8],
     emitted: &mut Octets,
     error: ParserError,
@@ -75,7 +75,7 @@ fn verify<'r, B: Blocks<'r> + Drop>(
 fn run_to_egress<'r, B: Blocks<'r> + Drop>(
     alloc: Global,
     blocks: &mut B,
-    frame: &mut Frame<'_>,
+    frame: &mut Frame<'r>,
     octets: &[u8],
     work: &mut u64,
 ) -> Result<usize, OutOfMemory>
@@ -233,7 +233,7 @@ fn leave(octets: Octets, again: Option<Kept16<'_>>) -> EgressNext<Kept16<'_>>
 /// The packet is put together behind egress, and leaves.
 fn put_together<'r, B: Blocks<'r> + Drop>(
     blocks: &mut B,
-    frame: &mut Frame<'_>,
+    frame: &mut Frame<'r>,
     unparsed: &[u8],
     emitted: Octets,
     work: &mut u64,
@@ -263,7 +263,7 @@ fn finish<'r, B: Blocks<'r> + Drop>(
     alloc: Global,
     packets: &'r Packets<'r>,
     blocks: &mut B,
-    frame: &mut Frame<'_>,
+    frame: &mut Frame<'r>,
     unparsed: &[u8],
     emitted: Octets,
     work: &mut u64,
