@@ -4,16 +4,24 @@
 #   router   100,000 packets through the sample router, which verifies and updates the checksum of each, and routes it by one of 2 prefixes
 #   exact    100,000 packets through a table of 65,536 exact entries
 #   long     1,000,000 and 2,000,000 packets through the router: the memory of the second shows that it doesn't grow with the capture
-# It wants rt, python3 and 600 MB in the temporary folder. The gate doesn't run it. The program is proved first, in a scratch copy.
+# `bench/run14.sh PROGRAM` times a program that is built already; without the word the program is proved first, in a scratch copy of the crates
+# that it stands on. It wants python3, 600 MB in the temporary folder, and rt where it is to prove. The gate doesn't run it.
 set -eu
 top=$(cd "$(dirname "$0")/.." && pwd)
 . "$top/bench/scratch.sh"
-copy_crates p4x
-cd "$work/crates/p4x"
-run_once -- run14 data/router.p4 data/routes.txt data/frame.pcap --sent sent --report report
+if [ $# -gt 0 ]; then
+    program=$(cd "$(dirname "$1")" && pwd)/$(basename "$1")
+else
+    copy_crates p4x
+    cd "$work/crates/p4x"
+    run_once -- run14 data/router.p4 data/routes.txt data/frame.pcap --sent sent --report report
+    program=$work/crates/p4x/out/p4x
+fi
+cp "$top/crates/p4x/data/router.p4" "$work"
+cd "$work"
 sed -n 's/^model name[^:]*: //p' /proc/cpuinfo | sed -n 1p
-cat >"$work/run14.py" <<'END'
-import os, struct, subprocess, time
+cat >run14.py <<'END'
+import os, struct, subprocess, sys, time
 
 EXACT = """header_type four_t { fields { x : 16; y : 8; z : 8; } }
 header four_t f;
@@ -52,7 +60,7 @@ def capture(name, count, frame_of):
         file.write(b"".join(some))
 
 def run(program, entries, count):
-    words = ["out/p4x", "run14", program, entries, "in", "--sent", "sent", "--report", "report"]
+    words = [sys.argv[1], "run14", program, entries, "in", "--sent", "sent", "--report", "report"]
     start = time.monotonic()
     child = subprocess.Popen(["taskset", "-c", "0"] + words, stdout=subprocess.PIPE)
     line = child.stdout.read().decode()
@@ -72,14 +80,14 @@ with open("exact", "w") as file:
 
 print("%-8s %10s %12s %12s %12s" % ("", "packets", "seconds", "a second", "KiB at most"))
 for name, program, entries, count, frame_of in (
-    ("router", "data/router.p4", "routes", 100000, routed),
+    ("router", "router.p4", "routes", 100000, routed),
     ("exact", "exact.p4", "exact", 100000, lambda x: struct.pack(">HBB", x // 2**48, 0, 0)),
-    ("long", "data/router.p4", "routes", 1000000, routed),
-    ("long", "data/router.p4", "routes", 2000000, routed),
+    ("long", "router.p4", "routes", 1000000, routed),
+    ("long", "router.p4", "routes", 2000000, routed),
 ):
     capture("in", count, frame_of)
     runs = [run(program, entries, count) for _ in range(3)]
     best = min(took for took, _ in runs)
     print("%-8s %10d %12.2f %12.0f %12d" % (name, count, best, count / best, max(used for _, used in runs)))
 END
-python3 "$work/run14.py"
+python3 run14.py "$program"
