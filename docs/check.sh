@@ -41,6 +41,7 @@ expect() {
     0) [ ! -s said ] || wrong "the sentence $(cat said)" ;;
     2) grep -q '^p4x: these words are no form of a command' said || wrong "the sentence $(cat said)" ;;
     *) grep -qF -- "\`$(cat said)\`" "$top/docs/MESSAGES.md" || grep -qxF -- "$(cat said)" "$top/README.md" ||
+        grep -qF -- "| \`$(sed 's/^p4x: [^ ]*: //; s/ (E[0-9]*)$//' said)\` |" "$top/docs/MESSAGES.md" ||
         wrong "the sentence $(cat said)" ;;
     esac
     output out.p4 "$text"
@@ -54,6 +55,19 @@ carry() {
     shift 8
     expect "$status" "$line" "$text" "$sent" "$report" \
         carry "$program14" "$entries" "$capture" --text out.p4 --sent out.pcap --report report.txt "$@"
+}
+
+# The same of a run.
+run() {
+    status=$1 line=$2 sent=$3 report=$4 program14=$5 entries=$6 capture=$7
+    shift 7
+    expect "$status" "$line" none "$sent" "$report" run14 "$program14" "$entries" "$capture" --sent out.pcap --report report.txt "$@"
+}
+
+# Entries that break this rule at this line, for a program.
+entry() {
+    printf '%s\n' "$4" >entry.txt
+    run 4 "refused $1 at $2:1" none none "$3" entry.txt frame.pcap
 }
 
 # The program with one line changed is refused with this line, and a sentence is said.
@@ -82,7 +96,9 @@ printf header >header.p4
 sed 's/modify_field(.*);/drop();/' p1.p4 >form.p4
 truncate -s 1048577 big.p4
 truncate -s 4194305 big.txt
+truncate -s 16777217 long.txt
 truncate -s 1073741825 big.pcap
+sed 's/ : lpm;/ : ternary;/' router.p4 >ternary.p4
 
 # README.md: the run, and a port that is refused.
 "$program" carry p1.p4 entries.txt in.pcap --text text --sent out.pcap --report report.txt >/dev/null
@@ -117,6 +133,28 @@ carry 5 'refused K4' text 24 0 p1.p4 entries.txt short.pcap
 carry 5 'refused K5' text 24 0 p1.p4 entries.txt long.pcap
 carry 6 'limit ports' none none none p1.p4 entries.txt in.pcap --ports big.txt
 carry 6 'limit capture' text 0 0 p1.p4 entries.txt big.pcap
+run 0 'ran 1 1 0' 115 47 router.p4 routes.txt frame.pcap
+printf 'sent 3 75\nin 1\nout 1\ncut 0\ndirect routed 0 1 0\n' | cmp -s - report.txt || wrong 'the report is another'
+run 0 'ran 1 0 0' 24 17 router.p4 entries.txt frame.pcap --rule parallel --passes 65536
+run 2 usage none none router.p4 entries.txt frame.pcap --text out.p4
+run 3 'refused C2' none none empty.p4 entries.txt in.pcap
+entry E1 1 router.p4 x
+entry E2 1 router.p4 'table_add x y =>'
+entry E3 1 router.p4 'table_add routes x =>'
+entry E4 1 router.p4 'table_add routes route =>'
+entry E5 1 router.p4 'table_add routes nowhere 1 =>'
+entry E6 1 router.p4 'table_add routes nowhere 1/33 =>'
+entry E7 1 router.p4 'table_set_default routes nowhere 1'
+entry E8 2 router.p4 "$(cat routes.txt routes.txt)"
+entry E9 1 ternary.p4 'table_add routes nowhere 1&&&1 =>'
+entry E10 1 router.p4 'mirroring_add 32768 1'
+entry E11 1 router.p4 'meter_colours m 1'
+entry E12 1025 router.p4 "$(seq 0 1024 | sed 's/.*/table_add routes nowhere &\/32 =>/')"
+run 5 'refused P2 at 1:1' none none router.p4 routes.txt frame.pcap --ports 511.txt
+run 5 'refused K1' 0 0 router.p4 routes.txt empty.pcap
+run 5 'refused K4' 24 0 router.p4 routes.txt short.pcap
+run 6 'limit entries' none none router.p4 long.txt frame.pcap
+run 6 'limit capture' 0 0 router.p4 routes.txt big.pcap
 expect 0 accepted none none none check p1.p4
 expect 0 eth none none none order p1.p4
 for command in check order; do

@@ -4,7 +4,7 @@ use Rattle.std.specs.Option.{option_map, option_and_then}
 use Rattle.std.specs.Str.{bytes_eq}
 use Rattle.p414_ast.specs.declared.syntax.Rule14.{Rule14}
 use Rattle.command_words.specs.Apart.{are_apart, AreApart}
-use Rattle.command_words.specs.Words.{CarryFiles, Run14Files, Command, carry, check, order, carry_inputs, carry_outputs, run14_inputs, run14_outputs, inputs_of, outputs_of, is_value, are_inputs, are_carry_names, are_run14_names, Options, no_options, options_in, passes_in, rule_in, carry_by, carry_found, carry_form, run14_by, run14_found, run14_form, program_form, form}
+use Rattle.command_words.specs.Words.{CarryFiles, Run14Files, Command, carry, check, order, run14, carry_inputs, carry_outputs, run14_inputs, run14_outputs, inputs_of, outputs_of, is_value, are_inputs, are_carry_names, are_run14_names, Options, no_options, options_in, passes_in, rule_in, carry_by, carry_found, carry_form, run14_by, run14_found, run14_form, program_form, form}
 use Rattle.command_words.proofs.Distinct.{last, apart_is}
 
 -- of `carry`
@@ -89,11 +89,15 @@ run14_by_options : (program entries capture : List ℕ) (o : Option Options) (g 
 run14_by_options program entries capture None g is = absurd (cc is)
 run14_by_options program entries capture (Some o) g is = run14_by_found program entries capture o.ports o.text (rule_in o.rule) (passes_in o.passes) o.sent o.report g is
 
-pub run14_apart : (words : List (List ℕ)) (g : Run14Files) → run14_form words ≡ Some g → AreApart (run14_inputs g) (run14_outputs g)
+run14_apart : (words : List (List ℕ)) (g : Run14Files) → run14_form words ≡ Some g → AreApart (run14_inputs g) (run14_outputs g)
 run14_apart (program ∷ entries ∷ capture ∷ words) g is = run14_by_options program entries capture (options_in words no_options) g is
 run14_apart [] g is = absurd (cc is)
 run14_apart (program ∷ []) g is = absurd (cc is)
 run14_apart (program ∷ entries ∷ []) g is = absurd (cc is)
+
+by_run14 : (words : List (List ℕ)) (c : Command) (o : Option Run14Files) → run14_form words ≡ o → option_map (λ f. run14 f) o ≡ Some c → AreApart (inputs_of c) (outputs_of c)
+by_run14 words c None here is = absurd (cc is)
+by_run14 words c (Some g) here is = let same : run14 g ≡ c = cc is in subst (λ (x : Command). AreApart (inputs_of x) (outputs_of x)) same (run14_apart words g here)
 
 -- commands that write no file
 
@@ -105,15 +109,19 @@ by_order : (c : Command) (o : Option (List ℕ)) → option_map (λ p. order p) 
 by_order c None is = absurd (cc is)
 by_order c (Some program) is = let same : order program ≡ c = cc is in subst (λ (x : Command). AreApart (inputs_of x) (outputs_of x)) same tt
 
-by_word : (words : List (List ℕ)) (c : Command) (is_carry is_check is_order : Bool)
+by_word : (words : List (List ℕ)) (c : Command) (is_carry is_check is_order is_run14 : Bool)
     → (if is_carry then option_map (λ f. carry f) (carry_form words)
-    else (if is_check then option_map (λ p. check p) (program_form words) else (if is_order then option_map (λ p. order p) (program_form words) else None))) ≡ Some c
+    else (if is_check then option_map (λ p. check p) (program_form words)
+    else (if is_order then option_map (λ p. order p) (program_form words)
+    else (if is_run14 then option_map (λ f. run14 f) (run14_form words) else None)))) ≡ Some c
     → AreApart (inputs_of c) (outputs_of c)
-by_word words c true is_check is_order is = by_carry words c (carry_form words) refl is
-by_word words c false true is_order is = by_check c (program_form words) is
-by_word words c false false true is = by_order c (program_form words) is
-by_word words c false false false is = absurd (cc is)
+by_word words c true is_check is_order is_run14 is = by_carry words c (carry_form words) refl is
+by_word words c false true is_order is_run14 is = by_check c (program_form words) is
+by_word words c false false true is_run14 is = by_order c (program_form words) is
+by_word words c false false false true is = by_run14 words c (run14_form words) refl is
+by_word words c false false false false is = absurd (cc is)
 
 pub form_apart : (words : List (List ℕ)) (c : Command) → form words ≡ Some c → AreApart (inputs_of c) (outputs_of c)
 form_apart [] c is = absurd (cc is)
-form_apart (command ∷ words) c is = by_word words c (bytes_eq command (codes "carry")) (bytes_eq command (codes "check")) (bytes_eq command (codes "order")) is
+form_apart (command ∷ words) c is =
+    by_word words c (bytes_eq command (codes "carry")) (bytes_eq command (codes "check")) (bytes_eq command (codes "order")) (bytes_eq command (codes "run14")) is

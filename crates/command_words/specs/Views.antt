@@ -3,8 +3,8 @@ use Rattle.std.specs.Prelude.{option_map}
 use Rattle.command_words.specs.declared.command.CarryNames.{CarryNames}
 use Rattle.command_words.specs.declared.command.Run14Names.{Run14Names}
 use Rattle.command_words.specs.declared.command.Command.{Command as Read}
-use Rattle.command_words.specs.declared.command.Command.TheVariants.{Carry, Check, Order}
-use Rattle.command_words.specs.Words.{CarryFiles, Run14Files, Command, carry, check, order}
+use Rattle.command_words.specs.declared.command.Command.TheVariants.{Carry, Check, Order, Run14}
+use Rattle.command_words.specs.Words.{CarryFiles, Run14Files, Command, carry, check, order, run14}
 
 -- the files that names are of
 abbrev pub files_of : CarryNames → CarryFiles
@@ -36,3 +36,4 @@ abbrev pub command_of : Read → Command
 command_of (Carry names) = carry (files_of names)
 command_of (Check program) = check program.now
 command_of (Order program) = order program.now
+command_of (Run14 names) = run14 (run14_files_of names)

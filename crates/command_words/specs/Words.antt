@@ -34,6 +34,7 @@ pub data Command : Type 0 where
   carry : (files : CarryFiles) → Command
   check : (program : List ℕ) → Command
   order : (program : List ℕ) → Command
+  run14 : (files : Run14Files) → Command
 
 -- the files that `carry` reads
 abbrev pub carry_inputs : CarryFiles → List (List ℕ)
@@ -56,12 +57,14 @@ abbrev pub inputs_of : Command → List (List ℕ)
 inputs_of (carry files) = carry_inputs files
 inputs_of (check program) = program ∷ []
 inputs_of (order program) = program ∷ []
+inputs_of (run14 files) = run14_inputs files
 
 -- the files that a command writes
 abbrev pub outputs_of : Command → List (List ℕ)
 outputs_of (carry files) = carry_outputs files
 outputs_of (check program) = []
 outputs_of (order program) = []
+outputs_of (run14 files) = run14_outputs files
 
 -- the name of an input file that is no option's isn't empty and doesn't begin with two dashes
 abbrev pub is_name : List ℕ → Bool
@@ -235,5 +238,6 @@ abbrev pub form : List (List ℕ) → Option Command
 form (command ∷ words) =
     if bytes_eq command (codes "carry") then option_map (λ f. carry f) (carry_form words)
     else (if bytes_eq command (codes "check") then option_map (λ p. check p) (program_form words)
-    else (if bytes_eq command (codes "order") then option_map (λ p. order p) (program_form words) else None))
+    else (if bytes_eq command (codes "order") then option_map (λ p. order p) (program_form words)
+    else (if bytes_eq command (codes "run14") then option_map (λ f. run14 f) (run14_form words) else None)))
 form [] = None

@@ -14,6 +14,8 @@ pub enum Command<'a> {
     Check(&'a str),
     /// `order PROGRAM`.
     Order(&'a str),
+    /// `run14 PROGRAM ENTRIES CAPTURE --sent F --report F [--ports F] [--rule R] [--passes N]`.
+    Run14(Run14Names<'a>),
 }
 
 /// The files that `carry` names, and the bound on passes. No output is another output or an input.

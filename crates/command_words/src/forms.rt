@@ -201,10 +201,8 @@ fn run14_found<'a>(
     run14_with(inputs, rule, passes, sent?, report?)
 }
 
-/// The files that the words behind `run14` name, with the rule of actions and the bound on passes; `None` exactly where they are no form of
-/// it: `PROGRAM ENTRIES CAPTURE --sent F --report F [--ports F] [--rule sequential|parallel] [--passes N]`, the options in any order. Its
-/// outputs are other files than its inputs and than each other.
-pub fn read_run14(words: &[String]) -> Option<Run14Names<'_>>
+/// The files that the words behind `run14` name; `None` exactly where they are no form of it.
+fn read_run14(words: &[String]) -> Option<Run14Names<'_>>
     ensures { option_map run14_files_of result ≡ run14_form (map string_bytes words.now) }
 {
     let [program, entries, capture, options @ ..] = words else {
@@ -249,6 +247,7 @@ pub fn read_words(words: &[String]) -> Option<Command<'_>>
         "carry" => Some(Command::Carry(read_carry(behind)?)),
         "check" => Some(Command::Check(read_program(behind)?)),
         "order" => Some(Command::Order(read_program(behind)?)),
+        "run14" => Some(Command::Run14(read_run14(behind)?)),
         _ => None,
     }
 }

@@ -9,4 +9,4 @@ mod options;
 mod values;
 
 pub use command::{CarryNames, Command, Run14Names};
-pub use forms::{read_run14, read_words};
+pub use forms::read_words;

@@ -6,11 +6,13 @@ use std::{fmt, str};
 
 /// The forms of the commands.
 const FORMS: &str = "these words are no form of a command. The forms are:
-  carry PROGRAM ENTRIES CAPTURE --text F --sent F --report F [--ports F]
+  carry PROGRAM ENTRIES CAPTURE --text F --sent F --report F [--ports F] [--passes N]
+  run14 PROGRAM ENTRIES CAPTURE --sent F --report F [--ports F] [--rule R] [--passes N]
   check PROGRAM
   order PROGRAM
 The names come first, then the options, in any order and each at most once. A name isn't empty, and PROGRAM, ENTRIES and
-CAPTURE don't begin with --. The outputs --text, --sent and --report are three other files than the inputs.";
+CAPTURE don't begin with --. The outputs --text, --sent and --report are other files than each other and than the inputs. N is
+a decimal number from 1 to 65,536, and R is parallel or sequential.";
 
 /// What a rule of a file that `carry` reads asks, and what was found in its place.
 fn carry_words(rule: &str) -> &'static str {
@@ -18,32 +20,58 @@ fn carry_words(rule: &str) -> &'static str {
         "C25" =>
             "the program has something that is left out of P4_14 here, or isn't of the one form that is carried yet",
         "E1" => "only an empty entries file is taken yet",
+        _ => input_words(rule),
+    }
+}
+
+/// What a rule of a file that `run14` reads asks, and what was found in its place.
+fn run_words(rule: &str) -> &'static str {
+    match rule {
+        "E1" => "the line is none of the four forms of an entries file",
+        "E2" => "the program has no such table",
+        "E3" => "the table doesn't list that action",
+        "E4" => "the number of keys isn't that of the table, or the table has no keys",
+        "E5" => "a key isn't of the form of its kind, or its low end is over its high end",
+        "E6" => "a number doesn't fit its width, or a prefix is longer than its key",
+        "E7" => "the number of arguments isn't that of the action, or one of them is no number",
+        "E8" => "the table has an entry with these keys and this priority already",
+        "E9" => "the priority is missing, or isn't a number up to 2,147,483,647",
+        "E10" =>
+            "the session isn't a number up to 32,767 or was given before, or its port isn't one up to 510",
+        "E11" => "the program has no such meter, or a colour isn't 0, 1 or 2",
+        "E12" => "the table has as many entries as its size already",
+        _ => input_words(rule),
+    }
+}
+
+/// What a rule of ports, captures or programs asks, and what was found in its place.
+fn input_words(rule: &str) -> &'static str {
+    match rule {
         "P1" => "the line isn't one decimal number",
         "P2" => "the port is over 510",
         "K1" => "the file has fewer than 24 octets, so it is no capture",
         "K2" =>
             "the file doesn't begin with the magic number of a capture; pcapng and compressed files aren't taken",
         "K3" => "the version of the capture isn't 2.4",
-        "K4" => "the capture ends inside a record; the packets in front of it were carried",
-        "K5" =>
-            "a record has a captured length over 65,535; the packets in front of it were carried",
+        "K4" => "the capture ends inside a record; the packets in front of it were run",
+        "K5" => "a record has a captured length over 65,535; the packets in front of it were run",
         _ => program_words(rule).unwrap_or("the file breaks this rule"),
     }
 }
 
 /// What a rule asks, by the command.
 fn rule_words(words: &[String], rule: &str) -> &'static str {
-    if is_carry(words) {
+    if is_command(words, "carry") {
         carry_words(rule)
     } else {
-        program_words(rule).unwrap_or("the file breaks this rule")
+        run_words(rule)
     }
 }
 
-/// Whether the command is `carry`.
-fn is_carry(words: &[String]) -> bool {
+/// Whether this is the command.
+fn is_command(words: &[String], name: &str) -> bool {
     match words.first() {
-        Some(command) => command.as_str() == "carry",
+        Some(command) => command.as_str() == name,
         None => false,
     }
 }
@@ -102,6 +130,7 @@ fn of_file<'a>(words: &'a [String], line: &'a str) -> Option<Advice<'a>> {
     }
     match line {
         "limit program" => over(file_of(words, "C"), "1,048,576"),
+        "limit entries" => over(file_of(words, "E"), "16,777,216"),
         "limit ports" => over(file_of(words, "P"), "4,194,304"),
         "limit capture" => over(file_of(words, "K"), "1,073,741,824"),
         _ => None,
@@ -152,12 +181,12 @@ fn tell_fault<W: fmt::Write>(words: &[String], f: &mut fmt::Formatter<W>) -> fmt
     if let Some(ports) = option_of(words, "--ports") {
         write!(f, ", {ports}")?;
     }
-    if let (Some(text), Some(sent), Some(report)) = (
-        option_of(words, "--text"),
-        option_of(words, "--sent"),
-        option_of(words, "--report"),
-    ) {
-        write!(f, ", and writes {text}, {sent}, {report}")?;
+    if let (Some(sent), Some(report)) = (option_of(words, "--sent"), option_of(words, "--report")) {
+        f.write_str(", and writes ")?;
+        if let Some(text) = option_of(words, "--text") {
+            write!(f, "{text}, ")?;
+        }
+        write!(f, "{sent}, {report}")?;
     }
     Ok(())
 }

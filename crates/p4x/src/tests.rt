@@ -11,7 +11,12 @@ const WORDS: [&str; 12] = [
     "carry", "p", "e", "c", "--ports", "o", "--text", "t", "--sent", "s", "--report", "r",
 ];
 
-/// What is told of a call with the first of these words; nothing where the text is empty.
+/// The words of a run, with a file of ports.
+const RUN: [&str; 10] = [
+    "run14", "p", "e", "c", "--ports", "o", "--sent", "s", "--report", "r",
+];
+
+/// What is told of a call of `carry` with so many of its words; nothing where the text is empty.
 fn expect_told(
     rt: &impl Abort,
     alloc: Global,
@@ -20,8 +25,21 @@ fn expect_told(
     line: &str,
     expected: &str,
 ) -> Result<(), Fail> {
+    expect_front(rt, alloc, &WORDS, count, status, line, expected)
+}
+
+/// What is told of a call with the first of these words; nothing where the text is empty.
+fn expect_front(
+    rt: &impl Abort,
+    alloc: Global,
+    all: &[&str],
+    count: usize,
+    status: u8,
+    line: &str,
+    expected: &str,
+) -> Result<(), Fail> {
     let mut words: Vec<String> = Vec::new(alloc);
-    for word in WORDS.iter().take(count) {
+    for word in all.iter().take(count) {
         words.push(String::from_str(alloc, *word)?)?;
     }
     expect_advice(rt, alloc, &words, status, line, expected)
@@ -122,6 +140,42 @@ fn a_command_that_reads_a_program_tells_of_it(rt: HostRuntime) -> Result<(), Fai
         words.push(String::from_str(alloc, "check")?)?;
         words.push(String::from_str(alloc, "p")?)?;
         expect_advice(&rt, alloc, &words, status, line, told)?;
+    }
+    Ok(())
+}
+
+#[test]
+fn a_run_tells_of_its_files(rt: HostRuntime) -> Result<(), Fail> {
+    let alloc = rt.alloc();
+    for (status, line, told) in [
+        (
+            3,
+            "refused C25\n",
+            "p4x: p: the program has something that is left out of P4_14 here (C25)",
+        ),
+        (
+            4,
+            "refused E3 at 2:1\n",
+            "p4x: e:2:1: the table doesn't list that action (E3)",
+        ),
+        (
+            5,
+            "refused P1 at 2:1\n",
+            "p4x: o:2:1: the line isn't one decimal number (P1)",
+        ),
+        (
+            6,
+            "limit entries\n",
+            "p4x: e: the file has more than 16,777,216 octets",
+        ),
+        (
+            1,
+            "fault\n",
+            "p4x: a file couldn't be read, made or written, or the line couldn't be printed; it reads p, e, c, o, and writes s, r",
+        ),
+        (0, "ran 1 1 0\n", ""),
+    ] {
+        expect_front(&rt, alloc, &RUN, 10, status, line, told)?;
     }
     Ok(())
 }

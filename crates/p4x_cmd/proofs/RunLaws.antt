@@ -1,9 +1,7 @@
 -- Runs over lists of arrivals, one packet after another.
-use Rattle.std.proofs.Common.{◌≡◌, ℕ, zero, suc, ◌+◌, ◌%◌, ◌<◌, ◌≤◌, List, [], ◌∷◌, length, map, sum, drop, get_or, refl, sym, ◌∙◌, ap, add-one, arith}
-use Rattle.std.proofs.lemmas.List.{drop_all}
+use Rattle.std.proofs.Common.{◌≡◌, ℕ, zero, suc, ◌+◌, ◌%◌, List, [], ◌∷◌, map, sum, refl, sym, ◌∙◌, ap, arith}
 use Rattle.std.proofs.lemmas.List.Sums.{sum_by-cons}
 use Rattle.std.specs.List.{sum_by}
-use Rattle.std.proofs.Math.Seq.{drop-cons}
 use Rattle.p4x_bits.specs.BitLists.{IsOctets}
 use Rattle.fabric.specs.declared.packets.Arrival.{Arrival}
 use Rattle.p414_one_table.specs.declared.program.Field.{Field}

@@ -1,5 +1,5 @@
 -- What a parser's machine does keeps it at work, and makes the moment that is due.
-use Rattle.std.proofs.Common.{◌≡◌, ℕ, ◌<◌, ◌≤◌, List, Bool, [], drop, length, Option, Some, None, refl, sym, ap, subst, ◌∙◌, arith}
+use Rattle.std.proofs.Common.{◌≡◌, ℕ, ◌<◌, ◌≤◌, List, Bool, length, Option, Some, None, refl, sym, ap, subst, ◌∙◌, arith}
 use Rattle.node_lists.proofs.Growth as growth
 use Rattle.state_store.specs.State.{Contents}
 use Rattle.v1_sem.specs.declared.parser_error.ParserError.{ParserError}

@@ -1,0 +1,128 @@
+// What is expected of each row of the table. A row that fails is told by its name.
+use crate::cases::cases;
+use crate::lines::{capture_of, cell, cut, name_of, program_of, sent_of, text_of};
+use p4x_cmd::p4x;
+use p4x_io::{MemoryDesk, MemorySink};
+use std::alloc::Global;
+use std::process::Abort;
+use std::test::Fail;
+
+/// The words in front of the others.
+const WORDS: [&str; 8] = ["run14", "p", "e", "c", "--sent", "s", "--report", "r"];
+
+fn push_word(alloc: Global, words: &mut Vec<String>, word: &str) -> Result<(), Fail> {
+    words.push(String::from_str(alloc, word)?)?;
+    Ok(())
+}
+
+/// Puts the words of a text last.
+fn push_words(alloc: Global, words: &mut Vec<String>, text: &'static [u8]) -> Result<(), Fail> {
+    let mut left = text;
+    for _ in 0..text.len() {
+        if left.is_empty() {
+            break;
+        }
+        let (word, behind) = cut(left, b' ');
+        push_word(alloc, words, name_of(word))?;
+        left = behind;
+    }
+    Ok(())
+}
+
+/// The words of a row: the common ones, the ports where a file of them is there, and those of a cell; or those alone, behind `=`.
+fn words_of(alloc: Global, ports: bool, more: &'static [u8]) -> Result<Vec<String>, Fail> {
+    let mut words = Vec::new(alloc);
+    if let [b'=', text @ ..] = more {
+        push_words(alloc, &mut words, text)?;
+        return Ok(words);
+    }
+    for word in WORDS {
+        push_word(alloc, &mut words, word)?;
+    }
+    if ports {
+        push_word(alloc, &mut words, "--ports")?;
+        push_word(alloc, &mut words, "o")?;
+    }
+    push_words(alloc, &mut words, more)?;
+    Ok(words)
+}
+
+/// The desk of a row, and the words.
+fn desk_of(
+    alloc: Global,
+    program: &'static [u8],
+    entries: &[u8],
+    ports: &[u8],
+    packets: &'static [u8],
+) -> Result<MemoryDesk, Fail> {
+    let mut desk = MemoryDesk::new(alloc);
+    desk.put("p", &program_of(alloc, program)?)?;
+    desk.put("e", &text_of(alloc, entries)?)?;
+    desk.put("c", &capture_of(alloc, packets)?)?;
+    if ports != b"-".as_slice() {
+        desk.put("o", &text_of(alloc, ports)?)?;
+    }
+    desk.room("s", 4096)?;
+    desk.room("r", 4096)?;
+    Ok(desk)
+}
+
+/// Whether a file isn't there, where its cell is `-`, or holds this.
+fn holds(desk: &MemoryDesk, name: &str, cell: &[u8], content: &[u8]) -> bool {
+    match desk.file(name) {
+        Some(octets) => cell != b"-".as_slice() && octets == content,
+        None => cell == b"-".as_slice(),
+    }
+}
+
+/// Whether the status, the line and both files are those of the row's last cells.
+fn ends_so(
+    alloc: Global,
+    words: &[String],
+    desk: &mut MemoryDesk,
+    row: &'static [u8],
+) -> Result<bool, Fail> {
+    let (status, row) = cell(row);
+    let (line, row) = cell(row);
+    let (sent, report) = cell(row);
+    let mut sink = MemorySink::new(alloc, 100)?;
+    let found = p4x(alloc, words, desk, &mut sink);
+    let same = status == [b'0'.saturating_add(found)].as_slice()
+        && sink.text() == text_of(alloc, line)?.as_slice();
+    let sent_file = sent_of(alloc, sent)?;
+    let report_file = text_of(alloc, report)?;
+    Ok(same && holds(desk, "s", sent, &sent_file) && holds(desk, "r", report, &report_file))
+}
+
+/// Whether a row is as it says.
+fn is_so(alloc: Global, row: &'static [u8]) -> Result<bool, Fail> {
+    let (program, row) = cell(row);
+    let (entries, row) = cell(row);
+    let (ports, row) = cell(row);
+    let (packets, row) = cell(row);
+    let (more, row) = cell(row);
+    let mut desk = desk_of(alloc, program, entries, ports, packets)?;
+    let words = words_of(alloc, ports != b"-".as_slice(), more)?;
+    ends_so(alloc, &words, &mut desk, row)
+}
+
+fn check_row(rt: &(impl Abort + AllocGlobal), row: &'static [u8]) -> Result<(), Fail> {
+    let (name, row) = cell(row);
+    let so = is_so(rt.alloc(), row)?;
+    assert!(rt; so, "{}", name_of(name));
+    Ok(())
+}
+
+#[test]
+fn runs_end_so(rt: HostRuntime) -> Result<(), Fail> {
+    let mut left = cases();
+    for _ in 0..cases().len() {
+        let (row, more) = cut(left, b'\n');
+        check_row(&rt, row)?;
+        if more.is_empty() {
+            break;
+        }
+        left = more;
+    }
+    Ok(())
+}

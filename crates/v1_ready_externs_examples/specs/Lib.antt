@@ -1,0 +1,2 @@
+-- The layout of the frames of the tests.
+pub mod Layouts

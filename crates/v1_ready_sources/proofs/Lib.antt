@@ -1,0 +1,4 @@
+mod Keeping
+mod Joining
+mod Seeking
+mod Turning

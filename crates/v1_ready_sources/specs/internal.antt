@@ -1,0 +1,3 @@
+-- What private functions and proofs name.
+pub mod Passes
+pub mod Coded

@@ -1,0 +1,5 @@
+mod Marking
+pub mod Keeping
+mod Choosing
+mod Building
+mod Turning

@@ -1,0 +1,23 @@
+use Rattle.std.proofs.Common.{ap, ◌∙◌}
+use Rattle.v1_ready_tests.specs.internal.Coded.{made_over, all_over}
+use Rattle.v1_ready_tests.specs.internal.Passes.{Made, MadeParts, no_made, front_made, rest_made}
+use Rattle.v1_ready_tests.proofs.made.take_two.Goals as goal
+
+abbrev both : Made → Made → MadeParts
+both a b = record { first = a; second = b; third = no_made }
+
+pub returns-clause-parts : goal.returns-clause-parts
+returns-clause-parts c =
+    λ es ts.
+    let vs = all_over es ts c.args.made.now in
+    ap (λ a. both a (made_over es ts c.take_made-second.result)) (c.take_made-first.ensures.made es ts)
+    ∙ ap (both (front_made vs)) (c.take_made-second.ensures.made es ts ∙ ap front_made (c.take_made-first.ensures.rest es ts))
+
+pub returns-clause-rest : goal.returns-clause-rest
+returns-clause-rest c = λ es ts. c.take_made-second.ensures.rest es ts ∙ ap rest_made (c.take_made-first.ensures.rest es ts)
+
+pub returns-clause-within : goal.returns-clause-within
+returns-clause-within c =
+    λ n m all.
+    let first = c.take_made-first.ensures.within n m all in
+    let second = c.take_made-second.ensures.within n m first.1 in ((first.0, second.0, tt), second.1)

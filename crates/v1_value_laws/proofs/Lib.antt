@@ -1,0 +1,4 @@
+pub mod Classes
+pub mod Formed
+pub mod Scopes
+pub mod Taken
