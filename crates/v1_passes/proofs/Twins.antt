@@ -1,5 +1,5 @@
 -- The machine over values with the program that they are of does what that of v1_sem does.
-use Rattle.std.proofs.Common.{◌≡◌, ℕ, List, Option, Some, None, option_map, All, refl, sym, ap, ◌∙◌, subst}
+use Rattle.std.proofs.Common.{◌≡◌, ℕ, ◌+◌, List, [], ◌∷◌, ◌++◌, length, arith, Option, Some, None, option_map, All, refl, sym, ap, ◌∙◌, subst}
 use Rattle.state_store.specs.declared.ports.Session.{Session}
 use Rattle.fabric.specs.declared.packets.Arrival.{Arrival}
 use Rattle.fabric.specs.declared.packets.Out.{Out}
@@ -10,13 +10,16 @@ use Rattle.fabric.specs.declared.items.IngressNext.TheVariants as after_ingress
 use Rattle.fabric.specs.declared.items.EgressNext.{EgressNext}
 use Rattle.fabric.specs.declared.items.EgressNext.TheVariants as after_egress
 use Rattle.fabric.specs.Queue.{Run}
-use Rattle.fabric.specs.Fabric.{Whole, fabric, fabric_of}
+use Rattle.std.proofs.lemmas.List.{append-nil}
+use Rattle.fabric.specs.Fabric.{Whole, fabric, fabric_from, fabric_of, one_of, followed}
 use Rattle.fabric.specs.Twins.{FitsSession, FitsArrival, SamePasses, AlikeItem, AlikeClone, AlikeIngressNext, AlikeIngress, AlikeEgressNext, AlikeEgress, AlikeRun, AlikeWhole, fit_any}
+use Rattle.fabric.proofs.Joining.{joined_runs}
 use Rattle.fabric.proofs.SameRuns.{fabric_alike, same_fates_of}
 use Rattle.v1_sem.specs.Values.{Value}
 use Rattle.v1_sem.specs.Surroundings.{Setting}
 use Rattle.v1_sem.specs.Passes.{Between, Held, ingress16, reparse16, egress16}
 use Rattle.v1_sem.specs.Runs.{machine16, before, Run16}
+use Rattle.v1_passes.specs.Runs.{run_on}
 use Rattle.v1_passes.specs.Tags.{Tagged, tagged, tagged_clone, tagged_next, tagged_ingress, tagged_end, tagged_egress, plain_item, tagged_machine}
 
 abbrev Is : {A : Type 0} → Setting → Tagged A → A → Type 0
@@ -106,3 +109,24 @@ run_of c d sessions bound b arrivals same named begins =
     ∙ all_fates c sessions bound b arrivals
     ∙ ap (λ (ss : List Session). fabric_of (machine16 c) ss bound b arrivals) (sym named)
     ∙ ap (λ (x : Between). fabric_of (machine16 c) c.entries.sessions bound x arrivals) begins
+
+-- a run over one packet more
+
+none_behind : {S : Type 0} (x : Whole S) → followed x (record { state = x.state; sent = []; cut = 0 }) ≡ x
+none_behind {S} x =
+    let F : List Sent → ℕ → Whole S = λ sent cut. record { state = x.state; sent = sent; cut = cut } in
+    ap (λ (s : List Sent). F s (x.cut + 0)) (append-nil x.sent) ∙ ap (F x.sent) (omega arith)
+
+pub run_begins : (c : Setting) (bound : ℕ) → Run16 c bound [] ≡ record { state = before c; sent = []; cut = 0 }
+unfolding Run16
+run_begins c bound = refl
+
+pub run_goes_on : (c : Setting) (bound : ℕ) (arrivals : List Arrival) (arrival : Arrival) → Run16 c bound (arrivals ++ arrival ∷ []) ≡ run_on c bound (length arrivals) (Run16 c bound arrivals) arrival
+unfolding Run16
+run_goes_on c bound arrivals arrival =
+    let sessions : List Session = c.entries.sessions in
+    let first : Whole Between = fabric_from (machine16 c) sessions bound 0 (before c) arrivals in
+    let fate : Run Between = fabric (machine16 c) sessions bound first.state arrival in
+    joined_runs (machine16 c) sessions bound 0 (before c) arrivals (arrival ∷ [])
+    ∙ ap (λ (n : ℕ). followed first (followed (one_of n fate) (record { state = fate.state; sent = []; cut = 0 }))) (omega arith)
+    ∙ ap (followed first) (none_behind (one_of (length arrivals) fate))

@@ -2,8 +2,9 @@
 --
 --   Moments   as a block begins, and what it leaves, by the packed frame
 --   Tags      preserved and held values with the program that they are of, and the machine over these
+--   Runs      what stands between two packets of a run, and what one packet more leaves
 --
--- `internal` has what only private functions and proofs name.
+-- `Codes` serves proofs alone; `internal` has what only private functions and proofs name.
 pub mod Codes
 pub mod internal
 pub mod Moments

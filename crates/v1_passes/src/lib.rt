@@ -10,4 +10,4 @@ mod run;
 pub use blocks::{Blocks, ParseEnd};
 pub use held::{Held16, Kept16};
 pub use passes::Passes16;
-pub use run::{Runner16, run_blocks};
+pub use run::{Runner16, one_packet_more, run_blocks};

@@ -1,12 +1,14 @@
 // The run of packets one after another.
-ghost use Rattle.std.specs.Prelude.{◌≡◌, ◌%◌, ◌^◌, [], All, IfOk, OnOk};
+ghost use Rattle.std.specs.Prelude.{◌≡◌, ℕ, ◌%◌, ◌^◌, List, [], ◌∷◌, ◌++◌, length, All, IfOk, OnOk};
 ghost use Rattle.state_store.specs.Ports.{IsPort, AreSessions};
 ghost use Rattle.match_core.specs.Stores.{first_store};
 ghost use Rattle.fabric.specs.Numbers.{IsBound, HasPort};
+ghost use Rattle.fabric.specs.declared.packets.Arrival.{Arrival as Came};
 ghost use Rattle.fabric.specs.Fabric.{fabric};
+ghost use Rattle.v1_sem.specs.Surroundings.{Setting};
 ghost use Rattle.v1_sem.specs.Signatures.{signature16};
-ghost use Rattle.v1_sem.specs.Runs.{Run16, Work16, machine16};
-ghost use Rattle.v1_passes.specs.Runs.{between_of};
+ghost use Rattle.v1_sem.specs.Runs.{Run16, Work16, machine16, before};
+ghost use Rattle.v1_passes.specs.Runs.{between_of, run_on};
 
 use crate::blocks::Blocks;
 use crate::passes::Passes16;
@@ -83,6 +85,14 @@ impl<'r, B: Blocks<'r> + Drop> Runner16<'r, B> {
         self.passes.work()
     }
 }
+
+/// A run over one packet more is the run so far, and then what comes of the packet from the state that was left. So what
+/// `Runner16::one` gives of one packet after another is what the run over all of them gives. It does nothing.
+#[tactic(auto, using(crate::proofs::Twins::run_begins, crate::proofs::Twins::run_goes_on))]
+pub fn one_packet_more()
+    ensures begins { (c : Setting) (bound : ℕ) → Run16 c bound [] ≡ record { state = before c; sent = []; cut = 0 } }
+    ensures goes_on { (c : Setting) (bound : ℕ) (arrivals : List Came) (arrival : Came) → Run16 c bound (arrivals ++ arrival ∷ []) ≡ run_on c bound (length arrivals) (Run16 c bound arrivals) arrival }
+{}
 
 /// What comes of a list of packets, over blocks whose counters and registers are 0 and whose meters have the colours of the
 /// entries.
