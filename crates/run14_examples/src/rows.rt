@@ -113,16 +113,20 @@ fn check_row(rt: &(impl Abort + AllocGlobal), row: &'static [u8]) -> Result<(), 
     Ok(())
 }
 
-#[test]
-fn runs_end_so(rt: HostRuntime) -> Result<(), Fail> {
-    let mut left = CASES;
-    for _ in 0..CASES.len() {
+fn check_rows(rt: &(impl Abort + AllocGlobal), rows: &'static [u8]) -> Result<(), Fail> {
+    let mut left = rows;
+    for _ in 0..rows.len() {
         let (row, more) = cut(left, b'\n');
-        check_row(&rt, row)?;
+        check_row(rt, row)?;
         if more.is_empty() {
             break;
         }
         left = more;
     }
     Ok(())
+}
+
+#[test]
+fn runs_end_so(rt: HostRuntime) -> Result<(), Fail> {
+    check_rows(&rt, CASES)
 }
