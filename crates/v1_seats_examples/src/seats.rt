@@ -65,7 +65,7 @@ fn rows() -> &'static [u8] {
 }
 
 /// The number that these digits write.
-fn number(digits: &[u8]) -> Option<u128> {
+pub fn number(digits: &[u8]) -> Option<u128> {
     let mut value = 0u128;
     for digit in digits {
         if !digit.is_ascii_digit() {

@@ -1,0 +1,1 @@
+-- The definitions of methods are those of v1_ready_statements.
