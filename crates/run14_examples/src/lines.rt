@@ -85,6 +85,18 @@ fn add_marked(file: &mut Vec<u8>, program: &[u8], parts: &'static [u8]) -> Resul
     Ok(())
 }
 
+/// The text of a program by its name.
+fn text_named(name: &str) -> &'static [u8] {
+    match name {
+        "eth" => ETH,
+        "four" => FOUR,
+        "router" => ROUTER,
+        "labels" => LABELS,
+        "lpm" => NO_DEFAULT,
+        _ => RESUBMIT,
+    }
+}
+
 /// The program of a cell.
 pub fn program_of(alloc: Global, cell: &'static [u8]) -> Result<Vec<u8>, Fail> {
     if let [b'\'', text @ ..] = cell {
@@ -92,14 +104,7 @@ pub fn program_of(alloc: Global, cell: &'static [u8]) -> Result<Vec<u8>, Fail> {
     }
     let (name, parts) = cut(cell, b'~');
     let mut file = Vec::new(alloc);
-    match name_of(name) {
-        "eth" => add_marked(&mut file, ETH, parts)?,
-        "four" => add_marked(&mut file, FOUR, parts)?,
-        "router" => file.extend_from_slice(ROUTER)?,
-        "labels" => file.extend_from_slice(LABELS)?,
-        "lpm" => file.extend_from_slice(NO_DEFAULT)?,
-        _ => file.extend_from_slice(RESUBMIT)?,
-    }
+    add_marked(&mut file, text_named(name_of(name)), parts)?;
     Ok(file)
 }
 

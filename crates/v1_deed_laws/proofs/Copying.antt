@@ -272,8 +272,7 @@ module _ (c : Cells) (a e b f : Start) (agree : OwnersAgree c.layout) (whole : A
   copies r q s1 s2 h1 h2 k1 k2 s3 s4 h3 h4 k3 k4 =
       let headers = all_marked (min r.headers q.headers) r.header q.header h1 h3 (fewer a.header e.header b.header f.header r.header r.headers q.header q.headers h1 h2 h3 h4 off.header) unchanged in
       let slots = all_numbered (min r.slots q.slots) r.slot q.slot _ s1 s3 (fewer a.slot e.slot b.slot f.slot r.slot r.slots q.slot q.slots s1 s2 s3 s4 off.slot) headers in
-      let stacks = all_placed (min r.stacks q.stacks) r.stack q.stack _ k1 k3 (fewer a.stack e.stack b.stack f.stack r.stack r.stacks q.stack q.stacks k1 k2 k3 k4 off.stack) slots in
-      (
+      let stacks = all_placed (min r.stacks q.stacks) r.stack q.stack _ k1 k3 (fewer a.stack e.stack b.stack f.stack r.stack r.stacks q.stack q.stacks k1 k2 k3 k4 off.stack) slots in (
         stacks.0.0.0.0,
         stacks.0.0.0.1,
         record {

@@ -32,8 +32,7 @@ header_laid syntax c who r t type is at form =
 pub headers_made : HeadersMade
 headers_made syntax who r t type to m n keeps scope at form here h =
     let both = headers_marked syntax n.cells who h.whole scope r t type m at form h.frame in
-    let laid = header_laid syntax n.cells who r t type h.whole at form in
-    (
+    let laid = header_laid syntax n.cells who r t type h.whole at form in (
       subst (λ (k : ℕ). Shows syntax who (sem.with_frame m (made true).frame) (record n { cells = with_validity n.cells k true })) (sym here)
           (cells_show syntax who m n _ (with_validity n.cells t.start.header true) h both.0
           (record { layout = h.whole.layout; whole = whole_marked n.cells (length (fields_in (layouts_of syntax.decls) type)) t.start true laid h.whole.whole })),

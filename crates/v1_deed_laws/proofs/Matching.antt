@@ -76,12 +76,12 @@ fields_match : (l : Layout) (fields : List FieldKind) (a b : Start) → FieldsWi
 fields_match l [] a b x y i j le lt is = absurd (omega (arith, le, lt))
 fields_match l (f ∷ fields) a b x y i j le lt is =
     by (split_first a.slot i le) (λ after. fields_match l fields (moved a 1 0 0) (moved b 1 0 0) x.1 y.1 i j after (omega (arith, lt)) (omega (arith, is))) where
-  here : (k : ℕ) → b.slot ≡ k → get_or l.widths b.slot 0 ≡ get_or l.widths k 0
-  here k e = ap (λ (n : ℕ). get_or l.widths n 0) e
+      here : (k : ℕ) → b.slot ≡ k → get_or l.widths b.slot 0 ≡ get_or l.widths k 0
+      here k e = ap (λ (n : ℕ). get_or l.widths n 0) e
 
-  by : (a.slot ≡ i) ⊎ (a.slot + 1 ≤ i) → (a.slot + 1 ≤ i → get_or l.widths i 0 ≡ get_or l.widths j 0) → get_or l.widths i 0 ≡ get_or l.widths j 0
-  by (inl e) rest = ap (λ (n : ℕ). get_or l.widths n 0) (sym e) ∙ (x.0 ∙ (sym y.0 ∙ here j (omega (arith, e, is))))
-  by (inr after) rest = rest after
+      by : (a.slot ≡ i) ⊎ (a.slot + 1 ≤ i) → (a.slot + 1 ≤ i → get_or l.widths i 0 ≡ get_or l.widths j 0) → get_or l.widths i 0 ≡ get_or l.widths j 0
+      by (inl e) rest = ap (λ (n : ℕ). get_or l.widths n 0) (sym e) ∙ (x.0 ∙ (sym y.0 ∙ here j (omega (arith, e, is))))
+      by (inr after) rest = rest after
 
 module _ (c : Cells) where
   header_matches : (fields : List FieldKind) (a b : Start) → IsHeader c.layout (length fields) a → IsHeader c.layout (length fields) b → FieldsWide c.layout fields a → FieldsWide c.layout fields b → Matches c.layout a (moved a (length fields) 1 0) b

@@ -331,6 +331,9 @@ behind_is_fine s (case_of before l body) fine = fine
 
 pub scopes_are_fine : ScopesFine
 scopes_are_fine ds positions =
-    let top : Fine (top_scope ds positions) = top_is_fine ds positions in
-    (top, (λ p. parser_is_fine (top_scope ds positions) p top), (λ c. control_is_fine (top_scope ds positions) c top),
-    (λ c a. action_is_fine (control_scope (top_scope ds positions) c) a (control_is_fine (top_scope ds positions) c top)))
+    let top : Fine (top_scope ds positions) = top_is_fine ds positions in (
+      top,
+      (λ p. parser_is_fine (top_scope ds positions) p top),
+      (λ c. control_is_fine (top_scope ds positions) c top),
+      (λ c a. action_is_fine (control_scope (top_scope ds positions) c) a (control_is_fine (top_scope ds positions) c top)),
+    )

@@ -35,7 +35,6 @@ head_of s p (listed es) test none = first_false (test (an_expression s p (listed
 pub taken : (s : Scope) (p : Place) (e : Exp16) → list_any is_mistyped (uses_at s (one p) e) ≡ false → takes p e (kind_of s e) ≡ true
 taken s p e none = not_false (takes p e (kind_of s e)) (head_of s p e is_mistyped none)
 
-
 by_kind : (P : Kind → Type 0) → ((w : ℕ) → P (bits w)) → P unsized → P boolean → P error_code → ((n : Name) → P (header n)) → ((n : Name) (w : ℕ) → P (stack n w)) → ((n : Name) → P (struct n)) → P packet_in → P packet_out → P errors → ((x : Enumeration) → P (enumeration x)) → ((x : Enumeration) → P (one_of x)) → P table → P applied → ((x : ObjectKind) → P (object x)) → P items → P nothing → P unknown → (k : Kind) → P k
 by_kind P x0 x1 x2 x3 x4 x5 x6 x7 x8 x9 x10 x11 x12 x13 x14 x15 x16 x17 (bits width) = x0 width
 by_kind P x0 x1 x2 x3 x4 x5 x6 x7 x8 x9 x10 x11 x12 x13 x14 x15 x16 x17 unsized = x1
@@ -82,7 +81,6 @@ other_refused : (p : Place) (e : Exp16) (a b : Kind) → is_bits a ≡ false →
 other_refused p e a b no_bits no_number differs =
     other_place (λ q. takes q e a ≡ false) p a b no_bits no_number no_bits
     (λ w. ap (λ (t : Bool). t || (true && is_unsized a)) (differs w) ∙ no_number)
-
 
 -- a kind of numbers
 abbrev pub OfNumbers : Kind → Type 0

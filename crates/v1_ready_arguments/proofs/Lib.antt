@@ -1,0 +1,2 @@
+mod Arguing
+pub mod Giving

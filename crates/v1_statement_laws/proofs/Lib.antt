@@ -1,0 +1,13 @@
+pub mod Closing
+pub mod Contexts
+pub mod Starting
+pub mod Cases
+pub mod Induction
+pub mod Assigning
+pub mod Ranging
+pub mod Plain
+pub mod Methods
+pub mod Fitting
+pub mod Sources
+pub mod Copies
+pub mod Bodies
