@@ -1,14 +1,17 @@
 -- The plain program's run over a list of packets.
-use Rattle.std.proofs.Common.{◌≡◌, ℕ, ◌+◌, ◌<◌, ◌≤◌, List, [], ◌∷◌, ◌++◌, length, map, get_or, Option, Some, None, refl, sym, ◌∙◌, ap, arith, append_assoc}
-use Rattle.std.proofs.lemmas.List.{append-nil, get_or-map, get_or_default, map-append, length-map}
+use Rattle.std.proofs.Common.{◌≡◌, ℕ, suc, ◌+◌, ◌<◌, ◌≤◌, List, [], ◌∷◌, ◌++◌, length, map, drop, get_or, Option, Some, None, refl, sym, ◌∙◌, ap, arith, add-one, append_assoc}
+use Rattle.std.proofs.lemmas.List.{append-nil, drop_all, get_or-map, get_or_default, map-append, length-map}
+use Rattle.std.proofs.Math.Seq.{drop-cons}
+use Rattle.command_words.specs.Words.{default_passes}
 use Rattle.p414_one_table.specs.declared.program.OneTable14.{OneTable14}
 use Rattle.fabric.specs.declared.packets.Arrival.{Arrival}
 use Rattle.fabric.specs.declared.packets.Sent.{Sent}
 use Rattle.p4x_cmd.specs.Entries.{no_entries}
 use Rattle.p4x_cmd.specs.Meaning14.{Run14, pass14, signature14}
-use Rattle.run_stream.specs.Runs.{Ran}
-use Rattle.p4x_cmd.specs.Passes.{Pass, sent_from}
-use Rattle.p4x_cmd.proofs.RunLaws.{run_left, run_more, run_done}
+use Rattle.run_stream.specs.Runs.{Ran, followed}
+use Rattle.p4x_cmd.specs.Passes.{Pass, run_from, sent_from}
+use Rattle.p4x_cmd.specs.internal.Plain.{no_store}
+use Rattle.p4x_cmd.proofs.RunLaws.{once}
 use Rattle.carry_examples.specs.declared.plain.Leaving.{Leaving}
 use Rattle.carry_examples.specs.Plain.{IsProgram, IsRun14, sent_of}
 use Rattle.carry_examples.specs.internal.Passes.{IsPass14, end_of}
@@ -16,6 +19,21 @@ use Rattle.carry_examples.specs.internal.Passes.{IsPass14, end_of}
 -- the pass of the program without entries
 unfoldable pub own14 : OneTable14 → Arrival → Pass
 own14 p a = pass14 p (no_entries (signature14 p)) a
+
+-- the run over the arrivals from a number on, for any pass
+abbrev run_left : (Arrival → Pass) → ℕ → List Arrival → Ran
+run_left f number arrivals = run_from f default_passes no_store number (drop number arrivals)
+
+run_more : (f : Arrival → Pass) (number : ℕ) (arrivals : List Arrival) (a : Arrival) → number < length arrivals
+    → a ≡ get_or arrivals number a → run_left f number arrivals ≡ followed (once f number a) (run_left f (number + 1) arrivals)
+run_more f number arrivals a inside is =
+    let cons : drop number arrivals ≡ a ∷ drop (number + 1) arrivals =
+    drop-cons arrivals number a inside ∙ ap (λ (x : Arrival). x ∷ drop (suc number) arrivals) (sym is) ∙ ap (λ (n : ℕ). a ∷ drop n arrivals) (sym (add-one number)) in
+    ap (run_from f default_passes no_store number) cons
+
+run_done : (f : Arrival → Pass) (number : ℕ) (arrivals : List Arrival) → length arrivals ≤ number
+    → run_left f number arrivals ≡ record { sent = []; store = no_store; cut = 0; work = 0 }
+run_done f number arrivals past = ap (run_from f default_passes no_store number) (drop_all number arrivals past)
 
 -- what is sent of the arrivals is what was sent, and what the arrivals from a number on send
 abbrev pub Sending : (Arrival → Pass) → List Arrival → ℕ → List Leaving → Type 0
