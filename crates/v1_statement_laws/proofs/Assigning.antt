@@ -77,7 +77,7 @@ at_some {A = A} B o x is h = subst (λ (p : Option A). IfSome p B) is h
 
 module _ (P : Cells → Type 0) (b : Around) (w : meaning.World) (z : World) (s : Scope) (who : InScope) (accepted : BreaksNone b.syntax program_rules) (scope : IsScope (length (variable_kinds b.syntax)) who) where
   -- the value goes to what was found
-  value_put : (r : Reference) (slice : Option SliceOf) (t : Seat) (of : Content) (v : sem_expressions.Valued) (u : Valued) → IsAt b.syntax who r slice t → t.form ≡ slot_form of → (v.moment.stopped ≡ None → FitsSlot of (option_map ready_slice slice) v.value) → ValuedShows P b.syntax who v u → Shown P b.syntax who (sem.going_on (put_at r v.value) v.moment) (with_test u (λ x n. with_cells (put_value t.start.slot (option_map ready_slice slice) x n.cells) n))
+  pub value_put : (r : Reference) (slice : Option SliceOf) (t : Seat) (of : Content) (v : sem_expressions.Valued) (u : Valued) → IsAt b.syntax who r slice t → t.form ≡ slot_form of → (v.moment.stopped ≡ None → FitsSlot of (option_map ready_slice slice) v.value) → ValuedShows P b.syntax who v u → Shown P b.syntax who (sem.going_on (put_at r v.value) v.moment) (with_test u (λ x n. with_cells (put_value t.start.slot (option_map ready_slice slice) x n.cells) n))
   value_put r slice t of v u at form fits (inl h) =
       subst (λ (x : sem.Moment). Shown P b.syntax who x (with_test u (λ x n. with_cells (put_value t.start.slot (option_map ready_slice slice) x n.cells) n))) (sym (running_is v.moment.stopped v.moment (put_at r v.value v.moment) h.1))
       (subst (λ (end : Ended). Shown P b.syntax who (put_at r v.value v.moment) (with_test (record { value = end; moment = u.moment }) (λ x n. with_cells (put_value t.start.slot (option_map ready_slice slice) x n.cells) n))) (sym h.0)

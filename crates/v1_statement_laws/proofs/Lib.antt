@@ -7,7 +7,14 @@ pub mod Assigning
 pub mod Ranging
 pub mod Plain
 pub mod Methods
+pub mod Quiet
 pub mod Fitting
+pub mod Assigned
+pub mod Calls
+pub mod Extracts
+pub mod Initials
 pub mod Sources
+pub mod Emits
 pub mod Copies
 pub mod Bodies
+pub mod Begun

@@ -81,7 +81,7 @@ mapped zeros [] n lt = absurd (omega (arith, lt))
 mapped zeros (k ∷ kinds) zero lt = refl
 mapped zeros (k ∷ kinds) (suc n) lt = mapped zeros kinds n (omega (arith, lt))
 
-mapped_at : (zeros : Kind → Value) (kinds : List Kind) (n : ℕ) (k : Kind) → IsOfKind kinds n k → get_or (map zeros kinds) n no_value ≡ zeros k
+pub mapped_at : (zeros : Kind → Value) (kinds : List Kind) (n : ℕ) (k : Kind) → IsOfKind kinds n k → get_or (map zeros kinds) n no_value ≡ zeros k
 mapped_at zeros kinds n k h = mapped zeros kinds n h.within ∙ ap zeros h.kind
 
 -- a variable that is declared with this value, at its number

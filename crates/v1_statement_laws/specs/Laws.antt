@@ -1,31 +1,47 @@
 -- That ready statements do what those of the program do.
-use Rattle.std.specs.Prelude.{◌≡◌, ℕ, ◌+◌, ◌≤◌, Bool, false, List, [], length, IfSome, Option, Some, None}
+use Rattle.std.specs.Prelude.{◌≡◌, ◌⊎◌, ℕ, ◌+◌, ◌≤◌, Bool, true, false, List, [], ◌∷◌, length, codes, IfSome, Option, Some, None}
+use Rattle.std.specs.Str.{bytes_eq}
+use Rattle.p416_ast.specs.declared.parts.Type16.{Type16}
+use Rattle.p416_ast.specs.declared.parsers.Var.{Var}
 use Rattle.p416_ast.specs.declared.node.CaseLabel.{CaseLabel}
-use Rattle.p416_ast.specs.Tree.{Exp16, Stmt16, assign}
-use Rattle.p416_rules.specs.Kinds.{Kind, header, stack, struct}
-use Rattle.p416_rules.specs.Scopes.{Scope}
-use Rattle.p416_rules.specs.Expressions.{kind_of}
+use Rattle.p416_ast.specs.Tree.{Exp16, member, call, Stmt16, var_is, assign, expression}
+use Rattle.p416_rules.specs.Names.{Name}
+use Rattle.p416_rules.specs.Kinds.{Kind, header, stack, struct, packet_in, packet_out}
+use Rattle.p416_rules.specs.Scopes.{Scope, kind_of_type}
+use Rattle.p416_rules.specs.Calls.{Place, value}
+use Rattle.p416_rules.specs.Expressions.{kind_of, is_chosen}
+use Rattle.p416_rules.specs.Uses.{arguments_of}
 use Rattle.p416_rules.specs.Statements.{assigned_place}
+use Rattle.p416_rules.specs.Declarations.{layouts_of}
 use Rattle.p416_rules.specs.Breaks.{BreaksNone, program_rules}
 use Rattle.v1_sem.specs.Frames as sem
 use Rattle.v1_sem.specs.Slots.{variable_kinds, kinds_in}
 use Rattle.v1_sem.specs.Surroundings as meaning
-use Rattle.v1_sem.specs.Numbered.{Variable, InScope}
+use Rattle.v1_sem.specs.Numbered.{Variable, InScope, number_of}
+use Rattle.v1_sem.specs.Blocks.{with_initial}
 use Rattle.v1_sem.specs.Statements.{no_label, run}
+use Rattle.v1_frame_values.specs.Seats.{Content, slot_form, form_of}
 use Rattle.v1_ready_forms.specs.Named.{seats_in}
+use Rattle.v1_ready_laws.specs.Rules.{Keeps}
 use Rattle.v1_ready_blocks.specs.Moments.{Moment}
 use Rattle.v1_ready_blocks.specs.Tests.{World, quiet_world}
 use Rattle.v1_ready_blocks.specs.Statements as ready
 use Rattle.v1_ready_blocks.specs.Statements.{does}
 use Rattle.v1_block_laws.specs.Standing.{AreOfKinds}
 use Rattle.v1_block_laws.specs.Keeping.{StatementKeeps}
+use Rattle.v1_block_laws.specs.Variables.{variable}
 use Rattle.v1_ready_blocks.specs.Blocks.{parser_run}
 use Rattle.v1_parser_laws.specs.Shown.{Shows, in_block, BodyShows}
 use Rattle.v1_place_laws.specs.Places.{Meant, meant_by}
-use Rattle.v1_ready_statements.specs.Around.{Around}
-use Rattle.v1_ready_statements.specs.Statements.{assigned_to, ready_of_statement}
+use Rattle.v1_deed_laws.specs.Forms.{IsEmitted}
+use Rattle.v1_ready_statements.specs.Around.{Around, table_found, variable_seat}
+use Rattle.v1_ready_statements.specs.Tested.{ready_test}
+use Rattle.v1_ready_statements.specs.Called.{expression_ready}
+use Rattle.v1_ready_statements.specs.Statements.{assigned_to, initial_ready, ready_of_statement}
+use Rattle.v1_value_laws.specs.Classes.{IsOfClass}
 use Rattle.v1_statement_laws.specs.Behind.{Waits, Shown, LeftBehind, InContext, declared_from}
 use Rattle.v1_statement_laws.specs.Leaves.{RunsAlike, Leaves}
+use Rattle.v1_statement_laws.specs.Evaluating.{Evaluates}
 
 -- Where the statements without others in them do the same, and conditions and tables tell the same, all statements do: a list
 -- of them, a block, a variable, `if` and `switch`.
@@ -51,6 +67,85 @@ BodiesShow =
     BodyShows b.syntax vars (declared_from w.around.scope n x) (run w w.around.scope no_label x m) (parser_run r k)
 
 -- in a block without tables and actions
+
+-- a ready test gives the value of an expression, which is of the class of its kind
+abbrev pub TestsEvaluate : Type 0
+TestsEvaluate =
+    (calls : Bool) (b : Around) (w : meaning.World) (z : World) (from to n : ℕ) (s : Scope) (who : InScope) (p q : Place)
+    (e : Exp16) →
+    BreaksNone b.syntax program_rules → InContext b.syntax w.around.roots from to n s who → b.locals ≡ [] → Keeps s q e →
+    IfSome (ready_test s (seats_in b.syntax w.around.roots who) (table_found b) p e)
+    (Evaluates (Waits calls b.syntax) b w z s who p e (IsOfClass (kind_of s e)))
+
+-- the assignment of a single value, to a slot or to a slice of it
+abbrev pub SlotsAssigned : Type 0
+SlotsAssigned =
+    (calls : Bool) (b : Around) (w : meaning.World) (z : World) (from to n : ℕ) (s : Scope) (who : InScope)
+    (target e : Exp16) (x : Meant) (of : Content) →
+    BreaksNone b.syntax program_rules → InContext b.syntax w.around.roots from to n s who → b.locals ≡ [] →
+    StatementKeeps s (assign target e) → is_chosen (kind_of s target) ≡ true →
+    meant_by s (seats_in b.syntax w.around.roots who) target ≡ Some x → x.spot.seat.form ≡ slot_form of →
+    IfSome (assigned_to b s (seats_in b.syntax w.around.roots who) (assigned_place (kind_of s target)) e x)
+    (λ d. RunsAlike (Waits calls b.syntax) b w z s who [] (assign target e) (does d))
+
+-- `isValid`, `setValid` and `setInvalid`
+abbrev pub HeadersCalled : Type 0
+HeadersCalled =
+    (calls : Bool) (b : Around) (w : meaning.World) (z : World) (from to n : ℕ) (s : Scope) (who : InScope)
+    (e given : Exp16) (type word : Name) (q : Place) →
+    BreaksNone b.syntax program_rules → InContext b.syntax w.around.roots from to n s who → b.locals ≡ [] → Keeps s q e →
+    kind_of s e ≡ header type →
+    (bytes_eq word (codes "isValid") ≡ true)
+    ⊎ ((bytes_eq word (codes "setValid") ≡ true) ⊎ (bytes_eq word (codes "setInvalid") ≡ true)) →
+    IfSome (expression_ready b s (seats_in b.syntax w.around.roots who) (call (member e word) given))
+    (RunsAlike (Waits calls b.syntax) b w z s who [] (expression (call (member e word) given)))
+
+-- `p.extract(h)`, into a header or into the next element of a stack, in any block
+abbrev pub HeadersExtracted : Type 0
+HeadersExtracted =
+    (calls : Bool) (b : Around) (w : meaning.World) (z : World) (from to n : ℕ) (s : Scope) (who : InScope)
+    (e given f : Exp16) (type word : Name) →
+    BreaksNone b.syntax program_rules → InContext b.syntax w.around.roots from to n s who → kind_of s e ≡ packet_in →
+    bytes_eq word (codes "extract") ≡ true → arguments_of given ≡ f ∷ [] → kind_of s f ≡ header type →
+    IfSome (expression_ready b s (seats_in b.syntax w.around.roots who) (call (member e word) given))
+    (RunsAlike (Waits calls b.syntax) b w z s who [] (expression (call (member e word) given)))
+
+-- a variable with an initial value, which is a single one
+abbrev pub SlotsInitialized : Type 0
+SlotsInitialized =
+    (calls : Bool) (b : Around) (w : meaning.World) (z : World) (from to n : ℕ) (s : Scope) (who : InScope) (t : Type16)
+    (called : Name) (e : Exp16) (of : Content) →
+    BreaksNone b.syntax program_rules → InContext b.syntax w.around.roots from to n s who →
+    AreOfKinds (variable_kinds b.syntax) n (kind_of_type s.names t ∷ []) → n + 1 ≤ to → b.locals ≡ [] →
+    form_of (kind_of_type s.names t) ≡ slot_form of → Keeps s (value (kind_of_type s.names t)) e →
+    IfSome (initial_ready b s (seats_in b.syntax w.around.roots who) n (kind_of_type s.names t) e)
+    (RunsAlike (Waits calls b.syntax) b w z s who (variable called n ∷ []) (var_is t called e))
+
+-- a variable of the block with an initial value, which is a single one; the variable has this number
+abbrev pub VariablesInitialized : Type 0
+VariablesInitialized =
+    (calls : Bool) (b : Around) (w : meaning.World) (z : World) (from to next : ℕ) (who : InScope) (v : Var) (e : Exp16)
+    (n : ℕ) (of : Content) →
+    BreaksNone b.syntax program_rules → InContext b.syntax w.around.roots from to next w.around.scope who → b.locals ≡ [] →
+    v.initial ≡ Some e → number_of who.variables v.name ≡ Some n →
+    IfSome (variable_seat b n) (λ t. t.form ≡ slot_form of) →
+    form_of (kind_of_type w.around.scope.names v.of) ≡ slot_form of →
+    Keeps w.around.scope (value (kind_of_type w.around.scope.names v.of)) e →
+    IfSome
+    (initial_ready b w.around.scope (seats_in b.syntax w.around.roots who) n (kind_of_type w.around.scope.names v.of) e)
+    (λ r. (ran : Option ℕ) (m : sem.Moment) (k : Moment) → Shown (Waits calls b.syntax) b.syntax who m k → m.stopped ≡ None →
+    Shown (Waits calls b.syntax) b.syntax who (with_initial w m v) (ready.run z ran r k))
+
+-- `p.emit(x)` of a header or a stack of headers of whole octets, which no stack tells, in any block
+abbrev pub HeadersEmitted : Type 0
+HeadersEmitted =
+    (calls : Bool) (b : Around) (w : meaning.World) (z : World) (from to n : ℕ) (s : Scope) (who : InScope)
+    (e given f : Exp16) (word : Name) (x : Meant) →
+    BreaksNone b.syntax program_rules → InContext b.syntax w.around.roots from to n s who → kind_of s e ≡ packet_out →
+    arguments_of given ≡ f ∷ [] → meant_by s (seats_in b.syntax w.around.roots who) f ≡ Some x → x.slice ≡ None →
+    x.spot.told ≡ None → IsEmitted (layouts_of b.syntax.decls) (form_of (kind_of s f)) →
+    IfSome (expression_ready b s (seats_in b.syntax w.around.roots who) (call (member e word) given))
+    (RunsAlike (Waits calls b.syntax) b w z s who [] (expression (call (member e word) given)))
 
 -- a header, a stack or a struct
 abbrev pub HasParts : Kind → Type 0
