@@ -107,7 +107,6 @@ module _ (P : Cells → Type 0) (syntax : Syntax16) (who : InScope) where
     kept true = h.waits
     kept false = h.waits
 
-
 -- a block closes as it began, where nothing ran in it
 pub closed_itself : (m : sem.Moment) → closed m m ≡ m
 closed_itself m =

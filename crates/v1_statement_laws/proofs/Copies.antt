@@ -283,6 +283,7 @@ same_at (object obj) x y t one d = tt
 same_at items x y t one d = tt
 same_at nothing x y t one d = tt
 same_at unknown x y t one d = tt
+
 -- the parts of what no stack tells
 fixed_range : (types : List Layout) (form : Form) (x : Spot) → x.seat.form ≡ form → x.told ≡ None → Headed form → range_place_of types x ≡ Some (range_place.Fixed (range_of types x.seat))
 fixed_range types form x is untold h = by x.told untold (subst Headed (sym is) h) where

@@ -245,8 +245,7 @@ module _ (P : Cells → Type 0) (b : Around) (w : meaning.World) (z : World) (fr
   all_do no_statements = ((λ s who n at keeps are fits taken ran m k h. none_declared who m k h), nothing_within no_statements (λ s who n. tt))
   all_do ((then) before last) =
       let f = all_do before in
-      let g = all_do last in
-      (
+      let g = all_do last in (
         (λ s who n at keeps are fits.
             let two : Both (variable_kinds b.syntax) n to (kinds_in s before) (kinds_in (behind before s) last) = both_kinds (variable_kinds b.syntax) n to (kinds_in s ((then) before last)) (kinds_in s before) (kinds_in (behind before s) last) (kinds_then s before last) are fits in
             let middle : InScope = with_inner_ones (declared_from s n before) who in
@@ -261,8 +260,7 @@ module _ (P : Cells → Type 0) (b : Around) (w : meaning.World) (z : World) (fr
         nothing_within ((then) before last) (λ s who n. tt),
       )
   all_do (block body) =
-      let f = all_do body in
-      (
+      let f = all_do body in (
         (λ s who n at keeps are fits.
             some_weaker (Alike s who (declared_from s n body) body) (Alike s who [] (block body)) (ready_of_statement b s (seats who) n body)
             (λ r g taken ran m k h. none_declared who (closed m (run w s no_label body m)) (ready.run z ran r k) (closes s who (declared_from s n body) body r g ran m m k h (inner_counted P b.syntax who m k h)))
@@ -299,8 +297,7 @@ module _ (P : Cells → Type 0) (b : Around) (w : meaning.World) (z : World) (fr
     nothing_within (expression e) (λ s who n. tt),
   )
   all_do (if_then c positive) =
-      let f = all_do positive in
-      (
+      let f = all_do positive in (
         (λ s who n at keeps are fits.
             branch_made (Alike s who [] (if_then c positive)) (Tests s who c) (Alike s who (declared_from s n positive) positive) (Runs who) (ready_test s (seats who) (table_found b) (value boolean) c) (ready_of_statement b s (seats who) n positive) (Some nothing)
             (λ t q r x y v. then_does s who n c positive (declared_from s n positive) t q r x y v)
@@ -309,8 +306,7 @@ module _ (P : Cells → Type 0) (b : Around) (w : meaning.World) (z : World) (fr
       )
   all_do (if_else c positive negative) =
       let f = all_do positive in
-      let g = all_do negative in
-      (
+      let g = all_do negative in (
         (λ s who n at keeps are fits.
             let two : Both (variable_kinds b.syntax) n to (kinds_in s positive) (kinds_in s negative) = both_kinds (variable_kinds b.syntax) n to (kinds_in s (if_else c positive negative)) (kinds_in s positive) (kinds_in s negative) (kinds_else s c positive negative) are fits in
             let next : ℕ = n + length (kinds_in s positive) in
@@ -321,8 +317,7 @@ module _ (P : Cells → Type 0) (b : Around) (w : meaning.World) (z : World) (fr
         nothing_within (if_else c positive negative) (λ s who n. tt),
       )
   all_do (switch text cases) =
-      let f = all_do cases in
-      (
+      let f = all_do cases in (
         (λ s who n at keeps are fits.
             switch_made (Alike s who [] (switch text cases)) (TableDoes who text) (λ r. (o : Option Name) (ran : Option ℕ) → ActionsAlike b o ran → Ends P b w z s (seats who) n who (chosen_label o cases) ran cases r) (table_found b text) (ready_in b s (seats who) n (labelled_ones (ready_in b s (seats who) n the_default cases)) cases)
             (λ table r x y. switch_does s who n text cases table r x y)
@@ -334,13 +329,11 @@ module _ (P : Cells → Type 0) (b : Around) (w : meaning.World) (z : World) (fr
   all_do no_cases = ((λ s who n at keeps are fits. tt), nothing_within no_cases (λ s who n. tt))
   all_do (case_of before l body) =
       let f = all_do before in
-      let g = all_do body in
-      (
+      let g = all_do body in (
         (λ s who n at keeps are fits. tt),
         (λ s who n at keeps are fits.
             let two : Both (variable_kinds b.syntax) n to (kinds_in s before) (kinds_in s body) = both_kinds (variable_kinds b.syntax) n to (kinds_in s (case_of before l body)) (kinds_in s before) (kinds_in s body) (kinds_cases s before body l) are fits in
-            let next : ℕ = n + length (kinds_in s before) in
-            (
+            let next : ℕ = n + length (kinds_in s before) in (
               f.1 s who n at keeps.0 two.front_are two.front_fits,
               some_weaker (Alike s who (declared_from s next body) body) (Closes P b w z s (seats who) n who body) (ready_of_statement b s (seats who) next body)
                   (λ r h m k shown. closes s who (declared_from s next body) body r h None m m k shown (inner_counted P b.syntax who m k shown))

@@ -120,8 +120,7 @@ module _ (P : Cells → Type 0) (b : Around) (w : meaning.World) (s : Scope) (wh
   header_marked e x type place m k scope fine seated kind means parts h runs =
       let f : HeaderFound b w s who e m k place x = found_by e x place m k means parts h runs in
       let marks : (t : Seat) (to : Range) → seat_now k.cells x.spot ≡ Some t → IsAt b.syntax who (reference_of w.around s e m).reference None t → IsRangeOf (layouts_of b.syntax.decls) t to → Shows b.syntax who (set_valid (reference_of w.around s e m).reference m) (header_made true to k) × Shows b.syntax who (set_invalid (reference_of w.around s e m).reference m) (header_made false to k) = λ t to now at ranged.
-      headers_made b.syntax who (reference_of w.around s e m).reference t type to m k accepted scope at (found_form e x type k.cells t fine seated kind means (whole_of x place parts) now) ranged.header h.shows in
-      (
+      headers_made b.syntax who (reference_of w.around s e m).reference t type to m k accepted scope at (found_form e x type k.cells t fine seated kind means (whole_of x place parts) now) ranged.header h.shows in (
         with_found e x place m k f set_valid (λ r. header_made true r k) h runs (λ t to now at ranged. record { shows = (marks t to now at ranged).0; waits = h.waits }),
         with_found e x place m k f set_invalid (λ r. header_made false r k) h runs (λ t to now at ranged. record { shows = (marks t to now at ranged).1; waits = h.waits }),
       )
