@@ -3,7 +3,7 @@
 /// A row has nine cells: its name; the program; the entries; the ports, or `-` where no file of them is named; the packets, between blanks;
 /// further words, or all words behind `=`; the status; the line; what is sent, and the report. The program is one of `eth` (a header of three
 /// fields, with the mark `#a` in the body of its action and `#e` at its end), `four` (a header of four octets, with the same marks and `#c` for
-/// its control), `router`, `labels`, `lpm` and `again`, or a text behind `'`; behind it stand texts for its marks, each behind a `~`, as `a=..`.
+/// its control), `router`, `labels`, `prefixes` and `again`, or a text behind `'`; behind it stand texts for its marks, each behind a `~`, as `a=..`.
 /// A packet is in hexadecimal digits; `!` and digits behind the packets are octets that follow them as they are, and `&` in front of a packet has
 /// it there 10,000 times. In texts `^` is a line feed. Where nothing is written the cells of what is sent and of the report are `-`.
 pub const CASES: &[u8] =
@@ -19,7 +19,7 @@ a shift|four~a=shift_right(f.y, f.x, 4);~||-|12340000||0|ran 1 1 0^|12342300|sen
 below zero|four~a=add_to_field(f.y, -1);~||-|12340000||0|ran 1 1 0^|1234ff00|sent 3 4^in 1^out 1^cut 0^
 the greatest width|four~c=if (f.y + f.z == f.x) { apply(t); }~||-|0100ff01 0000ff01||0|ran 2 2 0^|0100ff01 0000ff01|sent 3 4^sent 0 4^in 2^out 2^cut 0^
 labels|labels||-|020407 0207||0|ran 2 1 0^|0207|sent 3 2^in 2^out 1^cut 0^
-the longest prefix|lpm|table_add u go 0/0 => 1^table_add u go 0x1200/8 => 2^table_add u go 0x1234/16 => 3^|-|12340000 12ff0000 00000000||0|ran 3 3 0^|12340000 12ff0000 00000000|sent 3 4^sent 2 4^sent 1 4^in 3^out 3^cut 0^
+the longest prefix|prefixes|table_add u go 0/0 => 1^table_add u go 0x1200/8 => 2^table_add u go 0x1234/16 => 3^|-|12340000 12ff0000 00000000||0|ran 3 3 0^|12340000 12ff0000 00000000|sent 3 4^sent 2 4^sent 1 4^in 3^out 3^cut 0^
 the smaller priority|'header_type four_t { fields { x : 16; y : 8; z : 8; } } header four_t f; parser start { extract(f); return ingress; } action go(port) { modify_field(standard_metadata.egress_spec, port); } table u { reads { f.x : ternary; } actions { go; } } control ingress { apply(u); }|table_add u go 0x1200&&&0xff00 => 4 10^table_add u go 0x0034&&&0x00ff => 5 10^|-|12340000||0|ran 1 1 0^|12340000|sent 4 4^in 1^out 1^cut 0^
 a clone of what is dropped|eth~a=clone_i2e(7); drop();~e=action k() { modify_field(eth.c, standard_metadata.instance_type); } table e { actions { k; } default_action : k(); } control egress { apply(e); }~|mirroring_add 7 9^|-|0102030405060708090a0b0c0d0e||0|ran 1 1 0^|0102030405060708090a0b0c0001|sent 9 14^in 1^out 1^cut 0^
 no session|eth~a=clone_i2e(7); drop();~||-|0102030405060708090a0b0c0d0e||0|ran 1 0 0^||in 1^out 0^cut 0^

@@ -85,14 +85,14 @@ fn add_marked(file: &mut Vec<u8>, program: &[u8], parts: &'static [u8]) -> Resul
     Ok(())
 }
 
-/// The text of a program by its name.
-fn text_named(name: &str) -> &'static [u8] {
+/// The text of a program by the first letter of its name.
+fn text_named(name: &[u8]) -> &'static [u8] {
     match name {
-        "eth" => ETH,
-        "four" => FOUR,
-        "router" => ROUTER,
-        "labels" => LABELS,
-        "lpm" => NO_DEFAULT,
+        [b'e', ..] => ETH,
+        [b'f', ..] => FOUR,
+        [b'r', ..] => ROUTER,
+        [b'l', ..] => LABELS,
+        [b'p', ..] => NO_DEFAULT,
         _ => RESUBMIT,
     }
 }
@@ -104,7 +104,7 @@ pub fn program_of(alloc: Global, cell: &'static [u8]) -> Result<Vec<u8>, Fail> {
     }
     let (name, parts) = cut(cell, b'~');
     let mut file = Vec::new(alloc);
-    add_marked(&mut file, text_named(name_of(name)), parts)?;
+    add_marked(&mut file, text_named(name), parts)?;
     Ok(file)
 }
 
