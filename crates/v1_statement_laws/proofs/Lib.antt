@@ -18,3 +18,4 @@ pub mod Emits
 pub mod Copies
 pub mod Bodies
 pub mod Begun
+pub mod Starts

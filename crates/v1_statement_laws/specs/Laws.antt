@@ -1,8 +1,9 @@
 -- That ready statements do what those of the program do.
-use Rattle.std.specs.Prelude.{◌≡◌, ◌⊎◌, ℕ, ◌+◌, ◌≤◌, Bool, true, false, List, [], ◌∷◌, length, codes, IfSome, Option, Some, None}
+use Rattle.std.specs.Prelude.{◌≡◌, ◌⊎◌, ℕ, ◌+◌, ◌≤◌, Bool, true, false, List, [], ◌∷◌, length, flat_map, filter_map, codes, IfSome, Option, Some, None}
 use Rattle.std.specs.Str.{bytes_eq}
 use Rattle.p416_ast.specs.declared.parts.Type16.{Type16}
 use Rattle.p416_ast.specs.declared.parsers.Var.{Var}
+use Rattle.p416_ast.specs.declared.controls.Local.{Local}
 use Rattle.p416_ast.specs.declared.node.CaseLabel.{CaseLabel}
 use Rattle.p416_ast.specs.Tree.{Exp16, member, call, Stmt16, var_is, assign, expression}
 use Rattle.p416_rules.specs.Names.{Name}
@@ -15,10 +16,10 @@ use Rattle.p416_rules.specs.Statements.{assigned_place}
 use Rattle.p416_rules.specs.Declarations.{layouts_of}
 use Rattle.p416_rules.specs.Breaks.{BreaksNone, program_rules}
 use Rattle.v1_sem.specs.Frames as sem
-use Rattle.v1_sem.specs.Slots.{variable_kinds, kinds_in}
+use Rattle.v1_sem.specs.Slots.{variable_kinds, local_kinds, kinds_in}
 use Rattle.v1_sem.specs.Surroundings as meaning
-use Rattle.v1_sem.specs.Numbered.{Variable, InScope, number_of}
-use Rattle.v1_sem.specs.Blocks.{with_initial}
+use Rattle.v1_sem.specs.Numbered.{Variable, InScope, nobody, number_of}
+use Rattle.v1_sem.specs.Blocks.{variables_of, with_variables, with_initial, var_in}
 use Rattle.v1_sem.specs.Statements.{no_label, run}
 use Rattle.v1_frame_values.specs.Seats.{Content, slot_form, form_of}
 use Rattle.v1_ready_forms.specs.Named.{seats_in}
@@ -29,7 +30,7 @@ use Rattle.v1_ready_blocks.specs.Statements as ready
 use Rattle.v1_ready_blocks.specs.Statements.{does}
 use Rattle.v1_block_laws.specs.Standing.{AreOfKinds}
 use Rattle.v1_block_laws.specs.Keeping.{StatementKeeps}
-use Rattle.v1_block_laws.specs.Variables.{variable}
+use Rattle.v1_block_laws.specs.Variables.{variable, locals_from}
 use Rattle.v1_ready_blocks.specs.Blocks.{parser_run}
 use Rattle.v1_parser_laws.specs.Shown.{Shows, in_block, BodyShows}
 use Rattle.v1_place_laws.specs.Places.{Meant, meant_by}
@@ -37,6 +38,7 @@ use Rattle.v1_deed_laws.specs.Forms.{IsEmitted}
 use Rattle.v1_ready_statements.specs.Around.{Around, table_found, variable_seat}
 use Rattle.v1_ready_statements.specs.Tested.{ready_test}
 use Rattle.v1_ready_statements.specs.Called.{expression_ready}
+use Rattle.v1_ready_statements.specs.Blocks.{starts_from}
 use Rattle.v1_ready_statements.specs.Statements.{assigned_to, initial_ready, ready_of_statement}
 use Rattle.v1_value_laws.specs.Classes.{IsOfClass}
 use Rattle.v1_statement_laws.specs.Behind.{Waits, Shown, LeftBehind, InContext, declared_from}
@@ -65,6 +67,21 @@ BodiesShow =
     ready_of_statement b w.around.scope (seats_in b.syntax w.around.roots (in_block vars [])) n x ≡ Some r →
     (m : sem.Moment) (k : Moment) → Shows b.syntax (in_block vars []) m k →
     BodyShows b.syntax vars (declared_from w.around.scope n x) (run w w.around.scope no_label x m) (parser_run r k)
+
+-- statements one after another, of which each runs by itself
+abbrev pub all_run : World → List ready.Statement → Moment → Moment
+all_run z [] k = k
+all_run z (x ∷ rs) k = all_run z rs (ready.run z None x k)
+
+-- the variables of a control start at 0, of whose declarations the first variable or parameter has this number
+abbrev pub VariablesStart : Type 0
+VariablesStart =
+    (calls : Bool) (b : Around) (z : World) (s : Scope) (n : ℕ) (locals : List Local) → s.layouts ≡ layouts_of b.syntax.decls →
+    AreOfKinds (variable_kinds b.syntax) n (flat_map (local_kinds s) locals) →
+    IfSome (starts_from b s n locals)
+    (λ rs. (m : sem.Moment) (k : Moment) → Shown (Waits calls b.syntax) b.syntax nobody m k → m.stopped ≡ None →
+    Shown (Waits calls b.syntax) b.syntax (in_block (locals_from s n locals) [])
+    (with_variables (variables_of s (filter_map var_in locals)) m) (all_run z rs k))
 
 -- in a block without tables and actions
 
@@ -100,16 +117,6 @@ HeadersCalled =
     IfSome (expression_ready b s (seats_in b.syntax w.around.roots who) (call (member e word) given))
     (RunsAlike (Waits calls b.syntax) b w z s who [] (expression (call (member e word) given)))
 
--- `p.extract(h)`, into a header or into the next element of a stack, in any block
-abbrev pub HeadersExtracted : Type 0
-HeadersExtracted =
-    (calls : Bool) (b : Around) (w : meaning.World) (z : World) (from to n : ℕ) (s : Scope) (who : InScope)
-    (e given f : Exp16) (type word : Name) →
-    BreaksNone b.syntax program_rules → InContext b.syntax w.around.roots from to n s who → kind_of s e ≡ packet_in →
-    bytes_eq word (codes "extract") ≡ true → arguments_of given ≡ f ∷ [] → kind_of s f ≡ header type →
-    IfSome (expression_ready b s (seats_in b.syntax w.around.roots who) (call (member e word) given))
-    (RunsAlike (Waits calls b.syntax) b w z s who [] (expression (call (member e word) given)))
-
 -- a variable with an initial value, which is a single one
 abbrev pub SlotsInitialized : Type 0
 SlotsInitialized =
@@ -136,7 +143,19 @@ VariablesInitialized =
     (λ r. (ran : Option ℕ) (m : sem.Moment) (k : Moment) → Shown (Waits calls b.syntax) b.syntax who m k → m.stopped ≡ None →
     Shown (Waits calls b.syntax) b.syntax who (with_initial w m v) (ready.run z ran r k))
 
--- `p.emit(x)` of a header or a stack of headers of whole octets, which no stack tells, in any block
+-- in any block
+
+-- `p.extract(h)`, into a header or into the next element of a stack
+abbrev pub HeadersExtracted : Type 0
+HeadersExtracted =
+    (calls : Bool) (b : Around) (w : meaning.World) (z : World) (from to n : ℕ) (s : Scope) (who : InScope)
+    (e given f : Exp16) (type word : Name) →
+    BreaksNone b.syntax program_rules → InContext b.syntax w.around.roots from to n s who → kind_of s e ≡ packet_in →
+    bytes_eq word (codes "extract") ≡ true → arguments_of given ≡ f ∷ [] → kind_of s f ≡ header type →
+    IfSome (expression_ready b s (seats_in b.syntax w.around.roots who) (call (member e word) given))
+    (RunsAlike (Waits calls b.syntax) b w z s who [] (expression (call (member e word) given)))
+
+-- `p.emit(x)` of a header or a stack of headers of whole octets, which no stack tells
 abbrev pub HeadersEmitted : Type 0
 HeadersEmitted =
     (calls : Bool) (b : Around) (w : meaning.World) (z : World) (from to n : ℕ) (s : Scope) (who : InScope)
@@ -159,7 +178,7 @@ abbrev pub OneDepth : Kind → Meant → Meant → Type 0
 OneDepth (struct type) x y = x.spot.seat.depth ≡ y.spot.seat.depth
 OneDepth k x y = Unit {0}
 
--- the assignment of a header, a stack or a struct that no stack tells, in any block
+-- the assignment of a header, a stack or a struct that no stack tells
 abbrev pub PartsAssigned : Type 0
 PartsAssigned =
     (calls : Bool) (b : Around) (w : meaning.World) (z : World) (from to n : ℕ) (s : Scope) (who : InScope)

@@ -3,7 +3,7 @@
 //! that does nothing.
 #![tactic(auto)]
 
-ghost use Rattle.v1_statement_laws.specs.Laws.{BodiesShow, HeadersCalled, HeadersEmitted, HeadersExtracted, PartsAssigned, SlotsAssigned, SlotsInitialized, StatementsShow, TestsEvaluate, VariablesInitialized};
+ghost use Rattle.v1_statement_laws.specs.Laws.{BodiesShow, HeadersCalled, HeadersEmitted, HeadersExtracted, PartsAssigned, SlotsAssigned, SlotsInitialized, StatementsShow, TestsEvaluate, VariablesInitialized, VariablesStart};
 
 /// Where assignments, calls, conditions and tables do the same, all statements do.
 pub fn statements_do_the_same()
@@ -28,6 +28,11 @@ pub fn single_values_are_assigned()
 /// There a variable with an initial value, which is a single one, does the same.
 pub fn single_values_are_initial()
     ensures { SlotsInitialized }
+{}
+
+/// The variables of a control start at 0, one after another.
+pub fn block_variables_start()
+    ensures { VariablesStart }
 {}
 
 /// There a variable of the block with an initial value, which is a single one, does the same.
