@@ -2,6 +2,7 @@
 use Rattle.std.proofs.Common.{◌≡◌, ℕ, suc, ◌+◌, ◌<◌, ◌≤◌, List, [], ◌∷◌, ◌++◌, length, map, drop, get_or, Option, Some, None, refl, sym, ◌∙◌, ap, arith, add-one, append_assoc}
 use Rattle.std.proofs.lemmas.List.{append-nil, drop_all, get_or-map, get_or_default, map-append, length-map}
 use Rattle.std.proofs.Math.Seq.{drop-cons}
+use Rattle.state_store.specs.State.{Contents}
 use Rattle.command_words.specs.Words.{default_passes}
 use Rattle.p414_one_table.specs.declared.program.OneTable14.{OneTable14}
 use Rattle.fabric.specs.declared.packets.Arrival.{Arrival}
@@ -21,7 +22,7 @@ unfoldable pub own14 : OneTable14 → Arrival → Pass
 own14 p a = pass14 p (no_entries (signature14 p)) a
 
 -- the run over the arrivals from a number on, for any pass
-abbrev run_left : (Arrival → Pass) → ℕ → List Arrival → Ran
+abbrev run_left : (Arrival → Pass) → ℕ → List Arrival → Ran Contents
 run_left f number arrivals = run_from f default_passes no_store number (drop number arrivals)
 
 run_more : (f : Arrival → Pass) (number : ℕ) (arrivals : List Arrival) (a : Arrival) → number < length arrivals
@@ -54,7 +55,7 @@ sending_more f arrivals number port sent sent' r a inside is ends now so =
     let rest = (run_left f (number + 1) arrivals).sent in
     let new : map sent_of sent' ≡ map sent_of sent ++ sent_from number (f a).end =
     ap (map sent_of) now ∙ map-append sent_of sent (leaving_from number port r) ∙ ap (λ (l : List Sent). map sent_of sent ++ l) (left_alike number port r ∙ ap (sent_from number) (sym ends)) in
-    ap (λ (l : List Sent). l ++ rest) new ∙ append_assoc (map sent_of sent) (sent_from number (f a).end) rest ∙ ap (λ (x : Ran). map sent_of sent ++ x.sent) (sym more) ∙ so
+    ap (λ (l : List Sent). l ++ rest) new ∙ append_assoc (map sent_of sent) (sent_from number (f a).end) rest ∙ ap (λ (x : Ran Contents). map sent_of sent ++ x.sent) (sym more) ∙ so
 
 -- the same for every program with these widths and this port, and all arrivals with these octets
 pub record AllSending (widths : List ℕ) (port : ℕ) (packets : List (List ℕ)) (number : ℕ) (sent : List Leaving) : Type 0 where
@@ -84,4 +85,4 @@ unfolding Run14 own14
 all_ends widths port packets number sent past so p arrivals program same =
     let size : length arrivals ≡ length packets = sym (length-map arrivals (λ (x : Arrival). x.octets)) ∙ ap (λ (l : List (List ℕ)). length l) same in
     let done = run_done (own14 p) number arrivals (omega arith) in
-    sym (so.all p arrivals program same) ∙ ap (λ (x : Ran). map sent_of sent ++ x.sent) done ∙ append-nil (map sent_of sent)
+    sym (so.all p arrivals program same) ∙ ap (λ (x : Ran Contents). map sent_of sent ++ x.sent) done ∙ append-nil (map sent_of sent)

@@ -1,10 +1,9 @@
 -- What tells entries and sessions apart.
-use Rattle.std.proofs.Common.{◌≡◌, inl, inr, ℕ, ◌<◌, Bool, true, false, not, cond, nat_eq, eq-eqb, leb, List, [], ◌∷◌, ◌++◌, get_or, length, refl, sym, ap, ◌∙◌, subst, arith}
+use Rattle.std.proofs.Common.{◌≡◌, inl, inr, ℕ, zero, suc, ◌<◌, Bool, true, false, not, cond, nat_eq, eq-eqb, leb, List, [], ◌∷◌, ◌++◌, get_or, length, replicate, refl, sym, ap, ◌∙◌, subst, arith}
 use Rattle.std.specs.Prelude.{◌||◌, ◌&&◌}
 use Rattle.std.specs.Str.{bytes_eq}
 use Rattle.std.specs.Ordering.{nat_cmp, is_eq}
 use Rattle.std.specs.Cmp.Lexicographic.{slice_cmp, texts_ties}
-use Rattle.std.specs.BTreeSet.{BTreeSet, contains}
 use Rattle.std.proofs.lemmas.Bool.{cases_eq}
 use Rattle.std.proofs.lemmas.Bool.Decides.{nat_tests}
 use Rattle.std.proofs.lemmas.List.{get_or-set_same, get_or-set_other}
@@ -17,6 +16,8 @@ use Rattle.match_core.specs.declared.signatures.KeySpec.{KeySpec}
 use Rattle.entries_file.specs.Filling.{empty_fill, entry_put, table_at}
 use Rattle.match_core.specs.Identity.{identity}
 use Rattle.entries_file.specs.Rules.{has_same, is_full}
+use Rattle.entries_file.specs.declared.key_set.KeySet.{KeySet}
+use Rattle.entries_file.specs.internal.KeySets.{has_key}
 
 not_not : (b : Bool) → not (not b) ≡ b
 not_not true = refl
@@ -49,8 +50,8 @@ same_more specs fill entry same =
     ∙ sym (list_any-append (λ (old : Entry). bytes_eq (identity specs old) same) fill.entries (entry ∷ []))
 
 -- the keys of a table's entries are found
-abbrev pub KeysFound : Signature → List TableFill → BTreeSet (List ℕ) → Type 0
-KeysFound g fills keys = (t : ℕ) (same : List ℕ) → contains (slice_cmp nat_cmp) keys (t ∷ same) ≡ has_same (table_at g t).keys (get_or fills t empty_fill) same
+abbrev pub KeysFound : Signature → List TableFill → KeySet → Type 0
+KeysFound g fills keys = (t : ℕ) (same : List ℕ) → has_key keys (t ∷ same) ≡ has_same (table_at g t).keys (get_or fills t empty_fill) same
 
 found_here : (g : Signature) (fills : List TableFill) (table : ℕ) (entry : Entry) (same : List ℕ) → table < length fills
     → cond (nat_eq table table && bytes_eq (identity (table_at g table).keys entry) same) true (has_same (table_at g table).keys (get_or fills table empty_fill) same) ≡ has_same (table_at g table).keys (get_or (entry_put fills table entry) table empty_fill) same
@@ -75,18 +76,27 @@ found_by g fills table t entry same lt =
     ]
 
 -- one more entry is found
-pub keys_put : (g : Signature) (fills : List TableFill) (before after : BTreeSet (List ℕ)) (table : ℕ) (entry : Entry) (key : List ℕ) → table < length fills → key ≡ table ∷ identity (table_at g table).keys entry → KeysFound g fills before
-    → ((q : List ℕ) → contains (slice_cmp nat_cmp) after q ≡ cond (is_eq (slice_cmp nat_cmp key q)) true (contains (slice_cmp nat_cmp) before q)) → KeysFound g (entry_put fills table entry) after
+pub keys_put : (g : Signature) (fills : List TableFill) (before after : KeySet) (table : ℕ) (entry : Entry) (key : List ℕ) → table < length fills → key ≡ table ∷ identity (table_at g table).keys entry → KeysFound g fills before
+    → ((q : List ℕ) → has_key after q ≡ cond (is_eq (slice_cmp nat_cmp key q)) true (has_key before q)) → KeysFound g (entry_put fills table entry) after
 keys_put g fills before after table entry key lt is found puts t same =
     puts (t ∷ same)
     ∙ (rw (is, ties table t (identity (table_at g table).keys entry) same, found t same) (found_by g fills table t entry same lt))
 
 -- no entry has the key that was new
-pub key_new : (g : Signature) (fills : List TableFill) (before : BTreeSet (List ℕ)) (table : ℕ) (entry : Entry) (key : List ℕ) (is_new : Bool) → key ≡ table ∷ identity (table_at g table).keys entry → KeysFound g fills before
-    → is_new ≡ not (contains (slice_cmp nat_cmp) before key) → not is_new ≡ has_same (table_at g table).keys (get_or fills table empty_fill) (identity (table_at g table).keys entry)
+pub key_new : (g : Signature) (fills : List TableFill) (before : KeySet) (table : ℕ) (entry : Entry) (key : List ℕ) (is_new : Bool) → key ≡ table ∷ identity (table_at g table).keys entry → KeysFound g fills before
+    → is_new ≡ not (has_key before key) → not is_new ≡ has_same (table_at g table).keys (get_or fills table empty_fill) (identity (table_at g table).keys entry)
 key_new g fills before table entry key is_new is found added =
-    ap not added ∙ (not_not (contains (slice_cmp nat_cmp) before key)
-    ∙ (ap (contains (slice_cmp nat_cmp) before) is ∙ found table (identity (table_at g table).keys entry)))
+    ap not added ∙ (not_not (has_key before key)
+    ∙ (ap (has_key before) is ∙ found table (identity (table_at g table).keys entry)))
+
+-- before the first line no table has an entry
+nothing_at : (n t : ℕ) → get_or (replicate n empty_fill) t empty_fill ≡ empty_fill
+nothing_at zero t = refl
+nothing_at (suc n) zero = refl
+nothing_at (suc n) (suc t) = nothing_at n t
+
+pub none_same : (specs : List KeySpec) (fills : List TableFill) (n t : ℕ) (same : List ℕ) → fills ≡ replicate n empty_fill → has_same specs (get_or fills t empty_fill) same ≡ false
+none_same specs fills n t same are = rw (are, nothing_at n t) refl
 
 room_left : (size count : ℕ) → count < size → leb size count ≡ false
 room_left size count lt = grind (arith, nat_tests)

@@ -1,3 +1,4 @@
 pub mod Kept
 pub mod Staged
+pub mod KeySets
 pub mod Drafts

@@ -64,7 +64,7 @@ pub fn read_arguments(
     ensures { let texts = map (λ word. word.now) words.now in
         Stage (rules.argument_tests widths.now others texts) (λ arguments. arguments ≡ rules.arguments_of widths.now texts) result }
 {
-    let mut arguments = Numbers::new(alloc);
+    let mut arguments = Numbers::with_capacity(alloc, widths.len().min(words.len()))?;
     let mut no_number = false;
     for i in 0..widths.len().min(words.len()) {
         match read_argument(widths[i], words[i]) {

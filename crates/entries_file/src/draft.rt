@@ -7,6 +7,7 @@ ghost use Rattle.entries_file.specs.internal.Staged.{Stage};
 ghost use Rattle.entries_file.specs.internal.Drafts.{drafted, IsDraft, IsDraftOf};
 
 use crate::fault::Stop;
+use crate::key_set::KeySet;
 use match_core::{DefaultCall, Entries, Entry, Key, KeySpec, Signature, TableFill, push_identity};
 use p4x_bits::{Numbers, OutOfMemory, Rows};
 use state_store::Session;
@@ -19,7 +20,7 @@ pub struct Draft {
     pub tables: Vec<TableFill>,
     pub sessions: Rows<Session>,
     pub colours: Vec<Numbers>,
-    pub keys: BTreeSet<Key>,
+    pub keys: KeySet,
     pub numbers: BTreeSet<u32>,
 }
 
@@ -77,7 +78,7 @@ impl Draft {
             tables: empty_fills(alloc, signature.tables.len())?,
             sessions: Rows::new(alloc),
             colours: no_colours(alloc, signature.objects.len())?,
-            keys: BTreeSet::new(alloc),
+            keys: KeySet::new(alloc, signature.tables.len())?,
             numbers: BTreeSet::new(alloc),
         })
     }

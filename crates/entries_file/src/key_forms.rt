@@ -148,7 +148,7 @@ pub fn read_keys(alloc: Global, specs: &[KeySpec], words: &[&[u8]]) -> Result<Ro
     ensures { let texts = map (λ word. word.now) words.now in
         Stage (rules.key_tests specs.now texts) (λ keys. keys ≡ forms.keys_of specs.now texts) result }
 {
-    let mut keys = Rows::new(alloc);
+    let mut keys = Rows::with_capacity(alloc, specs.len())?;
     let mut is_wide = false;
     for i in 0..specs.len() {
         match read_key(alloc, specs[i], words[i])? {

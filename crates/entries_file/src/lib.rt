@@ -9,6 +9,7 @@ mod draft;
 mod fault;
 mod judge;
 mod key_forms;
+mod key_set;
 mod name_index;
 mod numerals;
 mod reader;

@@ -3,7 +3,7 @@ use Rattle.std.proofs.Common.{◌≡◌, ◌⊎◌, inl, inr, ℕ, List, Option,
 use Rattle.p4x_fault.specs.declared.Fault.{Fault as Refusal}
 use Rattle.file_work.specs.declared.stop.Limited.{Limited}
 use Rattle.file_work.specs.declared.stop.Stop.{Stop}
-use Rattle.file_work.specs.declared.stop.Stop.TheVariants.{Fault, Usage, Program, Judged, Unfit, Refused, Limit, Memory}
+use Rattle.file_work.specs.declared.stop.Stop.TheVariants.{Fault, Usage, Program, Judged, Unfit, Refused, Limit, Memory, Text}
 use Rattle.file_work.specs.Stops.{code_of, stop_code}
 use Rattle.file_work.specs.Works.{IsLoose}
 
@@ -28,6 +28,7 @@ not_done Usage is = omega arith
 not_done Program is = omega arith
 not_done (Judged fault) is = omega arith
 not_done (Unfit fault) is = omega arith
+not_done (Text fault) is = omega arith
 not_done (Refused fault) is = omega arith
 not_done (Limit file) is = omega arith
 not_done Memory is = omega arith
@@ -40,6 +41,7 @@ is_fault (Err Usage) is = absurd (omega arith)
 is_fault (Err Program) is = absurd (omega arith)
 is_fault (Err (Judged fault)) is = absurd (omega arith)
 is_fault (Err (Unfit fault)) is = absurd (omega arith)
+is_fault (Err (Text fault)) is = absurd (omega arith)
 is_fault (Err (Refused fault)) is = absurd (omega arith)
 is_fault (Err (Limit file)) is = absurd (omega arith)
 is_fault (Err Memory) is = absurd (omega arith)
@@ -51,6 +53,7 @@ is_usage (Err Usage) is = refl
 is_usage (Err Program) is = absurd (omega arith)
 is_usage (Err (Judged fault)) is = absurd (omega arith)
 is_usage (Err (Unfit fault)) is = absurd (omega arith)
+is_usage (Err (Text fault)) is = absurd (omega arith)
 is_usage (Err (Refused fault)) is = absurd (omega arith)
 is_usage (Err (Limit file)) is = absurd (omega arith)
 is_usage (Err Memory) is = absurd (omega arith)
@@ -66,6 +69,7 @@ is_program (Err Usage) is = absurd (omega arith)
 is_program (Err Program) is = inl refl
 is_program (Err (Judged fault)) is = inr (fault, refl)
 is_program (Err (Unfit fault)) is = absurd (omega arith)
+is_program (Err (Text fault)) is = absurd (omega arith)
 is_program (Err (Refused fault)) is = absurd (omega arith)
 is_program (Err (Limit file)) is = absurd (omega arith)
 is_program (Err Memory) is = absurd (omega arith)
@@ -77,6 +81,7 @@ is_unfit (Err Usage) is = absurd (omega arith)
 is_unfit (Err Program) is = absurd (omega arith)
 is_unfit (Err (Judged fault)) is = absurd (omega arith)
 is_unfit (Err (Unfit fault)) is = (fault, refl)
+is_unfit (Err (Text fault)) is = absurd (omega arith)
 is_unfit (Err (Refused fault)) is = absurd (omega arith)
 is_unfit (Err (Limit file)) is = absurd (omega arith)
 is_unfit (Err Memory) is = absurd (omega arith)
@@ -88,6 +93,7 @@ is_refused (Err Usage) is = absurd (omega arith)
 is_refused (Err Program) is = absurd (omega arith)
 is_refused (Err (Judged fault)) is = absurd (omega arith)
 is_refused (Err (Unfit fault)) is = absurd (omega arith)
+is_refused (Err (Text fault)) is = absurd (omega arith)
 is_refused (Err (Refused fault)) is = (fault, refl)
 is_refused (Err (Limit file)) is = absurd (omega arith)
 is_refused (Err Memory) is = absurd (omega arith)
@@ -99,9 +105,22 @@ is_limit (Err Usage) is = absurd (omega arith)
 is_limit (Err Program) is = absurd (omega arith)
 is_limit (Err (Judged fault)) is = absurd (omega arith)
 is_limit (Err (Unfit fault)) is = absurd (omega arith)
+is_limit (Err (Text fault)) is = absurd (omega arith)
 is_limit (Err (Refused fault)) is = absurd (omega arith)
 is_limit (Err (Limit file)) is = (file, refl)
 is_limit (Err Memory) is = absurd (omega arith)
+
+pub is_text : (end : Result (List ℕ) Stop) → code_of end ≡ 8 → (fault : Refusal) × (end ≡ Err (Text fault))
+is_text (Ok line) is = absurd (omega arith)
+is_text (Err Fault) is = absurd (omega arith)
+is_text (Err Usage) is = absurd (omega arith)
+is_text (Err Program) is = absurd (omega arith)
+is_text (Err (Judged fault)) is = absurd (omega arith)
+is_text (Err (Unfit fault)) is = absurd (omega arith)
+is_text (Err (Refused fault)) is = absurd (omega arith)
+is_text (Err (Limit file)) is = absurd (omega arith)
+is_text (Err Memory) is = absurd (omega arith)
+is_text (Err (Text fault)) is = (fault, refl)
 
 -- a loose end has status 1 or 7
 pub loose_code : (end : Result (List ℕ) Stop) → IsLoose end → (code_of end ≡ 1) ⊎ (code_of end ≡ 7)

@@ -21,6 +21,8 @@ pub enum Limited {
     Ports,
     /// The capture.
     Capture,
+    /// The P4_16 text.
+    Text,
 }
 
 /// Why a command ends without status 0.
@@ -42,6 +44,8 @@ pub enum Stop {
     Limit(Limited),
     /// There was no memory left: status 7.
     Memory,
+    /// The P4_16 text breaks an L, S or T rule: status 8.
+    Text(Fault),
 }
 
 impl From<OutOfMemory> for Stop {
@@ -84,6 +88,7 @@ fn say_stop<K: Sink>(out: &mut K, stop: Stop) -> u8
         Stop::Refused(fault) => say_refusal(out, fault.rule, fault.place, 5),
         Stop::Limit(file) => say_limit(out, file),
         Stop::Memory => say(out, b"no memory\n", 7),
+        Stop::Text(fault) => say_refusal(out, fault.rule, fault.place, 8),
     }
 }
 
@@ -96,6 +101,7 @@ fn say_limit<K: Sink>(out: &mut K, file: Limited) -> u8
         Limited::Entries => say(out, b"limit entries\n", 6),
         Limited::Ports => say(out, b"limit ports\n", 6),
         Limited::Capture => say(out, b"limit capture\n", 6),
+        Limited::Text => say(out, b"limit text\n", 6),
     }
 }
 

@@ -14,15 +14,15 @@ use p4x_bits::{OutOfMemory, Rows};
 use std::alloc::Global;
 use std::marker::Model;
 
-/// A table with its entries, ready for look-ups.
+/// A table with its entries, which are borrowed, ready for look-ups.
 #[derive(Drop)]
-pub struct Table {
+pub struct Table<'e> {
     specs: Vec<KeySpec>,
-    entries: Vec<Entry>,
+    entries: &'e [Entry],
     index: Index,
 }
 
-impl Model for Table {
+impl<'e> Model for Table<'e> {
     ghost use Rattle.std.specs.Prelude.{◌^◌, ◌<◌, length, All};
     ghost use Rattle.match_core.specs.Fits.{FitsKeys};
     ghost use Rattle.match_core.specs.Best.{Filled};
@@ -30,27 +30,27 @@ impl Model for Table {
 
     ghost Value = { Filled };
 
-    ghost view = { λ t. record { specs = t.specs.items; entries = t.entries.items } };
+    ghost view = { λ t. record { specs = t.specs.items; entries = t.entries.now } };
 
-    ghost invariant = { λ t. (length t.entries.items < 2 ^ 32) × All (FitsKeys t.specs.items) t.entries.items × IsIndex (record { specs = t.specs.items; entries = t.entries.items }) t.index };
+    ghost invariant = { λ t. (length t.entries.now < 2 ^ 32) × All (FitsKeys t.specs.items) t.entries.now × IsIndex (record { specs = t.specs.items; entries = t.entries.now }) t.index };
 }
 
-impl Table {
-    /// A table with these keys and a copy of these entries. The one error is want of memory.
-    pub fn build(alloc: Global, entries: &[Entry], keys: &[KeySpec]) -> Result<Table, OutOfMemory>
+impl<'e> Table<'e> {
+    /// A table with these keys and entries. The one error is want of memory.
+    pub fn build(
+        alloc: Global,
+        entries: &'e [Entry],
+        keys: &[KeySpec],
+    ) -> Result<Table<'e>, OutOfMemory>
         requires specs { AreSpecs keys.now }
         requires few { length entries.now < 2 ^ 32 }
         requires fits { All (FitsKeys keys.now) entries.now }
         ensures { IfOk result (λ table. table ≡ record { specs = keys.now; entries = entries.now }) }
     {
-        let mut copies = Vec::with_capacity(alloc, entries.len())?;
-        for entry in entries {
-            copies.push(entry.copy(alloc)?)?;
-        }
         let index = index_of(alloc, keys, entries)?;
         Ok(Table {
             specs: Vec::from_slice(alloc, keys)?,
-            entries: copies,
+            entries,
             index,
         })
     }
@@ -61,24 +61,24 @@ impl Table {
         ensures best { IsBest self.now key.now result }
         ensures scan { result ≡ best self.now key.now }
     {
-        find(&self.index, &self.specs, &self.entries, key)
+        find(&self.index, &self.specs, self.entries, key)
     }
 
     /// The same as `lookup`, by asking each entry.
     pub fn scan(&self, key: &Key) -> Option<u32>
         ensures { result ≡ best self.now key.now }
     {
-        scan(&self.specs, &self.entries, key.as_slice())
+        scan(&self.specs, self.entries, key.as_slice())
     }
 }
 
 /// The tables of a signature, each filled with its entries, in the order of the signature. The one error is want of
 /// memory.
-pub fn build_tables(
+pub fn build_tables<'e>(
     alloc: Global,
     signature: &Signature,
-    entries: &Entries,
-) -> Result<Rows<Table>, OutOfMemory>
+    entries: &'e Entries,
+) -> Result<Rows<Table<'e>>, OutOfMemory>
     requires signature { IsSignature signature.now }
     requires fits { Fits entries.now signature.now }
     ensures { IfOk result (λ tables. tables ≡ tables_of signature.now entries.now) }

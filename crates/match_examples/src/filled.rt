@@ -167,15 +167,6 @@ fn filled(alloc: Global) -> Result<(Signature, Entries), OutOfMemory>
     Ok((Signature { tables, objects }, entries))
 }
 
-/// The tables, where their signature is well formed.
-fn built(alloc: Global) -> Result<Option<Rows<Table>>, OutOfMemory> {
-    let (signature, entries) = filled(alloc)?;
-    if !signature.is_well_formed(alloc)? {
-        return Ok(None);
-    }
-    Ok(Some(build_tables(alloc, &signature, &entries)?))
-}
-
 /// The first store, where its signature is well formed.
 fn first(alloc: Global) -> Result<Option<Store>, OutOfMemory> {
     let (signature, entries) = filled(alloc)?;
@@ -222,10 +213,12 @@ fn are_found(alloc: Global, tables: &[Table]) -> Result<bool, OutOfMemory> {
 }
 
 fn are_filled(alloc: Global) -> Result<bool, OutOfMemory> {
-    match built(alloc)? {
-        Some(tables) => are_found(alloc, tables.as_slice()),
-        None => Ok(false),
+    let (signature, entries) = filled(alloc)?;
+    if !signature.is_well_formed(alloc)? {
+        return Ok(false);
     }
+    let tables = build_tables(alloc, &signature, &entries)?;
+    are_found(alloc, tables.as_slice())
 }
 
 #[test]

@@ -54,6 +54,9 @@ fn summed_by(algorithm: Algorithm, bits: &Bits) -> u128
     }
 }
 
+/// Bits that the field lists of most calculations don't exceed: room for so many is taken at once.
+const MOST_OFTEN: usize = 512;
+
 /// The bits of these field lists, one behind the other.
 fn inputs_bits(
     alloc: Global,
@@ -63,7 +66,7 @@ fn inputs_bits(
 ) -> Result<Bits, OutOfMemory>
     ensures { IfOk result (λ bits. bits ≡ inputs_bits lists.now state.now.state inputs.now) }
 {
-    let mut bits = Bits::new(alloc);
+    let mut bits = Bits::with_capacity(alloc, MOST_OFTEN)?;
     for list in inputs {
         lists.append(*list, state, &mut bits)?;
     }

@@ -87,3 +87,23 @@ pub fn begin_item(
     put_kept(&mut state, kept)?;
     Ok(state)
 }
+
+/// Makes a state that of another item as its pass begins, as `begin_item` makes one anew; its memory is used again. The one error is want
+/// of memory, and the state isn't used again after it.
+#[tactic(auto, using(crate::proofs::Beginning::item_begins))]
+pub fn begin_again(
+    state: &mut State14,
+    octets: &[u8],
+    port: u16,
+    kind: u32,
+    kept: &Kept14,
+) -> Result<(), OutOfMemory>
+    requires port { IsPort port }
+    requires whole { AreWhole state.old.layout }
+    requires kept { FitsKept state.old.layout kept.now }
+    ensures { OnOk result ((ds : List Decl) → state.old.layout ≡ layout_of ds → state.new ≡ record { layout = layout_of ds; state = with_preserved ds kept.now (new_state ds octets.now port kind) }) }
+{
+    state.renew(octets, port, kind)?;
+    put_kept(state, kept)?;
+    Ok(())
+}

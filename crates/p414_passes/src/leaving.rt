@@ -1,5 +1,5 @@
 // The octets that leave.
-ghost use Rattle.std.specs.Prelude.{◌≡◌, ◌↔◌, ◌%◌, None, ◌++◌, flat_map, IfOk, IsTrue, OnOk};
+ghost use Rattle.std.specs.Prelude.{◌≡◌, ◌≤◌, ◌↔◌, ◌%◌, None, ◌++◌, flat_map, IfOk, IsTrue, OnOk};
 ghost use Rattle.p4x_bits.specs.BitLists.{IsOctets};
 ghost use Rattle.p414_layout.specs.Placed.{total};
 ghost use Rattle.p414_layout.specs.Shapes.{shape_at};
@@ -10,7 +10,7 @@ ghost use Rattle.p414_passes.specs.Leaving.{AreWhole, IsWholeShape, leaving, oct
 
 use p4x_bits::{Octets, OutOfMemory};
 use p414_layout::Shape;
-use p414_state::State14;
+use p414_state::{Standard, State14};
 use std::alloc::Global;
 
 /// Whether there is no stack of this size.
@@ -96,13 +96,23 @@ fn put_instance(out: &mut Octets, state: &State14, instance: u32) -> Result<(), 
     Ok(())
 }
 
+/// The most octets for which room is taken at once.
+const MOST_AT_ONCE: u32 = 2048;
+
+/// About as many octets as a packet that leaves has: as many as it came in with, as far as the program didn't write that.
+fn room_for(state: &State14) -> usize
+    ensures { result ≤ 2048 }
+{
+    state.standard(Standard::PacketLength).min(MOST_AT_ONCE) as usize
+}
+
 /// The octets of a packet that leaves: its valid headers in this order, a stack's elements by index, and behind them what wasn't
 /// parsed (P4_14 1.0.5, "Deparsing"). The one error is want of memory.
 pub fn deparse(alloc: Global, state: &State14, order: &[u32]) -> Result<Octets, OutOfMemory>
     requires { AreWhole state.now.layout }
     ensures { IfOk result (λ out. out ≡ leaving state.now.layout order.now state.now.state) }
 {
-    let mut out = Octets::new(alloc);
+    let mut out = Octets::with_capacity(alloc, room_for(state))?;
     for instance in order {
         put_instance(&mut out, state, *instance)?;
     }

@@ -8,7 +8,7 @@ mod leaving;
 mod order;
 mod states;
 
-pub use begin::{begin_item, put_kept};
+pub use begin::{begin_again, begin_item, put_kept};
 pub use kept::Kept14;
 pub use leaving::{are_whole, deparse};
 pub use order::header_order;

@@ -1,3 +1,4 @@
 -- What the contracts of private functions cite.
 pub mod Ready
 pub mod Ending
+pub mod Kept

@@ -1,5 +1,5 @@
 // How ingress and egress end.
-ghost use Rattle.std.specs.Prelude.{◌≡◌, List, IfOk, option_map};
+ghost use Rattle.std.specs.Prelude.{◌≡◌, List, IfOk, OnOk, option_map};
 ghost use Rattle.fabric.specs.Owned.{IsOwnClone, IsOwnEgress, IsOwnEgressNext, IsOwnIngress, IsOwnIngressNext};
 ghost use Rattle.p414_ast.specs.declared.syntax.Decl.{Decl};
 ghost use Rattle.p414_layout.specs.Shapes.{layout_of};
@@ -139,6 +139,7 @@ impl<'r> ReadyProgram14<'r> {
     ) -> Result<EgressNext<Kept14>, OutOfMemory>
         requires { packet.old.layout ≡ layout_of self.now.loaded.decls }
         ensures is { IfOk result (λ end. end ≡ leaves self.now.loaded.decls (comes_to self.now) packet.old.state packet.old.state.recirculate) }
+        ensures layout { OnOk result (packet.new.layout ≡ packet.old.layout) }
         ensures own { IfOk result (IsOwnEgressNext (own14 (setting_of self.now))) }
     {
         match packet.request(RequestKind::Recirculate) {
@@ -163,6 +164,7 @@ impl<'r> ReadyProgram14<'r> {
     ) -> Result<EgressNext<Kept14>, OutOfMemory>
         requires { packet.old.layout ≡ layout_of self.now.loaded.decls }
         ensures is { IfOk result (λ end. end ≡ egress_way self.now.loaded.decls (comes_to self.now) packet.old.state) }
+        ensures layout { OnOk result (packet.new.layout ≡ packet.old.layout) }
         ensures own { IfOk result (IsOwnEgressNext (own14 (setting_of self.now))) }
     {
         if packet.standard(Standard::EgressSpec) == u32::from(DROP_PORT) {
@@ -179,6 +181,7 @@ impl<'r> ReadyProgram14<'r> {
     ) -> Result<EgressEnd<Kept14, Held14>, OutOfMemory>
         requires { packet.old.layout ≡ layout_of self.now.loaded.decls }
         ensures is { IfOk result (λ end. end ≡ packed_egress self.now.loaded.decls (egress_answer self.now.loaded.decls (comes_to self.now) packet.old.state)) }
+        ensures layout { OnOk result (packet.new.layout ≡ packet.old.layout) }
         ensures own { IfOk result (IsOwnEgress (own14 (setting_of self.now))) }
     {
         let clone = self.ask_egress_clone(alloc, packet)?;

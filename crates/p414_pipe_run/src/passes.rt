@@ -5,10 +5,12 @@ ghost use Rattle.fabric.specs.Owned.{IsOwnEgress, IsOwnIngress};
 ghost use Rattle.match_core.specs.Stores.{shapes_of};
 ghost use Rattle.p414_layout.specs.Shapes.{layout_of};
 ghost use Rattle.p414_sem.specs.Controls.{Setting as Program};
-ghost use Rattle.p414_sem.specs.Passes.{egress14};
+ghost use Rattle.p414_sem.specs.Parsing.{parsed};
+ghost use Rattle.p414_sem.specs.Passes.{begins, egress14, held_of};
 ghost use Rattle.p414_sem.specs.Runs.{Between, events_of};
 ghost use Rattle.p414_sem.specs.Signatures.{signature14};
-ghost use Rattle.p414_pipe_run.specs.Held.{IsOfProgram, shown_held};
+ghost use Rattle.p414_passes.specs.Kept.{FitsKept};
+ghost use Rattle.p414_pipe_run.specs.Held.{IsOfProgram, packed, shown_held};
 ghost use Rattle.p414_pipe_run.specs.Packed.{left_by, own14, packed_egress, packed_ingress, packed_machine};
 ghost use Rattle.p414_pipe_run.specs.Prepared.{comes_to, setting_of};
 ghost use Rattle.p414_pipe_run.specs.internal.Ending.{IsRan, after_held};
@@ -36,15 +38,15 @@ pub struct Passes14<'r, 'e> {
     events: Vec<Event>,
     // Not after want of memory in a control.
     usable: bool,
+    // A state of a packet that isn't used any more.
+    spare: Option<State14>,
 }
 
 impl<'r, 'e> Model for Passes14<'r, 'e> {
     ghost use Rattle.std.specs.Coded.{codes};
-    ghost use Rattle.std.specs.Prelude.{◌≡◌, true};
-    ghost use Rattle.match_core.specs.Stores.{shapes_of};
     ghost use Rattle.p414_ast.specs.contracts.syntax.Decl as declaration;
-    ghost use Rattle.p414_sem.specs.Signatures.{signature14};
     ghost use Rattle.p414_pipe_run.specs.Prepared.{Running};
+    ghost use Rattle.p414_pipe_run.specs.internal.Kept.{AreKept};
 
     ghost Value = { Running };
 
@@ -52,7 +54,7 @@ impl<'r, 'e> Model for Passes14<'r, 'e> {
 
     ghost view = { λ p. record { prepared = p.ready.now; between = record { store = p.store; events = p.events.items } } };
 
-    ghost invariant = { λ p. p.usable ≡ true → p.store.shapes ≡ shapes_of (signature14 p.ready.now.loaded.decls) p.ready.now.loaded.entries };
+    ghost invariant = { λ p. AreKept p.ready.now.loaded p.usable p.store p.spare };
 }
 
 impl<'r, 'e> Passes14<'r, 'e> {
@@ -68,6 +70,7 @@ impl<'r, 'e> Passes14<'r, 'e> {
             store,
             events: Vec::new(alloc),
             usable: true,
+            spare: None,
         }
     }
 
@@ -114,6 +117,27 @@ impl<'r, 'e> Passes14<'r, 'e> {
         self.events.clear();
         self.events.extend_from_slice(events)?;
         Ok(())
+    }
+
+    /// Parses an item. No table was applied.
+    fn hold(&mut self, item: &Item<Kept14>) -> Result<Held14, OutOfMemory>
+        requires port { IsPort item.now.port }
+        requires kept { FitsKept (layout_of self.old.prepared.loaded.decls) item.now.kept }
+        ensures forgotten { OnOk result (self.new ≡ record { prepared = self.old.prepared; between = record { store = self.old.between.store; events = [] } }) }
+        ensures is { IfOk result (λ held. held ≡ packed self.old.prepared.loaded.decls (held_of (parsed self.old.prepared.loaded.decls (begins self.old.prepared.loaded.decls item.now)))) }
+    {
+        let spare = self.spare.take();
+        let held = self.ready.hold(self.alloc, spare, item)?;
+        self.events.clear();
+        Ok(held)
+    }
+
+    /// Keeps the state of a packet that isn't used any more, for the next one.
+    fn keep(&mut self, packet: State14)
+        requires { packet.layout ≡ layout_of self.old.prepared.loaded.decls }
+        ensures { self.new ≡ self.old }
+    {
+        self.spare = Some(packet);
     }
 
     /// No table was applied.
@@ -187,6 +211,7 @@ impl<'r, 'e> Passes14<'r, 'e> {
     ) -> Result<EgressEnd<Kept14, Held14>, OutOfMemory>
         requires port { IsPort port }
         requires layout { packet.old.layout ≡ layout_of self.old.prepared.loaded.decls }
+        ensures layout { OnOk result (packet.new.layout ≡ packet.old.layout) }
         ensures prepared { OnOk result (self.new.prepared ≡ self.old.prepared) }
         ensures is { IfOk result (λ end. end ≡ packed_egress self.old.prepared.loaded.decls (egress14 (setting_of self.old.prepared) self.old.between.store (record { state = packet.old.state; failed = false }) port kind).answer) }
         ensures left { OnOk result (self.new.between ≡ left_by (egress14 (setting_of self.old.prepared) self.old.between.store (record { state = packet.old.state; failed = false }) port kind)) }
@@ -224,15 +249,13 @@ impl<'r, 'e> Passes for Passes14<'r, 'e> {
     }
 
     fn ingress(&mut self, item: &Item<Kept14>) -> Result<IngressEnd<Kept14, Held14>, OutOfMemory> {
-        let held = self.ready.hold(self.alloc, item)?;
-        self.forget();
+        let held = self.hold(item)?;
         let ended = self.go_through(held)?;
         Ok(ended)
     }
 
     fn reparse(&mut self, item: &Item<Kept14>) -> Result<Held14, OutOfMemory> {
-        let held = self.ready.hold(self.alloc, item)?;
-        self.forget();
+        let held = self.hold(item)?;
         Ok(held)
     }
 
@@ -250,6 +273,7 @@ impl<'r, 'e> Passes for Passes14<'r, 'e> {
         }
         let mut packet = packet;
         let ended = self.go_out(&mut packet, port, instance)?;
+        self.keep(packet);
         Ok(ended)
     }
 }

@@ -1,5 +1,5 @@
 // A program that is made ready once for a run.
-ghost use Rattle.std.specs.Prelude.{◌≡◌, IfOk, OnOk};
+ghost use Rattle.std.specs.Prelude.{◌≡◌, IfOk, IfSome, OnOk};
 ghost use Rattle.state_store.specs.Ports.{IsPort};
 ghost use Rattle.match_core.specs.Fits.{Fits};
 ghost use Rattle.match_core.specs.Signatures.{IsSignature};
@@ -29,7 +29,9 @@ use p414_control_run::{ControlStack, ReadyPipelines, ready_pipelines};
 use p414_field_lists::{FieldLists, field_lists14};
 use p414_layout::Layout;
 use p414_parse_run::{Parsed, parse_ready, ready14};
-use p414_passes::{Kept14, are_whole, begin_item, clone_packet, deparse, header_order};
+use p414_passes::{
+    Kept14, are_whole, begin_again, begin_item, clone_packet, deparse, header_order,
+};
 use p414_ready_parser::ReadyParser;
 use p414_state::{State14, layout14};
 use state_store::Store;
@@ -166,14 +168,14 @@ impl<'r> ReadyProgram14<'r> {
         Ok(clone)
     }
 
-    /// Parses an item. The one error is want of memory.
+    /// The state of an item as its pass begins, made anew. The one error is want of memory.
     #[tactic(auto, using(crate::proofs::Steps::whole_now, crate::proofs::Steps::kept_here))]
-    pub(crate) fn hold(&self, alloc: Global, item: &Item<Kept14>) -> Result<Held14, OutOfMemory>
+    fn begin_anew(&self, alloc: Global, item: &Item<Kept14>) -> Result<State14, OutOfMemory>
         requires port { IsPort item.now.port }
         requires kept { FitsKept (layout_of self.now.loaded.decls) item.now.kept }
-        ensures { IfOk result (λ held. held ≡ packed self.now.loaded.decls (held_of (parsed self.now.loaded.decls (begins self.now.loaded.decls item.now)))) }
+        ensures { IfOk result (λ state. state ≡ record { layout = layout_of self.now.loaded.decls; state = begins self.now.loaded.decls item.now }) }
     {
-        let mut packet = begin_item(
+        let state = begin_item(
             alloc,
             &self.layout,
             item.octets.as_slice(),
@@ -181,6 +183,60 @@ impl<'r> ReadyProgram14<'r> {
             item.instance,
             &item.kept,
         )?;
+        Ok(state)
+    }
+
+    /// The same in the memory of a state that isn't used any more.
+    fn begin_in(&self, spare: State14, item: &Item<Kept14>) -> Result<State14, OutOfMemory>
+        requires port { IsPort item.now.port }
+        requires kept { FitsKept (layout_of self.now.loaded.decls) item.now.kept }
+        requires spare { spare.layout ≡ layout_of self.now.loaded.decls }
+        ensures { IfOk result (λ state. state ≡ record { layout = layout_of self.now.loaded.decls; state = begins self.now.loaded.decls item.now }) }
+    {
+        let mut state = spare;
+        // The program's headers are whole octets.
+        let _layout = &self.layout;
+        begin_again(
+            &mut state,
+            item.octets.as_slice(),
+            item.port,
+            item.instance,
+            &item.kept,
+        )?;
+        Ok(state)
+    }
+
+    /// The state of an item as its pass begins, in the memory of one that isn't used any more, where there is such.
+    fn begin(
+        &self,
+        alloc: Global,
+        spare: Option<State14>,
+        item: &Item<Kept14>,
+    ) -> Result<State14, OutOfMemory>
+        requires port { IsPort item.now.port }
+        requires kept { FitsKept (layout_of self.now.loaded.decls) item.now.kept }
+        requires spare { IfSome spare (λ state. state.layout ≡ layout_of self.now.loaded.decls) }
+        ensures { IfOk result (λ state. state ≡ record { layout = layout_of self.now.loaded.decls; state = begins self.now.loaded.decls item.now }) }
+    {
+        match spare {
+            Some(spare) => self.begin_in(spare, item),
+            None => self.begin_anew(alloc, item),
+        }
+    }
+
+    /// Parses an item, in the memory of a state that isn't used any more, where there is such. The one error is want of memory.
+    pub(crate) fn hold(
+        &self,
+        alloc: Global,
+        spare: Option<State14>,
+        item: &Item<Kept14>,
+    ) -> Result<Held14, OutOfMemory>
+        requires port { IsPort item.now.port }
+        requires kept { FitsKept (layout_of self.now.loaded.decls) item.now.kept }
+        requires spare { IfSome spare (λ state. state.layout ≡ layout_of self.now.loaded.decls) }
+        ensures { IfOk result (λ held. held ≡ packed self.now.loaded.decls (held_of (parsed self.now.loaded.decls (begins self.now.loaded.decls item.now)))) }
+    {
+        let mut packet = self.begin(alloc, spare, item)?;
         let end = parse_ready(&self.parser, &mut packet)?;
         Ok(Held14 {
             packet,
@@ -202,7 +258,8 @@ impl<'r> ReadyProgram14<'r> {
     #[tactic(auto, using(crate::proofs::Steps::whole_behind, crate::proofs::Steps::updated_now))]
     pub(crate) fn leave(&self, alloc: Global, packet: &mut State14) -> Result<Octets, OutOfMemory>
         requires { packet.old.layout ≡ layout_of self.now.loaded.decls }
-        ensures { IfOk result (λ out. out ≡ deparsed self.now.loaded.decls (comes_to self.now) (updated self.now.loaded.decls (comes_to self.now) packet.old.state)) }
+        ensures is { IfOk result (λ out. out ≡ deparsed self.now.loaded.decls (comes_to self.now) (updated self.now.loaded.decls (comes_to self.now) packet.old.state)) }
+        ensures layout { OnOk result (packet.new.layout ≡ packet.old.layout) }
     {
         self.fields.update(alloc, &self.calculations, packet)?;
         let out = deparse(alloc, packet, self.order.as_slice())?;

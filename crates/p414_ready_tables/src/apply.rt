@@ -24,7 +24,7 @@ pub fn found_by(
     alloc: Global,
     state: &State14,
     table: &ReadyTable,
-    filled: &Table,
+    filled: &Table<'_>,
 ) -> Result<Option<u32>, OutOfMemory>
     ensures { IfOk result (λ entry. entry ≡ found_by state.now.state table.now filled.now) }
 {

@@ -36,7 +36,7 @@ pub struct ReadyTables<'r> {
     program: &'r Program14,
     entries: &'r Entries,
     tables: Rows<ReadyTable>,
-    filled: Rows<Table>,
+    filled: Rows<Table<'r>>,
     actions: ReadyActions,
 }
 

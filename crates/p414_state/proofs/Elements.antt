@@ -191,6 +191,22 @@ pub made_cells : (shape : Shape) (elements : List Packed) (n m : ℕ) → n ≡ 
 made_cells shape elements n m many room is =
     rw (made shape elements n m many room is) (new_cells shape)
 
+-- all elements made as those of an instance in which nothing is parsed
+
+emptied_alike : (valid : Bool) (room : ℕ) (elements : List Packed) → All (λ (p : Packed). length p.octets ≡ room) elements → map (emptied valid) elements ≡ replicate (length elements) (record { valid = valid; octets = replicate room 0 })
+emptied_alike valid room [] each = refl
+emptied_alike valid room (p ∷ elements) each =
+    ap₂ (λ (q : Packed) (l : List Packed). q ∷ l) (ap (λ (n : ℕ). record { valid = valid; octets = replicate n 0 }) (each 0 p (omega arith)))
+    (emptied_alike valid room elements (λ k d lt. each (suc k) d (omega arith)))
+
+pub renewed : (shape : Shape) (elements all : List Packed) (place n : ℕ) → AreCells shape elements place → length elements ≤ n → all ≡ first_emptied shape.metadata n elements → all ≡ replicate (element_count shape) (record { valid = shape.metadata; octets = replicate (octets_for (total shape.widths)) 0 })
+renewed shape elements all place n cells enough done =
+    done
+    ∙ ap₂ (λ (front back : List Packed). map (emptied shape.metadata) front ++ back) (take_all n elements enough) (drop_all n elements enough)
+    ∙ append-nil (map (emptied shape.metadata) elements)
+    ∙ emptied_alike shape.metadata (octets_for (total shape.widths)) elements (λ k d lt. (cells.each k d lt).room)
+    ∙ ap (λ (k : ℕ). replicate k (record { valid = shape.metadata; octets = replicate (octets_for (total shape.widths)) 0 })) cells.count
+
 -- elements and fields that may not be there
 
 -- what stands at a number in a list whose items were turned into others

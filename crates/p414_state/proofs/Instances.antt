@@ -14,7 +14,7 @@ use Rattle.p414_layout.specs.Shapes.{no_shape, shape_at, blank_of}
 use Rattle.p414_state.specs.declared.standard.StandardFields.{StandardFields}
 use Rattle.p414_state.specs.declared.requests.Requests.{Requests}
 use Rattle.p414_state.specs.Packets.{Packet, with_state, begun_one, begun_all, with_headers_begun, new_packet}
-use Rattle.p414_state.specs.internal.Cells.{Laid, element_in, put_in, put_valid_in, with_element, with_place_of, begun_of, new_laid}
+use Rattle.p414_state.specs.internal.Cells.{Laid, element_in, put_in, put_valid_in, with_element, with_place_of, begun_of, new_laid, renewed_of}
 use Rattle.p414_state.specs.internal.Parts.{shape_of, instance_of, packet_with, packet_of}
 use Rattle.p414_state.proofs.Elements.{got}
 
@@ -224,3 +224,16 @@ new_seen layout instances kept octets events n port kind is same long nothing =
     ∙ ap (λ (l : List Laid). packet_of l kept 0 (record { ingress_port = port; egress_spec = 0; egress_port = 0; packet_length = n; instance_type = kind }) requests []) is
     ∙ ap₂ (λ (l : List Shape) (x : List Instance). packet_with l x kept 0 (record { ingress_port = port; egress_spec = 0; egress_port = 0; packet_length = n; instance_type = kind }) requests []) (new_shapes layout) (new_instances layout)
     ∙ ap₂ (λ (o : List ℕ) (k : ℕ). packet_with layout (map blank_of layout) o 0 (record { ingress_port = port; egress_spec = 0; egress_port = 0; packet_length = k; instance_type = kind }) requests []) same long
+
+-- a packet made new again
+
+pub renewed_turn : (xs now : List Laid) (i : ℕ) (x y : Laid) → i < length xs → now ≡ map renewed_of (take i xs) ++ drop i xs → x ≡ get_or now i x → y ≡ renewed_of x → set now i y ≡ map renewed_of (take (i + 1) xs) ++ drop (i + 1) xs
+renewed_turn xs now i x y inside so_far x_is y_is = rw y_is (map_over_more renewed_of xs now i x inside so_far x_is)
+
+renewed_is : (instances : List Laid) → map renewed_of instances ≡ map new_laid (map shape_of instances)
+renewed_is [] = refl
+renewed_is (x ∷ instances) = ap (λ (l : List Laid). new_laid x.shape ∷ l) (renewed_is instances)
+
+pub renewed_seen : (old instances : List Laid) (kept octets : List ℕ) (events : List Event) (n port kind : ℕ) → instances ≡ map renewed_of old → kept ≡ octets → n ≡ length octets % 2 ^ 32 → events ≡ [] → packet_of instances kept 0 (record { ingress_port = port; egress_spec = 0; egress_port = 0; packet_length = n; instance_type = kind }) (record { clone_i2e = None; clone_e2e = None; resubmit = None; recirculate = None }) events ≡ new_packet (map shape_of old) octets port kind
+renewed_seen old instances kept octets events n port kind is same long nothing =
+    new_seen (map shape_of old) instances kept octets events n port kind (is ∙ renewed_is old) same long nothing

@@ -6,9 +6,9 @@ ghost use Rattle.p414_sem.specs.Packing.{numbers_in, bits_in};
 ghost use Rattle.p414_layout.specs.Placed.{total};
 ghost use Rattle.p414_layout.specs.Shapes.{element_count, last_place, blank_of};
 ghost use Rattle.p414_state.specs.Headers.{header_in, IsPacked, ArePacked, HoldsHeader, HoldsStack, FitsShape};
-ghost use Rattle.p414_state.specs.internal.Cells.{Laid, IsLive, IsDead, element_in, read_in, put_in, put_valid_in, with_all, with_element, with_place_of, begun_of};
+ghost use Rattle.p414_state.specs.internal.Cells.{Laid, IsLive, IsDead, element_in, read_in, put_in, put_valid_in, with_all, with_element, with_place_of, begun_of, new_laid};
 
-use crate::header::{PackedHeader, copy_all, empty_all};
+use crate::header::{PackedHeader, copy_all, empty_all, empty_first};
 use crate::stack::PackedStack;
 use p4x_bits::OutOfMemory;
 use p414_layout::Shape;
@@ -306,6 +306,15 @@ impl InstanceCells {
         ensures { self.new ≡ with_place_of self.old place }
     {
         self.place = place;
+    }
+
+    /// Makes it an instance with all fields 0, invalid where it isn't metadata, at place 0. It takes no memory.
+    pub fn renew(&mut self)
+        ensures { self.new ≡ new_laid self.old.shape }
+    {
+        let count = self.elements.len();
+        self.place = 0;
+        empty_first(&mut self.elements, count, self.shape.metadata);
     }
 
     /// Makes all elements of a header invalid, with all fields 0, and its place 0. Metadata stays.

@@ -9,7 +9,7 @@ ghost use Rattle.p414_layout.specs.Placed.{total};
 ghost use Rattle.p414_layout.specs.Shapes.{shape_at, element_count, last_place, layout_of};
 ghost use Rattle.p414_state.specs.Packets.{Packet, with_state, IsHeader, width_at, standard_bits, new_packet, with_headers_begun};
 ghost use Rattle.p414_state.specs.Headers.{header_in, IsPacked, ArePacked, HoldsHeader, HoldsStack, HasElement, IsWhole, FitsAt};
-ghost use Rattle.p414_state.specs.internal.Cells.{new_laid, begun_of};
+ghost use Rattle.p414_state.specs.internal.Cells.{new_laid, begun_of, renewed_of};
 
 use crate::header::PackedHeader;
 use crate::instance::InstanceCells;
@@ -412,6 +412,15 @@ fn begin_all(instances: &mut Vec<InstanceCells>)
     }
 }
 
+/// Makes all instances those of a state in which nothing is parsed.
+fn renew_all(instances: &mut Vec<InstanceCells>)
+    ensures { instances.new.items ≡ map renewed_of instances.old.items }
+{
+    for index in 0..instances.len() {
+        instances[index].renew();
+    }
+}
+
 /// How many octets there are, as a field of 32 bits keeps it.
 fn length_of(octets: &[u8]) -> u32
     ensures { result ≡ length octets.now % 2 ^ 32 }
@@ -461,5 +470,27 @@ impl State14 {
             requests: NO_REQUESTS,
             events: Vec::new(alloc),
         })
+    }
+
+    /// Makes it the state of another item of these octets, that came in on this port, of this kind, as `of_layout` makes one anew
+    /// for the same layout; the memory is used again. The one error is want of memory, and the state isn't used again after it.
+    pub fn renew(&mut self, octets: &[u8], port: u16, kind: u32) -> Result<(), OutOfMemory>
+        requires { IsPort port }
+        ensures { OnOk result (self.new ≡ new_packet self.old.layout octets.now port kind) }
+    {
+        renew_all(&mut self.instances);
+        self.parsed = 0;
+        self.octets.clear();
+        self.octets.extend_from_slice(octets)?;
+        self.standard = StandardFields {
+            ingress_port: port as u32,
+            egress_spec: 0,
+            egress_port: 0,
+            packet_length: length_of(octets),
+            instance_type: kind,
+        };
+        self.requests = NO_REQUESTS;
+        self.events.clear();
+        Ok(())
     }
 }

@@ -22,9 +22,11 @@ use std::alloc::Global;
 
 /// An action that a table lists, by its control-plane name, with its parameters.
 #[derive(Clone, Copy, Drop)]
-struct Listed<'a> {
-    plane: &'a [u8],
-    parameters: &'a [Param],
+pub struct Listed<'a> {
+    /// The name by which the control plane knows it.
+    pub plane: &'a [u8],
+    /// Its parameters; none where the name isn't declared as an action.
+    pub parameters: &'a [Param],
 }
 
 /// The action that a name is declared as; without parameters where it isn't one.
@@ -50,8 +52,8 @@ fn listed_action<'a>(scope: &Scope<'_, 'a>, name: &'a [u8]) -> Listed<'a>
     listed_sort(scope.sort_of(name), name)
 }
 
-/// The actions that a table lists but for `NoAction`, in the order of the text.
-fn listed_actions<'a>(
+/// The actions that a table in a scope lists but for `NoAction`, in the order of the text. The one error is want of memory.
+pub fn listed_actions<'a>(
     alloc: Global,
     scope: &Scope<'_, 'a>,
     actions: &'a [ActionName],

@@ -21,8 +21,10 @@ use std::alloc::Global;
 /// An object with its control-plane name.
 #[derive(Clone, Copy, Drop)]
 pub struct Found<'a> {
-    plane: &'a [u8],
-    instance: &'a Instance,
+    /// The name by which the control plane knows it.
+    pub plane: &'a [u8],
+    /// What it is declared as.
+    pub instance: &'a Instance,
 }
 
 /// Puts the objects that a control declares last.
@@ -170,8 +172,9 @@ impl<'a> ByName<'a> {
     }
 }
 
-/// The control-plane name of the object that a name in a control means: one of the control's own, else one at the top.
-fn plane_in<'a>(own: &ByName<'a>, top: &ByName<'a>, name: &'a [u8]) -> &'a [u8]
+/// The control-plane name of the object that a name in a control means: one of the control's own, else one at the top, else
+/// the name itself.
+pub fn plane_in<'a>(own: &ByName<'a>, top: &ByName<'a>, name: &'a [u8]) -> &'a [u8]
     ensures { result.now ≡ plane_in (objects_seen own.now) (objects_seen top.now) name.now }
 {
     match own.plane(name) {
@@ -183,8 +186,8 @@ fn plane_in<'a>(own: &ByName<'a>, top: &ByName<'a>, name: &'a [u8]) -> &'a [u8]
     }
 }
 
-/// The number of a name among these, or how many there are.
-fn number_of(numbers: &Numbering<'_>, name: &[u8]) -> Result<u32, OutOfMemory>
+/// The number of a name among these, or how many there are. The one error is want of memory.
+pub fn number_of(numbers: &Numbering<'_>, name: &[u8]) -> Result<u32, OutOfMemory>
     ensures { IfOk result (λ number. number ≡ place_among numbers.now name.now) }
 {
     match numbers.find(name) {
@@ -196,8 +199,10 @@ fn number_of(numbers: &Numbering<'_>, name: &[u8]) -> Result<u32, OutOfMemory>
 /// The numbers of all objects, by their control-plane names, and the objects at the top by their own.
 #[derive(Drop)]
 pub struct Objects<'a> {
-    numbers: Numbering<'a>,
-    top: ByName<'a>,
+    /// The control-plane names of all objects, in the order of their octets.
+    pub numbers: Numbering<'a>,
+    /// The objects at the top, by their own names.
+    pub top: ByName<'a>,
 }
 
 impl<'a> Objects<'a> {

@@ -5,7 +5,7 @@ use Rattle.p4x_io.specs.Files.{Says}
 use Rattle.p4x_fault.specs.declared.Fault.{Fault as Refusal}
 use Rattle.command_words.specs.Words.{CarryFiles}
 use Rattle.file_work.specs.declared.stop.Limited.{Limited}
-use Rattle.file_work.specs.declared.stop.Limited.TheVariants.{Program as TheProgram, Entries, Ports, Capture}
+use Rattle.file_work.specs.declared.stop.Limited.TheVariants.{Program as TheProgram, Entries, Ports, Capture, Text as TheText}
 use Rattle.file_work.specs.declared.stop.Stop.{Stop}
 use Rattle.file_work.specs.declared.stop.Stop.TheVariants.{Fault, Program, Judged, Unfit, Refused, Limit, Memory}
 use Rattle.file_work.specs.Clauses.{ComesWhere}
@@ -61,6 +61,11 @@ module _ (f : CarryFiles) (files : List ℕ → Option (List ℕ)) where
   over_not (inr (inl entries)) = subst EntriesEnd entries.2 (entries_ends (files f.entries))
   over_not (inr (inr ports)) = subst PortsEnd ports.2 (ports_ends files f.ports)
 
+  over_other : StopsBefore f files (Limit TheText) → ⊥
+  over_other (inl program) = not_here (files f.program) (Limit TheText) program (λ is. cc is) (λ is. omega arith)
+  over_other (inr (inl entries)) = subst EntriesEnd entries.2 (entries_ends (files f.entries))
+  over_other (inr (inr ports)) = subst PortsEnd ports.2 (ports_ends files f.ports)
+
   -- a limit that is passed is that of the program or of the ports, or these are taken
   over_or_on : (file : Limited) → StopsOrGoesOn {A = List ℕ} (StopsBefore f files) (TakesPorts f files) OfPorts (Err (Limit file)) → (OverText f.program files ⊎ OverPorts f files) ⊎ TakesPorts f files
   over_or_on TheProgram so =
@@ -72,6 +77,10 @@ module _ (f : CarryFiles) (files : List ℕ → Option (List ℕ)) where
   over_or_on Ports so = inl (inr (over_ports (stops_by_own (StopsBefore f files) (TakesPorts f files) OfPorts (Limit Ports) (λ is. cc is) (λ is. cc is) (inr refl) so)))
   over_or_on Capture so = elim (stops_or_on (StopsBefore f files) (TakesPorts f files) OfPorts (Limit Capture) (λ is. cc is) (λ is. cc is) so) [
     | inl is ↦ absurd (over_not is)
+    | inr on ↦ inr on.0
+  ]
+  over_or_on TheText so = elim (stops_or_on (StopsBefore f files) (TakesPorts f files) OfPorts (Limit TheText) (λ is. cc is) (λ is. cc is) so) [
+    | inl is ↦ absurd (over_other is)
     | inr on ↦ inr on.0
   ]
 
@@ -87,6 +96,10 @@ module _ (f : CarryFiles) (files : List ℕ → Option (List ℕ)) where
   ]
   text_or_on Capture so = elim (stops_or_on (StopsAtProgram f files) (TakesProgram f files) OfProgram (Limit Capture) (λ is. cc is) (λ is. cc is) so) [
     | inl is ↦ absurd (not_here (files f.program) (Limit Capture) is (λ is. cc is) (λ is. omega arith))
+    | inr on ↦ inr on.0
+  ]
+  text_or_on TheText so = elim (stops_or_on (StopsAtProgram f files) (TakesProgram f files) OfProgram (Limit TheText) (λ is. cc is) (λ is. cc is) so) [
+    | inl is ↦ absurd (not_here (files f.program) (Limit TheText) is (λ is. cc is) (λ is. omega arith))
     | inr on ↦ inr on.0
   ]
 

@@ -3,9 +3,9 @@ use Rattle.std.proofs.Common.{◌≡◌, ◌⊎◌, inl, inr, ℕ, List, Option,
 use Rattle.p414_ast.specs.declared.syntax.Syntax14.{Syntax14}
 use Rattle.p414_one_table.specs.declared.program.OneTable14.{OneTable14}
 use Rattle.p414_one_table.specs.Form.{one_table_of}
-use Rattle.file_work.specs.declared.stop.Limited.TheVariants.{Program as TheProgram, Entries, Ports, Capture}
+use Rattle.file_work.specs.declared.stop.Limited.TheVariants.{Program as TheProgram, Entries, Ports, Capture, Text as TheText}
 use Rattle.file_work.specs.declared.stop.Stop.{Stop}
-use Rattle.file_work.specs.declared.stop.Stop.TheVariants.{Fault, Usage, Program, Judged, Unfit, Refused, Limit, Memory}
+use Rattle.file_work.specs.declared.stop.Stop.TheVariants.{Fault, Usage, Program, Judged, Unfit, Refused, Limit, Memory, Text}
 use Rattle.file_work.proofs.Order.{loosely_as}
 use Rattle.program_commands.specs.Answers as answered
 use Rattle.program_commands.specs.Programs as programs
@@ -26,6 +26,8 @@ rank Fault = 4
 rank Usage = 4
 rank (Refused fault) = 4
 rank Memory = 4
+rank (Text fault) = 4
+rank (Limit TheText) = 4
 
 pub rank_program : (stop : Stop) → OfProgram stop → rank stop ≡ 1
 rank_program stop (inl is) = ap rank is
@@ -40,7 +42,9 @@ file_stops o Program is = inr (inl refl)
 file_stops o (Judged fault) is = inr (inr (inl (fault, refl)))
 file_stops o (Limit TheProgram) is = inr (inr (inr refl))
 file_stops None (Limit Entries) is = absurd is
+file_stops None (Limit TheText) is = absurd is
 file_stops (Some text) (Limit Entries) is = absurd is
+file_stops (Some text) (Limit TheText) is = absurd is
 file_stops None (Limit Ports) is = absurd is
 file_stops (Some text) (Limit Ports) is = absurd is
 file_stops None (Limit Capture) is = absurd is
@@ -48,7 +52,9 @@ file_stops (Some text) (Limit Capture) is = absurd is
 file_stops None Usage is = absurd is
 file_stops (Some text) Usage is = absurd is
 file_stops None (Unfit fault) is = absurd is
+file_stops None (Text fault) is = absurd is
 file_stops (Some text) (Unfit fault) is = absurd is
+file_stops (Some text) (Text fault) is = absurd is
 file_stops None (Refused fault) is = absurd is
 file_stops (Some text) (Refused fault) is = absurd is
 file_stops None Memory is = absurd is
@@ -84,6 +90,7 @@ module _ (o : Option (List ℕ)) where
       none (Some text) is = is
   as_stop (Judged fault) is = is
   as_stop (Unfit fault) is = is
+  as_stop (Text fault) is = is
   as_stop (Refused fault) is = is
   as_stop (Limit file) is = is
   as_stop Memory is = is
@@ -100,6 +107,7 @@ module _ (o : Option (List ℕ)) where
   whence (Err Program) is = inr (refl, is)
   whence (Err (Judged fault)) is = inl is
   whence (Err (Unfit fault)) is = inl is
+  whence (Err (Text fault)) is = inl is
   whence (Err (Refused fault)) is = inl is
   whence (Err (Limit file)) is = inl is
   whence (Err Memory) is = inl is

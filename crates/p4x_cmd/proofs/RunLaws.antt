@@ -2,6 +2,7 @@
 use Rattle.std.proofs.Common.{◌≡◌, ℕ, zero, suc, ◌+◌, ◌%◌, List, [], ◌∷◌, map, sum, refl, sym, ◌∙◌, ap, arith}
 use Rattle.std.proofs.lemmas.List.Sums.{sum_by-cons}
 use Rattle.std.specs.List.{sum_by}
+use Rattle.state_store.specs.State.{Contents}
 use Rattle.p4x_bits.specs.BitLists.{IsOctets}
 use Rattle.fabric.specs.declared.packets.Arrival.{Arrival}
 use Rattle.p414_one_table.specs.declared.program.Field.{Field}
@@ -19,7 +20,7 @@ use Rattle.p4x_cmd.specs.Runs.{this_run}
 use Rattle.p4x_cmd.proofs.Pass16.{pass16_is, no_default, TakesAction}
 
 -- one more packet
-abbrev pub once : (Arrival → Pass) → ℕ → Arrival → Ran
+abbrev pub once : (Arrival → Pass) → ℕ → Arrival → Ran Contents
 once f number a = record { sent = sent_from number (f a).end; store = no_store; cut = 0; work = (f a).work }
 
 pub sum_of_widths : (fields : List Field) → sum (map (λ x. x.width.value) (map bit_field fields)) ≡ sum_by (λ f. f.width) fields
@@ -44,8 +45,8 @@ sent_is number (leaves port octets) = refl
 run_by : (q : OneTable16) (bound number : ℕ) (arrivals : List Arrival) → run_from (own_pass q) (suc bound) no_store number arrivals ≡ running.run_from (own_outcome q) number no_store arrivals
 run_by q bound number [] = refl
 run_by q bound number (a ∷ arrivals) =
-    ap (λ (r : Ran). followed (once (own_pass q) number a) r) (run_by q bound (number + 1) arrivals)
-    ∙ ap (λ (l : List Sent). let one : Ran = record { sent = l; store = no_store; cut = 0; work = (own_pass q a).work } in followed one (running.run_from (own_outcome q) (number + 1) no_store arrivals))
+    ap (λ (r : Ran Contents). followed (once (own_pass q) number a) r) (run_by q bound (number + 1) arrivals)
+    ∙ ap (λ (l : List Sent). let one : Ran Contents = record { sent = l; store = no_store; cut = 0; work = (own_pass q a).work } in followed one (running.run_from (own_outcome q) (number + 1) no_store arrivals))
     (sent_is number (own_pass q a).end)
 
 -- the run of the program is the run of its pass, under each bound

@@ -3,9 +3,9 @@ use Rattle.std.proofs.Common.{◌≡◌, ◌⊎◌, inl, inr, ℕ, ◌==◌, Mat
 use Rattle.p4x_fault.specs.declared.Fault.{Fault as Refusal}
 use Rattle.p4x_io.specs.Desk.{DeskView}
 use Rattle.p414_one_table.specs.declared.program.OneTable14.{OneTable14}
-use Rattle.file_work.specs.declared.stop.Limited.TheVariants.{Program as TheProgram, Entries, Ports, Capture}
+use Rattle.file_work.specs.declared.stop.Limited.TheVariants.{Program as TheProgram, Entries, Ports, Capture, Text as TheText}
 use Rattle.file_work.specs.declared.stop.Stop.{Stop}
-use Rattle.file_work.specs.declared.stop.Stop.TheVariants.{Fault, Usage, Program, Judged, Unfit, Refused, Limit, Memory}
+use Rattle.file_work.specs.declared.stop.Stop.TheVariants.{Fault, Usage, Program, Judged, Unfit, Refused, Limit, Memory, Text}
 use Rattle.p4x_cmd.specs.Calls.{CarryStatuses, Accepts, RefusesProgram, RefusesEntries, RefusesPorts, RefusesCapture, OverPorts, OverCapture}
 use Rattle.program_commands.specs.Commands.{OverText}
 use Rattle.p4x_cmd.specs.Carry.{CarryDue, ProgramIs, ComesOnce, HasProgram, Begins, StopsBefore, OfProgram, entries_stop, not_taken, carry_lines, carried_word}
@@ -115,6 +115,7 @@ module _ (f : CarryFiles) (files : List ℕ → Option (List ℕ)) where
   entries_cause p taken Program end is = absurd end
   entries_cause p taken (Judged fault) end is = absurd end
   entries_cause p taken (Unfit fault) end is = (p, taken, is ∙ ap (λ (x : Refusal). Some (Unfit x)) end)
+  entries_cause p taken (Text fault) end is = absurd end
   entries_cause p taken (Refused fault) end is = absurd end
   entries_cause p taken (Limit file) end is = absurd end
   entries_cause p taken Memory end is = absurd end
@@ -125,9 +126,11 @@ module _ (f : CarryFiles) (files : List ℕ → Option (List ℕ)) where
   ports_cause p has Program end is = absurd end
   ports_cause p has (Judged fault) end is = absurd end
   ports_cause p has (Unfit fault) end is = absurd end
+  ports_cause p has (Text fault) end is = absurd end
   ports_cause p has (Refused fault) end is = inl (p, has, (fault, is))
   ports_cause p has (Limit TheProgram) end is = absurd end
   ports_cause p has (Limit Entries) end is = absurd end
+  ports_cause p has (Limit TheText) end is = absurd end
   ports_cause p has (Limit Ports) end is = inr (inl (p, has, is))
   ports_cause p has (Limit Capture) end is = absurd end
   ports_cause p has Memory end is = absurd end
@@ -144,9 +147,11 @@ module _ (f : CarryFiles) (files : List ℕ → Option (List ℕ)) where
   capture_cause p ports begins (Some Program) is = absurd is
   capture_cause p ports begins (Some (Judged fault)) is = absurd is
   capture_cause p ports begins (Some (Unfit fault)) is = absurd is
+  capture_cause p ports begins (Some (Text fault)) is = absurd is
   capture_cause p ports begins (Some (Refused fault)) is = inr (p, ports, begins, (fault, is))
   capture_cause p ports begins (Some (Limit TheProgram)) is = absurd is
   capture_cause p ports begins (Some (Limit Entries)) is = absurd is
+  capture_cause p ports begins (Some (Limit TheText)) is = absurd is
   capture_cause p ports begins (Some (Limit Ports)) is = absurd is
   capture_cause p ports begins (Some (Limit Capture)) is = inr (inr (p, ports, begins, is))
   capture_cause p ports begins (Some Memory) is = absurd is

@@ -1,5 +1,6 @@
 -- What the clauses of `p4x` say, by its words (this project's own).
 use Rattle.std.specs.Prelude.{◌≡◌, ◌⊎◌, ◌≤◌, ◌%◌, ◌^◌, ℕ, Bool, List, [], ◌∷◌, All, length, Option, Some, None, Result, Ok, Err, IfErr, OnOk}
+use Rattle.state_store.specs.State.{Contents}
 use Rattle.p416_ast.specs.declared.program.Syntax16.{Syntax16}
 use Rattle.p4x_fault.specs.declared.Fault.{Fault as Refusal}
 use Rattle.p4x_io.specs.Desk.{DeskView, SinkView, Rose, put, said}
@@ -79,7 +80,7 @@ pub record Carried (f : CarryFiles) (files : Held) (new : DeskView) (before afte
   pub packets : All IsArrival arrivals
   pub formed : IsSignature (signature16 program)
   pub given : Fits (no_entries (signature16 program)) (signature16 program)
-  pub ran : Ran
+  pub ran : Ran Contents
   pub bound : IsBound f.passes
   pub runs : ran ≡ this_run program f.passes arrivals
   pub same : SameRuns (this_run14 source f.passes arrivals) ran

@@ -1,5 +1,6 @@
 -- That a program of P4_16 carries a program of P4_14: both do the same with every packet (this project's own).
 use Rattle.std.specs.Prelude.{◌≡◌, ℕ, List, All}
+use Rattle.state_store.specs.State.{Contents}
 use Rattle.p416_ast.specs.declared.program.Syntax16.{Syntax16}
 use Rattle.match_core.specs.declared.entries.Entries.{Entries}
 use Rattle.match_core.specs.Fits.{Fits}
@@ -11,7 +12,7 @@ use Rattle.p4x_cmd.specs.Meaning16.{Run16, signature16}
 use Rattle.run_stream.specs.Runs.{Ran}
 
 -- equal packets on equal ports in the same order, equal stores, equally many items cut
-pub record SameRuns (a b : Ran) : Type 0 where
+pub record SameRuns (a b : Ran Contents) : Type 0 where
   pub sent : a.sent ≡ b.sent
   pub store : a.store ≡ b.store
   pub cut : a.cut ≡ b.cut

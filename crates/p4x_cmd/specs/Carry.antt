@@ -1,5 +1,6 @@
 -- The command `carry`: what is due for what its input files hold (this project's own).
 use Rattle.std.specs.Prelude.{◌≡◌, ◌⊎◌, ℕ, true, List, [], ◌∷◌, codes, Option, Some, None, option_to_list, Result, Ok, Err}
+use Rattle.state_store.specs.State.{Contents}
 use Rattle.p416_ast.specs.declared.program.Syntax16.{Syntax16}
 use Rattle.p416_reader.specs.Reading.{Reads16}
 use Rattle.p416_rules.specs.Breaks.{BreaksNone, program_rules}
@@ -132,7 +133,7 @@ pub record Written (p : OneTable14) (text : List ℕ) (s : Syntax16) : Type 0 wh
   pub carries : Carries p s
 
 -- the report ends with the work, since the program has no counters and no registers
-abbrev pub carry_lines : EndLines
+abbrev pub carry_lines : EndLines Contents
 carry_lines store work = work_line work
 
 -- what the file of the capture comes to, under this bound on passes, with packets on these ports

@@ -2,6 +2,7 @@
 -- P4_14 1.0.5, "Parser Specification", "Standard Intrinsic Metadata", "Actions", "Deparsing", "Table Declarations" and
 -- "Packet Processing and Control Flow".
 use Rattle.std.specs.Prelude.{ℕ, zero, suc, ◌*◌, ◌/◌, ◌%◌, ◌^◌, Bool, true, false, ◌==◌, if◌then◌else◌, nat_lt, List, [], ◌∷◌, ◌++◌, length, map, sum, drop, Option, Some, None}
+use Rattle.state_store.specs.State.{Contents}
 use Rattle.p4x_bits.specs.BitLists.{octet_bits}
 use Rattle.state_store.specs.Ports.{drop_port}
 use Rattle.match_core.specs.declared.signatures.TableSig.{TableSig}
@@ -108,5 +109,5 @@ abbrev pub signature14 : OneTable14 → Signature
 signature14 p = record { tables = table14 p ∷ []; objects = [] }
 
 -- what the program does on a list of arrivals
-unfoldable pub Run14 : OneTable14 → Entries → ℕ → List Arrival → Ran
+unfoldable pub Run14 : OneTable14 → Entries → ℕ → List Arrival → Ran Contents
 Run14 p e bound arrivals = run_of (pass14 p e) bound (first_store (signature14 p) e) arrivals

@@ -4,6 +4,7 @@
 -- parsing", "Control blocks" and "Deparsing"; v1model.p4 (blocks, standard_metadata_t, mark_to_drop).
 use Rattle.std.specs.Prelude.{ℕ, zero, suc, ◌+◌, ◌*◌, ◌/◌, ◌%◌, ◌^◌, Bool, true, false, ◌==◌, ◌&&◌, if◌then◌else◌, nat_lt, List, [], ◌∷◌, ◌++◌, length, map, sum, drop, codes, Option, Some, None, slice_index_or}
 use Rattle.std.specs.Str.{bytes_eq}
+use Rattle.state_store.specs.State.{Contents}
 use Rattle.p4x_bits.specs.BitLists.{octet_bits}
 use Rattle.state_store.specs.Ports.{drop_port}
 use Rattle.match_core.specs.declared.signatures.ActionSig.{ActionSig}
@@ -471,5 +472,5 @@ abbrev pub signature16 : Syntax16 → Signature
 signature16 s = record { tables = tables_of s.decls; objects = [] }
 
 -- what the program does on a list of arrivals, with the count of its work
-unfoldable pub Run16 : Syntax16 → Entries → ℕ → List Arrival → Ran
+unfoldable pub Run16 : Syntax16 → Entries → ℕ → List Arrival → Ran Contents
 Run16 s e bound arrivals = run_of (pass16 s e) bound (first_store (signature16 s) e) arrivals

@@ -23,18 +23,18 @@ sent_from number (leaves port octets) = record { arrival = number; port = port; 
 
 -- A packet that arrives is the first item of its queue. While fewer than `bound` passes were made the first item is
 -- taken; what remains is cut.
-abbrev pub served : (Arrival → Pass) → ℕ → Contents → ℕ → Arrival → Ran
+abbrev pub served : (Arrival → Pass) → ℕ → Contents → ℕ → Arrival → Ran Contents
 served pass zero store number arrival = record { sent = []; store = store; cut = 1; work = 0 }
 served pass (suc bound) store number arrival =
     let p = pass arrival in
     record { sent = sent_from number p.end; store = store; cut = 0; work = p.work }
 
 -- The run over arrivals that are numbered from a number on. No pass changes the store.
-abbrev pub run_from : (Arrival → Pass) → ℕ → Contents → ℕ → List Arrival → Ran
+abbrev pub run_from : (Arrival → Pass) → ℕ → Contents → ℕ → List Arrival → Ran Contents
 run_from pass bound store number [] = record { sent = []; store = store; cut = 0; work = 0 }
 run_from pass bound store number (a ∷ arrivals) =
     followed (served pass bound store number a) (run_from pass bound store (number + 1) arrivals)
 
 -- the run over arrivals from number 0 on
-abbrev pub run_of : (Arrival → Pass) → ℕ → Contents → List Arrival → Ran
+abbrev pub run_of : (Arrival → Pass) → ℕ → Contents → List Arrival → Ran Contents
 run_of pass bound store arrivals = run_from pass bound store 0 arrivals

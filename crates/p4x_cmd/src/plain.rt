@@ -1,5 +1,6 @@
 // The written program as a runner of packets.
 ghost use Rattle.std.specs.Prelude.{◌≡◌, ◌≤◌, ◌+◌, ◌%◌, ◌^◌, sum_by, IfOk, OnOk};
+ghost use Rattle.state_store.specs.State.{Contents};
 ghost use Rattle.state_store.specs.Ports.{drop_port};
 ghost use Rattle.fabric.specs.Numbers.{IsArrival};
 ghost use Rattle.one_table_text.specs.declared.one_table.OneTable16.{OneTable16 as Program};
@@ -85,6 +86,8 @@ impl<'a> Runner for Plain<'a> {
     ghost Setting = { Program };
 
     ghost setting = { λ plain. plain.program.now };
+
+    ghost Store = { Contents };
 
     ghost outcome = { own_outcome };
 

@@ -3,7 +3,7 @@ use Rattle.std.proofs.Common.{◌≡◌, inl, inr, ℕ, ◌<◌, ◌≤◌, List
 use Rattle.p414_ast.specs.declared.syntax.Syntax14.{Syntax14}
 use Rattle.file_work.specs.declared.stop.Limited.TheVariants as limited
 use Rattle.file_work.specs.declared.stop.Stop.{Stop}
-use Rattle.file_work.specs.declared.stop.Stop.TheVariants.{Fault, Usage, Program, Judged, Unfit, Refused, Limit, Memory}
+use Rattle.file_work.specs.declared.stop.Stop.TheVariants.{Fault, Usage, Program, Judged, Unfit, Refused, Limit, Memory, Text}
 use Rattle.program_commands.specs.Programs.{program_limit, TextIs, ProgramIs}
 use Rattle.program_commands.specs.Answers.{AnswersFile}
 use Rattle.program_commands.specs.internal.Judged.{AnswersText}
@@ -17,9 +17,11 @@ within text answer fits only (Err Usage) is = absurd is
 within text answer fits only (Err Program) is = absurd is
 within text answer fits only (Err (Judged fault)) is = only (Err (Judged fault)) is.1
 within text answer fits only (Err (Unfit fault)) is = absurd is
+within text answer fits only (Err (Text fault)) is = absurd is
 within text answer fits only (Err (Refused fault)) is = absurd is
 within text answer fits only (Err (Limit limited.Program)) is = let over : program_limit < length text = is in absurd (omega arith)
 within text answer fits only (Err (Limit limited.Entries)) is = absurd is
+within text answer fits only (Err (Limit limited.Text)) is = absurd is
 within text answer fits only (Err (Limit limited.Ports)) is = absurd is
 within text answer fits only (Err (Limit limited.Capture)) is = absurd is
 within text answer fits only (Err Memory) is = absurd is
@@ -31,6 +33,7 @@ file_within text (Err Usage) fits is = absurd is.0
 file_within text (Err Program) fits is = absurd is.0
 file_within text (Err (Judged fault)) fits is = inr (inr ((fits, is.0), within text (Err (Judged fault)) fits is.1))
 file_within text (Err (Unfit fault)) fits is = absurd is.0
+file_within text (Err (Text fault)) fits is = absurd is.0
 file_within text (Err (Refused fault)) fits is = absurd is.0
 file_within text (Err (Limit file)) fits is = absurd is.0
 file_within text (Err Memory) fits is = inr (inl refl)
@@ -43,9 +46,11 @@ beyond text over (Err Usage) is = absurd is
 beyond text over (Err Program) is = absurd is
 beyond text over (Err (Judged fault)) is = let fits : length text ≤ program_limit = is.0 in absurd (omega arith)
 beyond text over (Err (Unfit fault)) is = absurd is
+beyond text over (Err (Text fault)) is = absurd is
 beyond text over (Err (Refused fault)) is = absurd is
 beyond text over (Err (Limit limited.Program)) is = refl
 beyond text over (Err (Limit limited.Entries)) is = absurd is
+beyond text over (Err (Limit limited.Text)) is = absurd is
 beyond text over (Err (Limit limited.Ports)) is = absurd is
 beyond text over (Err (Limit limited.Capture)) is = absurd is
 beyond text over (Err Memory) is = absurd is

@@ -5,7 +5,7 @@ use Rattle.p414_ast.specs.declared.syntax.Syntax14.{Syntax14}
 use Rattle.p414_reader.specs.Reading.{Reads14}
 use Rattle.file_work.specs.declared.stop.Limited.TheVariants as limited
 use Rattle.file_work.specs.declared.stop.Stop.{Stop}
-use Rattle.file_work.specs.declared.stop.Stop.TheVariants.{Fault, Usage, Program, Judged, Unfit, Refused, Limit, Memory}
+use Rattle.file_work.specs.declared.stop.Stop.TheVariants.{Fault, Usage, Program, Judged, Unfit, Refused, Limit, Memory, Text}
 use Rattle.program_commands.specs.Answers.{IsAlone, ComesOnce}
 use Rattle.program_commands.specs.Programs.{ReadsOnce, ProgramIs}
 
@@ -18,6 +18,7 @@ file_stops None Usage is = absurd is
 file_stops None Program is = absurd is
 file_stops None (Judged fault) is = absurd is
 file_stops None (Unfit fault) is = absurd is
+file_stops None (Text fault) is = absurd is
 file_stops None (Refused fault) is = absurd is
 file_stops None (Limit file) is = absurd is
 file_stops None Memory is = absurd is
@@ -26,9 +27,11 @@ file_stops (Some text) Usage is = absurd is
 file_stops (Some text) Program is = absurd is
 file_stops (Some text) (Judged fault) is = inr (inl (fault, refl))
 file_stops (Some text) (Unfit fault) is = absurd is
+file_stops (Some text) (Text fault) is = absurd is
 file_stops (Some text) (Refused fault) is = absurd is
 file_stops (Some text) (Limit limited.Program) is = inr (inr refl)
 file_stops (Some text) (Limit limited.Entries) is = absurd is
+file_stops (Some text) (Limit limited.Text) is = absurd is
 file_stops (Some text) (Limit limited.Ports) is = absurd is
 file_stops (Some text) (Limit limited.Capture) is = absurd is
 file_stops (Some text) Memory is = absurd is

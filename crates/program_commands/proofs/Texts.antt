@@ -7,7 +7,7 @@ use Rattle.p414_rules.specs.Breaks.{Breaks14, rule_fault}
 use Rattle.p414_reader.specs.Reading.{Reads14, IsRefused14}
 use Rattle.p414_body_check.specs.Answers.{IsAccepted}
 use Rattle.file_work.specs.declared.stop.Stop.{Stop}
-use Rattle.file_work.specs.declared.stop.Stop.TheVariants.{Fault, Usage, Program, Judged, Unfit, Refused, Limit, Memory}
+use Rattle.file_work.specs.declared.stop.Stop.TheVariants.{Fault, Usage, Program, Judged, Unfit, Refused, Limit, Memory, Text}
 use Rattle.program_commands.specs.Programs.{ReadsOnce, IsTaken, BreaksRule, IsRefused, TextIs}
 use Rattle.program_commands.specs.internal.Judged.{AnswersSyntax, AnswersText}
 use Rattle.program_commands.proofs.Rules.{rule_once, accepted_not}
@@ -21,6 +21,7 @@ other_is text answer taken refused (Err Usage) is = absurd is
 other_is text answer taken refused (Err Program) is = absurd is
 other_is text answer taken refused (Err (Judged fault)) is = refused fault is
 other_is text answer taken refused (Err (Unfit fault)) is = absurd is
+other_is text answer taken refused (Err (Text fault)) is = absurd is
 other_is text answer taken refused (Err (Refused fault)) is = absurd is
 other_is text answer taken refused (Err (Limit file)) is = absurd is
 other_is text answer taken refused (Err Memory) is = absurd is
@@ -60,6 +61,7 @@ module _ (text : List ℕ) (s : Syntax14) (reads : Reads14 text s) (one : (other
           let own = breaks_own other refused in
           ap (λ (f : Refusal). Err (Judged f)) (own.2 ∙ ap rule_fault (rule_once s own.0 is.0 own.1 is.1) ∙ sym is.2)
   judged_text (Err (Unfit fault)) is = absurd is
+  judged_text (Err (Text fault)) is = absurd is
   judged_text (Err (Refused fault)) is = absurd is
   judged_text (Err (Limit file)) is = absurd is
   judged_text (Err Memory) is = tt

@@ -1,6 +1,7 @@
 -- What the wrong programs send of one packet, beside what the sample sends.
 use Rattle.std.proofs.Common.{◌≡◌, ◌<◌, ℕ, zero, suc, All, List, [], ◌∷◌, ◌++◌, length, drop, Some, refl, sym, ◌∙◌, ap, arith}
 use Rattle.std.proofs.lemmas.List.Elements.{All-cons}
+use Rattle.state_store.specs.State.{Contents}
 use Rattle.p416_ast.specs.declared.program.Syntax16.{Syntax16}
 use Rattle.fabric.specs.Numbers.{IsArrival}
 use Rattle.fabric.specs.declared.packets.Arrival.{Arrival}
@@ -44,10 +45,10 @@ arrives n zero d inside = record { octets = all_zeros n; port = omega arith; sec
 arrives n (suc k) d inside = absurd (omega arith)
 
 -- the runs over one packet
-abbrev run14 : ℕ → Ran
+abbrev run14 : ℕ → Ran Contents
 run14 n = Run14 sample (no_entries (signature14 sample)) 1 (packet n ∷ [])
 
-abbrev run16 : Syntax16 → ℕ → Ran
+abbrev run16 : Syntax16 → ℕ → Ran Contents
 run16 s n = Run16 s (no_entries (signature14 sample)) 1 (packet n ∷ [])
 
 same_sent : (s : Syntax16) (n : ℕ) → Carries sample s → (run14 n).sent ≡ (run16 s n).sent

@@ -6,7 +6,7 @@ use Rattle.p4x_fault.specs.declared.Fault.{Fault as Refusal}
 use Rattle.match_core.specs.declared.entries.Entries.{Entries as Filling}
 use Rattle.command_words.specs.Words.{Run14Files}
 use Rattle.file_work.specs.declared.stop.Limited.{Limited}
-use Rattle.file_work.specs.declared.stop.Limited.TheVariants.{Program as TheProgram, Entries, Ports, Capture}
+use Rattle.file_work.specs.declared.stop.Limited.TheVariants.{Program as TheProgram, Entries, Ports, Capture, Text as TheText}
 use Rattle.file_work.specs.declared.stop.Stop.{Stop}
 use Rattle.file_work.specs.declared.stop.Stop.TheVariants.{Program, Judged, Unfit, Refused, Limit}
 use Rattle.file_work.specs.Phases.{StopsOrGoesOn}
@@ -55,6 +55,10 @@ module _ (f : Run14Files) (files : List ℕ → Option (List ℕ)) where
   no_capture (inl program) = not_here (files f.program) (Limit Capture) program (λ is. cc is) (λ is. omega arith)
   no_capture (inr entries) = entries_end entries.0 (Err (Limit Capture)) entries.2
 
+  no_text : StopsAtEntries f files (Limit TheText) → ⊥
+  no_text (inl program) = not_here (files f.program) (Limit TheText) program (λ is. cc is) (λ is. omega arith)
+  no_text (inr entries) = entries_end entries.0 (Err (Limit TheText)) entries.2
+
   no_refusal : (fault : Refusal) → StopsAtEntries f files (Refused fault) → ⊥
   no_refusal fault (inl program) = not_here (files f.program) (Refused fault) program (λ is. cc is) (λ is. omega arith)
   no_refusal fault (inr entries) = entries_end entries.0 (Err (Refused fault)) entries.2
@@ -68,22 +72,26 @@ module _ (f : Run14Files) (files : List ℕ → Option (List ℕ)) where
   over_before Entries (inl entries) = inr (inl (over_entries entries))
   over_before Ports (inl entries) = absurd (no_ports entries)
   over_before Capture (inl entries) = absurd (no_capture entries)
+  over_before TheText (inl entries) = absurd (no_text entries)
   over_before TheProgram (inr ports) = absurd (subst PortsEnd ports.3 (ports_ends files f.ports))
   over_before Entries (inr ports) = absurd (subst PortsEnd ports.3 (ports_ends files f.ports))
   over_before Ports (inr ports) = inr (inr ports)
   over_before Capture (inr ports) = absurd (subst PortsEnd ports.3 (ports_ends files f.ports))
+  over_before TheText (inr ports) = absurd (subst PortsEnd ports.3 (ports_ends files f.ports))
 
   over_at_entries : (file : Limited) → StopsAtEntries f files (Limit file) → OverText f.program files ⊎ OverEntries f files
   over_at_entries TheProgram is = inl (text_of is)
   over_at_entries Entries is = inr (over_entries is)
   over_at_entries Ports is = absurd (no_ports is)
   over_at_entries Capture is = absurd (no_capture is)
+  over_at_entries TheText is = absurd (no_text is)
 
   over_at_program : (file : Limited) → StopsAtProgram f files (Limit file) → OverText f.program files
   over_at_program TheProgram is = is
   over_at_program Entries is = absurd (not_here (files f.program) (Limit Entries) is (λ so. cc so) (λ so. omega arith))
   over_at_program Ports is = absurd (not_here (files f.program) (Limit Ports) is (λ so. cc so) (λ so. omega arith))
   over_at_program Capture is = absurd (not_here (files f.program) (Limit Capture) is (λ so. cc so) (λ so. omega arith))
+  over_at_program TheText is = absurd (not_here (files f.program) (Limit TheText) is (λ so. cc so) (λ so. omega arith))
 
   module _ (once : ComesOnce (files f.program)) (status : ℕ) (before after : SinkView) (end : Result (List ℕ) Stop) (says : Says (line_of end) (code_of end) status before after) where
     due : (code : ℕ) → (code ≡ 1 → ⊥) → status ≡ code → code_of end ≡ code

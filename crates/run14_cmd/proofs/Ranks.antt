@@ -1,8 +1,8 @@
 -- Where a stop comes from, in the order of the work.
 use Rattle.std.proofs.Common.{◌≡◌, inl, inr, ℕ, ◌≤◌, List, Option, Err, ap, arith}
-use Rattle.file_work.specs.declared.stop.Limited.TheVariants.{Program as TheProgram, Entries, Ports, Capture}
+use Rattle.file_work.specs.declared.stop.Limited.TheVariants.{Program as TheProgram, Entries, Ports, Capture, Text as TheText}
 use Rattle.file_work.specs.declared.stop.Stop.{Stop}
-use Rattle.file_work.specs.declared.stop.Stop.TheVariants.{Fault, Usage, Program, Judged, Unfit, Refused, Limit, Memory}
+use Rattle.file_work.specs.declared.stop.Stop.TheVariants.{Fault, Usage, Program, Judged, Unfit, Refused, Limit, Memory, Text}
 use Rattle.command_inputs.specs.EntriesFile.{IsEntriesStop}
 use Rattle.command_inputs.specs.PortsFile.{IsPortsStop}
 use Rattle.run_stream.specs.Captured.{StopsRun}
@@ -23,6 +23,8 @@ rank Fault = 4
 rank Usage = 4
 rank (Refused fault) = 4
 rank Memory = 4
+rank (Text fault) = 4
+rank (Limit TheText) = 4
 
 pub rank_program : (stop : Stop) → OfProgram stop → rank stop ≡ 1
 rank_program stop (inl is) = ap rank is

@@ -73,7 +73,7 @@ own_alike law c sessions bound store t same a =
     let other = law c sessions bound t t a refl in
     (sym one.0 ∙ other.0, sym one.1 ∙ other.1, sym one.2 ∙ other.2)
 
-record IsSame (ran : Ran) (whole : Whole Between) : Type 0 where
+record IsSame (ran : Ran Contents) (whole : Whole Between) : Type 0 where
   sent : ran.sent ≡ whole.sent
   store : ran.store ≡ whole.state.store
   cut : ran.cut ≡ whole.cut
@@ -95,9 +95,9 @@ run_by law r number store t same (a ∷ arrivals) =
       work = zero-add (running.run_from (outcome14 r) (number + 1) o.store arrivals).work ∙ rest.work;
     }
 
-same_ran : (ran : Ran) (whole : Whole Between) → IsSame ran whole → ran ≡ record { sent = whole.sent; store = whole.state.store; cut = whole.cut; work = 0 }
+same_ran : (ran : Ran Contents) (whole : Whole Between) → IsSame ran whole → ran ≡ record { sent = whole.sent; store = whole.state.store; cut = whole.cut; work = 0 }
 same_ran ran whole is =
-    let F : List Sent → Contents → ℕ → ℕ → Ran = λ sent store cut work. record { sent = sent; store = store; cut = cut; work = work } in
+    let F : List Sent → Contents → ℕ → ℕ → Ran Contents = λ sent store cut work. record { sent = sent; store = store; cut = cut; work = work } in
     ap (λ x. F x ran.store ran.cut ran.work) is.sent
     ∙ ap (λ x. F whole.sent x ran.cut ran.work) is.store
     ∙ ap (λ x. F whole.sent whole.state.store x ran.work) is.cut
@@ -116,7 +116,7 @@ run_is law c bound bounded arrivals =
     let store = first_store (signature14 c.decls) c.entries in
     let r = set_for c bound in
     same_ran (run_of (outcome14 r) store arrivals) (fabric_from (machine14 c) c.entries.sessions (bound_of r) 0 (fresh store) arrivals) (run_by law r 0 store (fresh store) refl arrivals)
-    ∙ ap (λ (n : ℕ). let whole = fabric_from (machine14 c) c.entries.sessions n 0 (fresh store) arrivals in let ran : Ran = record { sent = whole.sent; store = whole.state.store; cut = whole.cut; work = 0 } in ran) (within bound bounded)
+    ∙ ap (λ (n : ℕ). let whole = fabric_from (machine14 c) c.entries.sessions n 0 (fresh store) arrivals in let ran : Ran Contents = record { sent = whole.sent; store = whole.state.store; cut = whole.cut; work = 0 } in ran) (within bound bounded)
 
 set_same : (p c : Setting) (g : Signature) (l : List Session) (bound : ℕ) → p ≡ c → g ≡ signature14 c.decls → l ≡ c.entries.sessions → set_up p g l bound ≡ set_for c bound
 set_same p c g l bound program signature sessions =

@@ -2,9 +2,9 @@
 use Rattle.std.proofs.Common.{◌≡◌, ◌⊎◌, inl, inr, ℕ, ◌==◌, MatchBool, List, Option, Some, None, Result, Ok, Err, refl, sym, ◌∙◌, ap, subst, arith}
 use Rattle.match_core.specs.declared.entries.Entries.{Entries as Filling}
 use Rattle.command_words.specs.Words.{Run14Files}
-use Rattle.file_work.specs.declared.stop.Limited.TheVariants.{Program as TheProgram, Entries, Ports, Capture}
+use Rattle.file_work.specs.declared.stop.Limited.TheVariants.{Program as TheProgram, Entries, Ports, Capture, Text as TheText}
 use Rattle.file_work.specs.declared.stop.Stop.{Stop}
-use Rattle.file_work.specs.declared.stop.Stop.TheVariants.{Fault, Usage, Program, Judged, Unfit, Refused, Limit, Memory}
+use Rattle.file_work.specs.declared.stop.Stop.TheVariants.{Fault, Usage, Program, Judged, Unfit, Refused, Limit, Memory, Text}
 use Rattle.file_work.specs.Clauses.{ComesWhere}
 use Rattle.file_work.specs.Stops.{code_of, stop_code}
 use Rattle.file_work.specs.Works.{Due}
@@ -101,9 +101,11 @@ module _ (f : Run14Files) (files : List ℕ → Option (List ℕ)) where
   entries_cause s taken Program end is = absurd end
   entries_cause s taken (Judged fault) end is = absurd end
   entries_cause s taken (Unfit fault) end is = (s, taken, (fault, is))
+  entries_cause s taken (Text fault) end is = absurd end
   entries_cause s taken (Refused fault) end is = absurd end
   entries_cause s taken (Limit TheProgram) end is = absurd end
   entries_cause s taken (Limit Entries) end is = inr (inl (s, taken, is))
+  entries_cause s taken (Limit TheText) end is = absurd end
   entries_cause s taken (Limit Ports) end is = absurd end
   entries_cause s taken (Limit Capture) end is = absurd end
   entries_cause s taken Memory end is = absurd end
@@ -114,9 +116,11 @@ module _ (f : Run14Files) (files : List ℕ → Option (List ℕ)) where
   ports_cause s e has Program end is = absurd end
   ports_cause s e has (Judged fault) end is = absurd end
   ports_cause s e has (Unfit fault) end is = absurd end
+  ports_cause s e has (Text fault) end is = absurd end
   ports_cause s e has (Refused fault) end is = inl (s, e, has, (fault, is))
   ports_cause s e has (Limit TheProgram) end is = absurd end
   ports_cause s e has (Limit Entries) end is = absurd end
+  ports_cause s e has (Limit TheText) end is = absurd end
   ports_cause s e has (Limit Ports) end is = inr (inr (inl (s, e, has, is)))
   ports_cause s e has (Limit Capture) end is = absurd end
   ports_cause s e has Memory end is = absurd end
@@ -134,9 +138,11 @@ module _ (f : Run14Files) (files : List ℕ → Option (List ℕ)) where
   capture_cause s e ports begins (Some Program) is = absurd is
   capture_cause s e ports begins (Some (Judged fault)) is = absurd is
   capture_cause s e ports begins (Some (Unfit fault)) is = absurd is
+  capture_cause s e ports begins (Some (Text fault)) is = absurd is
   capture_cause s e ports begins (Some (Refused fault)) is = inr (s, e, ports, begins, (fault, is))
   capture_cause s e ports begins (Some (Limit TheProgram)) is = absurd is
   capture_cause s e ports begins (Some (Limit Entries)) is = absurd is
+  capture_cause s e ports begins (Some (Limit TheText)) is = absurd is
   capture_cause s e ports begins (Some (Limit Ports)) is = absurd is
   capture_cause s e ports begins (Some (Limit Capture)) is = inr (inr (inr (s, e, ports, begins, is)))
   capture_cause s e ports begins (Some Memory) is = absurd is

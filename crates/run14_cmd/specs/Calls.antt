@@ -1,5 +1,6 @@
 -- What a call of `run14` says of its statuses, its line and its files (this project's own).
 use Rattle.std.specs.Prelude.{◌≡◌, ◌⊎◌, ◌≤◌, ◌%◌, ◌^◌, ℕ, Bool, List, [], All, length, Some, None, Result, Ok, Err, OnOk}
+use Rattle.state_store.specs.State.{Contents}
 use Rattle.p4x_fault.specs.declared.Fault.{Fault as Refusal}
 use Rattle.p4x_io.specs.Desk.{DeskView, SinkView, put, said}
 use Rattle.match_core.specs.Fits.{Fits}
@@ -51,7 +52,7 @@ pub record RanSo (f : Run14Files) (files : Held) (new : DeskView) (before after 
   pub whole : IsCapture octets ports link nano arrivals
   pub packets : All IsArrival arrivals
   pub bound : IsBound f.passes
-  pub ran : Ran
+  pub ran : Ran Contents
   pub runs : ran ≡ this_run (setting_for f syntax entries expanded) f.passes arrivals
   pub sent_is : new.told f.sent ≡ Some (Some (sent_bytes_of link nano arrivals ran.sent))
   pub report_is : new.told f.report

@@ -1,5 +1,6 @@
 -- The command `run14`: what is due for what its input files hold (this project's own).
 use Rattle.std.specs.Prelude.{◌≡◌, ◌⊎◌, ℕ, List, [], ◌∷◌, codes, Option, Some, None, option_to_list, Result, Ok, Err}
+use Rattle.state_store.specs.State.{Contents}
 use Rattle.p4x_fault.specs.declared.Fault.{Fault as Refusal}
 use Rattle.p4x_io.specs.Desk.{DeskView}
 use Rattle.match_core.specs.declared.entries.Entries.{Entries}
@@ -107,13 +108,13 @@ abbrev pub setting_for : Run14Files → Syntax14 → Entries → Expanded → Se
 setting_for f s e x = record { decls = s.decls; expanded = x; rule = f.rule; entries = e }
 
 -- the run of a program over these arrivals, under this bound on passes; no work is counted
-abbrev pub this_run : Setting → ℕ → List Arrival → Ran
+abbrev pub this_run : Setting → ℕ → List Arrival → Ran Contents
 this_run c bound arrivals =
     let whole = Run14 c bound arrivals in
     record { sent = whole.sent; store = whole.state.store; cut = whole.cut; work = 0 }
 
 -- the report ends with the lines of the program's counters and registers
-abbrev pub own_lines : Setting → EndLines
+abbrev pub own_lines : Setting → EndLines Contents
 own_lines c store work = cell_lines (signature14 c.decls) store
 
 -- what the file of the capture comes to, under this bound on passes, with packets on these ports

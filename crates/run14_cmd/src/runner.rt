@@ -1,5 +1,6 @@
 // A program of P4_14 as a runner of packets.
 ghost use Rattle.std.specs.Prelude.{◌≡◌, ◌<◌, ◌^◌, length};
+ghost use Rattle.state_store.specs.State.{Contents};
 ghost use Rattle.state_store.specs.Ports.{AreSessions};
 ghost use Rattle.fabric.specs.Numbers.{IsBound};
 ghost use Rattle.p414_pipe_run.specs.Prepared.{setting_of};
@@ -58,6 +59,8 @@ impl<'r, 'e> Runner for Runner14<'r, 'e> {
     ghost Setting = { Sets };
 
     ghost setting = { λ r. record { program = setting_of r.passes.prepared; signature = r.signature.now; sessions = r.sessions.now; bound = r.bound } };
+
+    ghost Store = { Contents };
 
     ghost outcome = { outcome14 };
 

@@ -4,7 +4,6 @@ use Rattle.std.proofs.lemmas.Bool.Decides.{nat_tests}
 use Rattle.p4x_fault.specs.declared.Fault.{Fault as Refusal}
 use Rattle.p4x_io.specs.Desk.{grown}
 use Rattle.p4x_io.proofs.Desks.{grown_none}
-use Rattle.state_store.specs.State.{Contents}
 use Rattle.fabric.specs.declared.packets.Arrival.{Arrival}
 use Rattle.pcap_io.specs.Captures.{Reading, reading_of, refusal_by, refusal_in, arrivals_of}
 use Rattle.file_work.specs.declared.stop.Limited.TheVariants as limited
@@ -24,25 +23,25 @@ loose_end stop (inl is) = inl (ap (λ (s : Stop). Err s) is)
 loose_end stop (inr is) = inr (ap (λ (s : Stop). Err s) is)
 
 -- what a capture comes to, by whether it is over its limit
-abbrev limited_by : EndLines → (List Arrival → Ran) → List ℕ → List ℕ → Bool → Reports
+abbrev limited_by : {C : Type 0} → EndLines C → (List Arrival → Ran C) → List ℕ → List ℕ → Bool → Reports
 limited_by lines run ports text over = if over then stopped (Limit limited.Capture) else reading_reports lines run ports (reading_of text)
 
-pub within : (lines : EndLines) (run : List Arrival → Ran) (ports text : List ℕ) → length text ≤ capture_limit → reports_over lines run ports (Some text) ≡ reading_reports lines run ports (reading_of text)
+pub within : {C : Type 0} → (lines : EndLines C) (run : List Arrival → Ran C) (ports text : List ℕ) → length text ≤ capture_limit → reports_over lines run ports (Some text) ≡ reading_reports lines run ports (reading_of text)
 within lines run ports text fits =
     let not_over : nat_lt capture_limit (length text) ≡ false = grind (arith, nat_tests) in
     ap (limited_by lines run ports text) not_over
 
-over : (lines : EndLines) (run : List Arrival → Ran) (ports text : List ℕ) → capture_limit < length text → reports_over lines run ports (Some text) ≡ stopped (Limit limited.Capture)
+over : {C : Type 0} → (lines : EndLines C) (run : List Arrival → Ran C) (ports text : List ℕ) → capture_limit < length text → reports_over lines run ports (Some text) ≡ stopped (Limit limited.Capture)
 over lines run ports text long =
     let is_over : nat_lt capture_limit (length text) ≡ true = grind (arith, nat_tests) in
     ap (limited_by lines run ports text) is_over
 
 -- how many packets came and left, as a view tells
-abbrev pub counts_in : View → Counts
+abbrev pub counts_in : {C : Type 0} → View C → Counts
 counts_in v = record { arrivals = v.held.arrivals; sent = v.held.departures; cut = v.held.cut }
 
 -- the end part that a view tells
-abbrev pub end_in : EndLines → View → List ℕ
+abbrev pub end_in : {C : Type 0} → EndLines C → View C → List ℕ
 end_in lines v = end_part v.held.arrivals v.held.departures v.held.cut (lines v.store v.work)
 
 module _ (sent report sent' report' : Option (Option (List ℕ))) where
@@ -59,19 +58,19 @@ module _ (sent report sent' report' : Option (Option (List ℕ))) where
       )
 
   -- the capture is over its limit
-  pub delivers_over : (lines : EndLines) (run : List Arrival → Ran) (ports text : List ℕ) → capture_limit < length text → sent' ≡ sent → report' ≡ report → Delivered (reports_over lines run ports (Some text)) (Err (Limit limited.Capture))
+  pub delivers_over : {C : Type 0} → (lines : EndLines C) (run : List Arrival → Ran C) (ports text : List ℕ) → capture_limit < length text → sent' ≡ sent → report' ≡ report → Delivered (reports_over lines run ports (Some text)) (Err (Limit limited.Capture))
   delivers_over lines run ports text long same_sent same_report =
       subst (λ (r : Reports). Delivered r (Err (Limit limited.Capture))) (sym (over lines run ports text long))
       (inl (refl, same_sent ∙ sym (grown_none sent), same_report ∙ sym (grown_none report)))
 
-  module _ (lines : EndLines) (outcome : Contents → Arrival → Outcome) (store : Contents) (few : AreFew outcome) (ports text : List ℕ) (fits : length text ≤ capture_limit) where
+  module _ {C : Type 0} (lines : EndLines C) (outcome : C → Arrival → Outcome C) (store : C) (few : AreFew outcome) (ports text : List ℕ) (fits : length text ≤ capture_limit) where
     abbrev packets : List Arrival
     packets = arrivals_of ports (reading_of text).records
 
-    abbrev ran : Ran
+    abbrev ran : Ran C
     ran = run_of outcome store packets
 
-    abbrev view : View
+    abbrev view : View C
     view = run_view outcome store ports (reading_of text)
 
     abbrev due : Option Refusal → Reports
@@ -101,7 +100,7 @@ module _ (sent report sent' report' : Option (Option (List ℕ))) where
         ∙ ap (λ (n : ℕ). view.held.report ++ end_part n (length ran.sent) (ran.cut % 2 ^ 64) (lines ran.store (ran.work % 2 ^ 64))) (sym means.arrivals)
         ∙ ap (λ (n : ℕ). view.held.report ++ end_part view.held.arrivals n (ran.cut % 2 ^ 64) (lines ran.store (ran.work % 2 ^ 64))) (sym means.departures)
         ∙ ap (λ (n : ℕ). view.held.report ++ end_part view.held.arrivals view.held.departures n (lines ran.store (ran.work % 2 ^ 64))) (sym means.cut)
-        ∙ ap (λ (c : Contents). view.held.report ++ end_part view.held.arrivals view.held.departures view.held.cut (lines c (ran.work % 2 ^ 64))) (sym means.store)
+        ∙ ap (λ (c : C). view.held.report ++ end_part view.held.arrivals view.held.departures view.held.cut (lines c (ran.work % 2 ^ 64))) (sym means.store)
         ∙ ap (λ (n : ℕ). view.held.report ++ end_part view.held.arrivals view.held.departures view.held.cut (lines view.store n)) (sym means.work)
 
     -- a fault or want of memory before the end of the capture
@@ -138,7 +137,7 @@ module _ (sent report sent' report' : Option (Option (List ℕ))) where
 
 -- How the run of the pieces ends.
 
-module _ (sent report sent' report' : Option (Option (List ℕ))) (lines : EndLines) (outcome : Contents → Arrival → Outcome) (store : Contents) (few : AreFew outcome) (ports : List ℕ) (reader : Reading) (stream : View) where
+module _ {C : Type 0} (sent report sent' report' : Option (Option (List ℕ))) (lines : EndLines C) (outcome : C → Arrival → Outcome C) (store : C) (few : AreFew outcome) (ports : List ℕ) (reader : Reading) (stream : View C) where
   abbrev ended : Option (List ℕ) → Result Counts Stop → Type 0
   ended file end = Delivers (reports_over lines (run_of outcome store) ports file) end sent sent' report report'
 
@@ -177,14 +176,14 @@ pub partly_by : (told told' : Option (Option (List ℕ))) (arrivals departures c
 partly_by told told' arrivals departures cut a b is part = subst (λ (l : List ℕ). GrownByFront told (end_part arrivals departures cut l) told') is part
 
 -- the end part of the report is appended
-module _ (sent report sent' report0 report' : Option (Option (List ℕ))) (lines : EndLines) (outcome : Contents → Arrival → Outcome) (store : Contents) (few : AreFew outcome) (ports : List ℕ) (reader : Reading) (stream : View) where
+module _ {C : Type 0} (sent report sent' report0 report' : Option (Option (List ℕ))) (lines : EndLines C) (outcome : C → Arrival → Outcome C) (store : C) (few : AreFew outcome) (ports : List ℕ) (reader : Reading) (stream : View C) where
   pub pieces_reported : (file : Option (List ℕ)) → ((text : List ℕ) → file ≡ Some text → length text ≤ capture_limit) → PiecesEnd outcome store ports file sent report sent' report0 reader stream (Ok tt)
       → refusal_in reader ≡ None → report' ≡ grown report0 (end_in lines stream) → Delivers (reports_over lines (run_of outcome store) ports file) (Ok (counts_in stream)) sent sent' report report'
   pieces_reported None fits so is now = absurd so
   pieces_reported (Some text) fits so is now =
       let done = (so (fits text refl)).1 in
       delivers_all sent report sent' report' lines outcome store few ports text (fits text refl) (counts_in stream) report0 (sym (ap refusal_in done.reader_is) ∙ is) done.sent_is done.report_is
-      (now ∙ ap (λ (v : View). grown report0 (end_in lines v)) done.stream_is) (ap counts_in done.stream_is)
+      (now ∙ ap (λ (v : View C). grown report0 (end_in lines v)) done.stream_is) (ap counts_in done.stream_is)
 
   -- the desk failed there, or there was no memory
   pub pieces_partly : (file : Option (List ℕ)) (stop : Stop) → ((text : List ℕ) → file ≡ Some text → length text ≤ capture_limit) → PiecesEnd outcome store ports file sent report sent' report0 reader stream (Ok tt)

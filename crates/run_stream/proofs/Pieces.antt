@@ -13,7 +13,6 @@ use Rattle.pcap_io.specs.Captures.{Reading, reading_of, IsRecord}
 use Rattle.pcap_io.specs.Reader.{fed, fed_by}
 use Rattle.pcap_io.proofs.Feeding.{fed_more}
 use Rattle.pcap_io.proofs.Opening.{unread}
-use Rattle.state_store.specs.State.{Contents}
 use Rattle.fabric.specs.declared.packets.Arrival.{Arrival}
 use Rattle.file_work.specs.declared.stop.Stop.{Stop}
 use Rattle.file_work.specs.declared.stop.Stop.TheVariants.{Fault, Refused, Memory}
@@ -42,15 +41,15 @@ grown_still told rest = (0, sym (grown_none told))
 pub exact_part : (told after : Option (Option (List ℕ))) (content : List ℕ) → after ≡ grown told content → GrownByFront told content after
 exact_part told after content is = grown_part told after after content [] content (sym (append-nil content)) is (grown_still after [])
 
-module _ (outcome : Contents → Arrival → Outcome) (store : Contents) (ports octets piece : List ℕ) (unbroken : (reading_of octets).fault ≡ None) where
-  abbrev whole : View
+module _ {C : Type 0} (outcome : C → Arrival → Outcome C) (store : C) (ports octets piece : List ℕ) (unbroken : (reading_of octets).fault ≡ None) where
+  abbrev whole : View C
   whole = run_view outcome store ports (reading_of octets)
 
-  abbrev later : View
+  abbrev later : View C
   later = run_view outcome store ports (reading_of (octets ++ piece))
 
   -- what the further piece gives
-  abbrev added : View
+  abbrev added : View C
   added =
       after_all outcome (fed (drained (reading_of octets)) piece).records (begun (fed (drained (reading_of octets)) piece).head (emptied whole))
 
@@ -69,7 +68,7 @@ module _ (outcome : Contents → Arrival → Outcome) (store : Contents) (ports 
   pub drained_after : drained (fed (drained (reading_of octets)) piece) ≡ drained (reading_of (octets ++ piece))
   drained_after = ap drained fed_is ∙ sym (ap drained reading_is)
 
-  module _ (sent report sent0 report0 sent1 report1 : Option (Option (List ℕ))) (reader0 reader1 : Reading) (stream0 stream1 stream2 : View)
+  module _ (sent report sent0 report0 sent1 report1 : Option (Option (List ℕ))) (reader0 reader1 : Reading) (stream0 stream1 stream2 : View C)
       (so : Streamed outcome store ports octets sent report sent0 report0 reader0 stream0) where
     abbrev read : Reading
     read = fed reader0 piece
@@ -84,21 +83,21 @@ module _ (outcome : Contents → Arrival → Outcome) (store : Contents) (ports 
     stream_added : ran_is → stream1 ≡ added
     stream_added ran =
         ran.1 ∙ ap (λ (r : Reading). after_all outcome r.records (begun r.head stream0)) read_is
-        ∙ ap (λ (v : View). after_all outcome (fed (drained (reading_of octets)) piece).records (begun (fed (drained (reading_of octets)) piece).head v)) so.stream_is
+        ∙ ap (λ (v : View C). after_all outcome (fed (drained (reading_of octets)) piece).records (begun (fed (drained (reading_of octets)) piece).head v)) so.stream_is
 
     later_sent : ran_is → later.held.sent ≡ whole.held.sent ++ stream1.held.sent
-    later_sent ran = ap (λ (v : View). v.held.sent) later_is ∙ ap (λ (v : View). whole.held.sent ++ v.held.sent) (sym (stream_added ran))
+    later_sent ran = ap (λ (v : View C). v.held.sent) later_is ∙ ap (λ (v : View C). whole.held.sent ++ v.held.sent) (sym (stream_added ran))
 
     later_report : ran_is → later.held.report ≡ whole.held.report ++ stream1.held.report
-    later_report ran = ap (λ (v : View). v.held.report) later_is ∙ ap (λ (v : View). whole.held.report ++ v.held.report) (sym (stream_added ran))
+    later_report ran = ap (λ (v : View C). v.held.report) later_is ∙ ap (λ (v : View C). whole.held.report ++ v.held.report) (sym (stream_added ran))
 
     -- nothing of the piece was appended
     pub piece_unread : (stop : Stop) → (stop ≡ Fault) ⊎ (stop ≡ Memory) → sent1 ≡ sent0 → report1 ≡ report0 → Cut later sent report sent1 report1 stop
     piece_unread stop is same_sent same_report = (
       is,
-      grown_part sent sent0 sent1 whole.held.sent added.held.sent later.held.sent (ap (λ (v : View). v.held.sent) later_is) so.sent_is
+      grown_part sent sent0 sent1 whole.held.sent added.held.sent later.held.sent (ap (λ (v : View C). v.held.sent) later_is) so.sent_is
           (subst (λ (t : Option (Option (List ℕ))). GrownByFront sent0 added.held.sent t) (sym same_sent) (grown_still sent0 added.held.sent)),
-      grown_part report report0 report1 whole.held.report added.held.report later.held.report (ap (λ (v : View). v.held.report) later_is) so.report_is
+      grown_part report report0 report1 whole.held.report added.held.report later.held.report (ap (λ (v : View C). v.held.report) later_is) so.report_is
           (subst (λ (t : Option (Option (List ℕ))). GrownByFront report0 added.held.report t) (sym same_report) (grown_still report0 added.held.report)),
     )
 
@@ -142,14 +141,14 @@ module _ (outcome : Contents → Arrival → Outcome) (store : Contents) (ports 
 pub refused_on : (octets rest : List ℕ) (fault : Refusal) → (reading_of octets).fault ≡ Some fault → reading_of (octets ++ rest) ≡ reading_of octets
 refused_on octets rest fault is = fed_more octets rest ∙ ap (λ (f : Option Refusal). fed_by f (reading_of octets) rest) is
 
-record Fronts (front total : View) : Type 0 where
+record Fronts {C : Type 0} (front total : View C) : Type 0 where
   sent_more : List ℕ
   report_more : List ℕ
   sent_is : total.held.sent ≡ front.held.sent ++ sent_more
   report_is : total.held.report ≡ front.held.report ++ report_more
 
-view_front : (outcome : Contents → Arrival → Outcome) (store : Contents) (ports octets rest : List ℕ) → Fronts (run_view outcome store ports (reading_of octets)) (run_view outcome store ports (reading_of (octets ++ rest)))
-view_front outcome store ports octets rest = by_fault (reading_of octets).fault refl
+view_front : {C : Type 0} → (outcome : C → Arrival → Outcome C) (store : C) (ports octets rest : List ℕ) → Fronts (run_view outcome store ports (reading_of octets)) (run_view outcome store ports (reading_of (octets ++ rest)))
+view_front {C = C} outcome store ports octets rest = by_fault (reading_of octets).fault refl
   where
     by_fault : (fault : Option Refusal) → (reading_of octets).fault ≡ fault → Fronts (run_view outcome store ports (reading_of octets)) (run_view outcome store ports (reading_of (octets ++ rest)))
     by_fault None is =
@@ -157,16 +156,16 @@ view_front outcome store ports octets rest = by_fault (reading_of octets).fault 
         record {
           sent_more = (added outcome store ports octets rest is).held.sent;
           report_more = (added outcome store ports octets rest is).held.report;
-          sent_is = ap (λ (v : View). v.held.sent) all;
-          report_is = ap (λ (v : View). v.held.report) all;
+          sent_is = ap (λ (v : View C). v.held.sent) all;
+          report_is = ap (λ (v : View C). v.held.report) all;
         }
     by_fault (Some fault) is =
         let same = ap (run_view outcome store ports) (refused_on octets rest fault is) in
         record {
           sent_more = [];
           report_more = [];
-          sent_is = ap (λ (v : View). v.held.sent) same ∙ sym (append-nil (run_view outcome store ports (reading_of octets)).held.sent);
-          report_is = ap (λ (v : View). v.held.report) same ∙ sym (append-nil (run_view outcome store ports (reading_of octets)).held.report);
+          sent_is = ap (λ (v : View C). v.held.sent) same ∙ sym (append-nil (run_view outcome store ports (reading_of octets)).held.sent);
+          report_is = ap (λ (v : View C). v.held.report) same ∙ sym (append-nil (run_view outcome store ports (reading_of octets)).held.report);
         }
 
 take_front : (n : ℕ) (front rest : List ℕ) → take (min n (length front)) (front ++ rest) ≡ take n front
@@ -185,8 +184,8 @@ pub grown_front : (told after : Option (Option (List ℕ))) (front rest total : 
 grown_front told after front rest total is some =
     (min some.0 (length front), some.1 ∙ ap (grown told) (sym (take_front some.0 front rest) ∙ sym (ap (take (min some.0 (length front))) is)))
 
-module _ (outcome : Contents → Arrival → Outcome) (store : Contents) (ports octets rest text : List ℕ) (is : text ≡ octets ++ rest) (sent report sent' report' : Option (Option (List ℕ))) where
-  cut_parts : (front total : View) → Fronts front total → (stop : Stop) → Cut front sent report sent' report' stop → Cut total sent report sent' report' stop
+module _ {C : Type 0} (outcome : C → Arrival → Outcome C) (store : C) (ports octets rest text : List ℕ) (is : text ≡ octets ++ rest) (sent report sent' report' : Option (Option (List ℕ))) where
+  cut_parts : (front total : View C) → Fronts front total → (stop : Stop) → Cut front sent report sent' report' stop → Cut total sent report sent' report' stop
   cut_parts front total parts stop cut = (
     cut.0,
     grown_front sent sent' front.held.sent parts.sent_more total.held.sent parts.sent_is cut.1,
@@ -209,14 +208,14 @@ module _ (outcome : Contents → Arrival → Outcome) (store : Contents) (ports 
       )
 
   -- a piece that ended the run ends it for the total file
-  pub piece_ends : (reader : Reading) (stream : View) (stop : Stop) → PieceEnds outcome store ports octets sent report sent' report' reader stream (Err stop)
+  pub piece_ends : (reader : Reading) (stream : View C) (stop : Stop) → PieceEnds outcome store ports octets sent report sent' report' reader stream (Err stop)
       → PieceEnds outcome store ports text sent report sent' report' reader stream (Err stop)
   piece_ends reader stream stop (inl refuses) = inl (refuses_on stop refuses)
   piece_ends reader stream stop (inr cut) = inr (cut_on stop cut)
 
 -- the run before the first piece
 
-abbrev viewed : Held → Contents → ℕ → View
+abbrev viewed : {C : Type 0} → Held → C → ℕ → View C
 viewed held store work = record { held = held; store = store; work = work }
 
 pub nothing : reading_of [] ≡ nothing_read
@@ -225,49 +224,49 @@ nothing = unread [] (omega arith)
 pub unbroken_start : (reading_of []).fault ≡ None
 unbroken_start = ap (λ (r : Reading). r.fault) nothing
 
-empty_view : (outcome : Contents → Arrival → Outcome) (store : Contents) (ports : List ℕ) → run_view outcome store ports (reading_of []) ≡ start ports store
+empty_view : {C : Type 0} → (outcome : C → Arrival → Outcome C) (store : C) (ports : List ℕ) → run_view outcome store ports (reading_of []) ≡ start ports store
 unfolding after_all
 empty_view outcome store ports = ap (run_view outcome store ports) nothing
 
-pub streamed_start : (outcome : Contents → Arrival → Outcome) (store : Contents) (ports : List ℕ) (sent report : Option (Option (List ℕ))) (reader : Reading) (stream : View) → reader ≡ nothing_read → stream ≡ start ports store
+pub streamed_start : {C : Type 0} → (outcome : C → Arrival → Outcome C) (store : C) (ports : List ℕ) (sent report : Option (Option (List ℕ))) (reader : Reading) (stream : View C) → reader ≡ nothing_read → stream ≡ start ports store
     → Streamed outcome store ports [] sent report sent report reader stream
-streamed_start outcome store ports sent report reader stream unread started =
+streamed_start {C = C} outcome store ports sent report reader stream unread started =
     let view = empty_view outcome store ports in
     record {
       reader_is = unread ∙ sym (ap drained nothing);
       stream_is = started ∙ sym (ap emptied view);
-      sent_is = sym (grown_none sent) ∙ ap (λ (v : View). grown sent v.held.sent) (sym view);
-      report_is = sym (grown_none report) ∙ ap (λ (v : View). grown report v.held.report) (sym view);
+      sent_is = sym (grown_none sent) ∙ ap (λ (v : View C). grown sent v.held.sent) (sym view);
+      report_is = sym (grown_none report) ∙ ap (λ (v : View C). grown report v.held.report) (sym view);
       known = subst (λ (r : Reading). All IsRecord r.records) (sym nothing) (λ k d inside. absurd (omega arith));
     }
 
 -- the same with other names of the files, which are as they were
-pub streamed_still : (outcome : Contents → Arrival → Outcome) (store : Contents) (ports octets : List ℕ) (sent report sent' report' sent'' report'' : Option (Option (List ℕ))) (reader : Reading) (stream : View)
+pub streamed_still : {C : Type 0} → (outcome : C → Arrival → Outcome C) (store : C) (ports octets : List ℕ) (sent report sent' report' sent'' report'' : Option (Option (List ℕ))) (reader : Reading) (stream : View C)
     → sent'' ≡ sent' → report'' ≡ report' → Streamed outcome store ports octets sent report sent' report' reader stream → Streamed outcome store ports octets sent report sent'' report'' reader stream
 streamed_still outcome store ports octets sent report sent' report' sent'' report'' reader stream same_sent same_report so =
     record { reader_is = so.reader_is; stream_is = so.stream_is; sent_is = same_sent ∙ so.sent_is; report_is = same_report ∙ so.report_is; known = so.known }
 
 -- the same of a setting that is equal
-pub streamed_by : (Setting : Type 0) (outcome : Setting → Contents → Arrival → Outcome) (a b : Setting) (store : Contents) (ports octets : List ℕ) (sent report sent' report' : Option (Option (List ℕ))) (reader : Reading) (stream : View) → a ≡ b
+pub streamed_by : {C : Type 0} → (Setting : Type 0) (outcome : Setting → C → Arrival → Outcome C) (a b : Setting) (store : C) (ports octets : List ℕ) (sent report sent' report' : Option (Option (List ℕ))) (reader : Reading) (stream : View C) → a ≡ b
     → Streamed (outcome a) store ports octets sent report sent' report' reader stream → Streamed (outcome b) store ports octets sent report sent' report' reader stream
 streamed_by Setting outcome a b store ports octets sent report sent' report' reader stream is so =
     subst (λ (s : Setting). Streamed (outcome s) store ports octets sent report sent' report' reader stream) is so
 
 -- and of what ends the run at a piece
-pub stopped_by : (Setting : Type 0) (outcome : Setting → Contents → Arrival → Outcome) (a b : Setting) (store : Contents) (ports octets : List ℕ) (sent report sent' report' : Option (Option (List ℕ))) (stop : Stop) → a ≡ b
+pub stopped_by : {C : Type 0} → (Setting : Type 0) (outcome : Setting → C → Arrival → Outcome C) (a b : Setting) (store : C) (ports octets : List ℕ) (sent report sent' report' : Option (Option (List ℕ))) (stop : Stop) → a ≡ b
     → Refuses (outcome a) store ports octets sent report sent' report' stop ⊎ Cut (run_view (outcome a) store ports (reading_of octets)) sent report sent' report' stop
     → Refuses (outcome b) store ports octets sent report sent' report' stop ⊎ Cut (run_view (outcome b) store ports (reading_of octets)) sent report sent' report' stop
 stopped_by Setting outcome a b store ports octets sent report sent' report' stop is so =
     subst (λ (s : Setting). Refuses (outcome s) store ports octets sent report sent' report' stop ⊎ Cut (run_view (outcome s) store ports (reading_of octets)) sent report sent' report' stop) is so
 
 -- a run whose parts are those of one before its first packet
-pub starts : (ports : List ℕ) (held : Held) (store : Contents) (work : ℕ) → held ≡ empty ports → work ≡ 0 → viewed held store work ≡ start ports store
+pub starts : {C : Type 0} → (ports : List ℕ) (held : Held) (store : C) (work : ℕ) → held ≡ empty ports → work ≡ 0 → viewed held store work ≡ start ports store
 starts ports held store work is none = ap (λ (h : Held). viewed h store work) is ∙ ap (λ (n : ℕ). viewed (empty ports) store n) none
 
 front_split : (octets text : List ℕ) → take (length octets) text ≡ octets → text ≡ octets ++ drop (length octets) text
 front_split octets text front = sym (take-append-drop (length octets) text) ∙ ap (λ (l : List ℕ). l ++ drop (length octets) text) front
 
-module _ (outcome : Contents → Arrival → Outcome) (store : Contents) (ports octets : List ℕ) (sent report sent' report' : Option (Option (List ℕ))) (reader : Reading) (stream : View)
+module _ {C : Type 0} (outcome : C → Arrival → Outcome C) (store : C) (ports octets : List ℕ) (sent report sent' report' : Option (Option (List ℕ))) (reader : Reading) (stream : View C)
     (unbroken : (reading_of octets).fault ≡ None) (so : Streamed outcome store ports octets sent report sent' report' reader stream) where
   -- the desk failed before a further piece
   pub pieces_cut : (file : Option (List ℕ)) → Front file octets → (sent'' report'' : Option (Option (List ℕ))) (end : Result (Unit {0}) Stop) (stop : Stop) → sent'' ≡ sent' → report'' ≡ report' → stop ≡ Fault → end ≡ Err stop
@@ -277,8 +276,8 @@ module _ (outcome : Contents → Arrival → Outcome) (store : Contents) (ports 
       let empty = empty_view outcome store ports in
       subst (λ (e : Result (Unit {0}) Stop). IsErrAnd e (λ s. ((s ≡ Fault) ⊎ (s ≡ Memory)) × (sent'' ≡ sent) × (report'' ≡ report))) (sym ends) (
         inl is,
-        same_sent ∙ so.sent_is ∙ ap (λ (v : View). grown sent v.held.sent) (none ∙ empty) ∙ grown_none sent,
-        same_report ∙ so.report_is ∙ ap (λ (v : View). grown report v.held.report) (none ∙ empty) ∙ grown_none report,
+        same_sent ∙ so.sent_is ∙ ap (λ (v : View C). grown sent v.held.sent) (none ∙ empty) ∙ grown_none sent,
+        same_report ∙ so.report_is ∙ ap (λ (v : View C). grown report v.held.report) (none ∙ empty) ∙ grown_none report,
       )
   pieces_cut (Some text) front sent'' report'' end stop same_sent same_report is ends = λ fits.
       let rest = drop (length octets) text in
@@ -301,7 +300,7 @@ module _ (outcome : Contents → Arrival → Outcome) (store : Contents) (ports 
       subst (λ (l : List ℕ). PieceEnds outcome store ports l sent report sent' report' reader stream (Ok tt)) (sym same) (unbroken, so)
 
 -- what ended the run at a piece that came to these octets
-pub pieces_stop : (outcome : Contents → Arrival → Outcome) (store : Contents) (ports octets : List ℕ) (sent report sent' report' : Option (Option (List ℕ))) (reader : Reading) (stream : View) (file : Option (List ℕ)) (end : Result (Unit {0}) Stop) (stop : Stop)
+pub pieces_stop : {C : Type 0} → (outcome : C → Arrival → Outcome C) (store : C) (ports octets : List ℕ) (sent report sent' report' : Option (Option (List ℕ))) (reader : Reading) (stream : View C) (file : Option (List ℕ)) (end : Result (Unit {0}) Stop) (stop : Stop)
     → (file ≡ None → ⊥) → Front file octets → end ≡ Err stop → PieceEnds outcome store ports octets sent report sent' report' reader stream end → PiecesEnd outcome store ports file sent report sent' report' reader stream end
 pieces_stop outcome store ports octets sent report sent' report' reader stream None end stop there front is so = absurd (there refl)
 pieces_stop outcome store ports octets sent report sent' report' reader stream (Some text) end stop there front is so = λ fits.
@@ -310,7 +309,7 @@ pieces_stop outcome store ports octets sent report sent' report' reader stream (
     (subst (λ (e : Result (Unit {0}) Stop). PieceEnds outcome store ports octets sent report sent' report' reader stream e) is so))
 
 -- the same from files and ports that are equal
-pub ends_from : (outcome : Contents → Arrival → Outcome) (store : Contents) (ports ports0 : List ℕ) (file : Option (List ℕ)) (sent report sent0 report0 sent' report' : Option (Option (List ℕ))) (reader : Reading) (stream : View) (end : Result (Unit {0}) Stop)
+pub ends_from : {C : Type 0} → (outcome : C → Arrival → Outcome C) (store : C) (ports ports0 : List ℕ) (file : Option (List ℕ)) (sent report sent0 report0 sent' report' : Option (Option (List ℕ))) (reader : Reading) (stream : View C) (end : Result (Unit {0}) Stop)
     → ports ≡ ports0 → sent ≡ sent0 → report ≡ report0 → PiecesEnd outcome store ports file sent report sent' report' reader stream end → PiecesEnd outcome store ports0 file sent0 report0 sent' report' reader stream end
 ends_from outcome store ports ports0 file sent report sent0 report0 sent' report' reader stream end same_ports same_sent same_report so =
     subst (λ (t : Option (Option (List ℕ))). PiecesEnd outcome store ports0 file sent0 t sent' report' reader stream end) same_report

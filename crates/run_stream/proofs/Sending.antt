@@ -4,7 +4,6 @@ use Rattle.std.specs.List.{flat_map}
 use Rattle.std.proofs.lemmas.List.{append-nil, take_all, take_more}
 use Rattle.std.proofs.lemmas.List.Concat.{flat_map-append}
 use Rattle.std.proofs.Math.Nat.{add-mod-mod}
-use Rattle.state_store.specs.State.{Contents}
 use Rattle.fabric.specs.declared.packets.Arrival.{Arrival}
 use Rattle.fabric.specs.declared.packets.Out.{Out}
 use Rattle.pcap_io.specs.declared.records.Record.{Record}
@@ -49,15 +48,15 @@ written_all a outs i h now past is = ap (counted (length outs)) (is ∙ ap (λ (
 abbrev pub came : Held → List ℕ → ℕ → Held
 came h ports cut = record h { ports = ports; arrivals = (h.arrivals + 1) % 2 ^ 64; cut = cut }
 
-abbrev viewed : Held → Contents → ℕ → View
+abbrev viewed : {C : Type 0} → Held → C → ℕ → View C
 viewed h store work = record { held = h; store = store; work = work }
 
 -- what a runner gives is what comes of the packet
-pub ran_one : (outcome : Contents → Arrival → Outcome) (one : Record) (old : View) (a : Arrival) (ports : List ℕ) (outs : List Out) (cut work : ℕ) (store : Contents) (new : Held)
+pub ran_one : {C : Type 0} → (outcome : C → Arrival → Outcome C) (one : Record) (old : View C) (a : Arrival) (ports : List ℕ) (outs : List Out) (cut work : ℕ) (store : C) (new : Held)
     → a ≡ arrival_of old.held.ports one → ports ≡ drop 1 old.held.ports → outs ≡ (outcome old.store a).sent → cut ≡ (outcome old.store a).cut % 2 ^ 64
     → store ≡ (outcome old.store a).store → work ≡ (old.work + (outcome old.store a).work) % 2 ^ 64 → new ≡ with_outs a outs (came old.held ports ((old.held.cut + cut) % 2 ^ 64))
     → viewed new store work ≡ after_one outcome one old
-ran_one outcome one old a ports outs cut work store new a_is ports_are outs_are cut_is store_is work_is new_is =
+ran_one {C = C} outcome one old a ports outs cut work store new a_is ports_are outs_are cut_is store_is work_is new_is =
     let o = outcome old.store a in
     let cut_same : (old.held.cut + cut) % 2 ^ 64 ≡ (old.held.cut + o.cut) % 2 ^ 64 =
     ap (λ (n : ℕ). (old.held.cut + n) % 2 ^ 64) cut_is ∙ add-mod-mod old.held.cut o.cut (2 ^ 64) in
@@ -65,6 +64,6 @@ ran_one outcome one old a ports outs cut work store new a_is ports_are outs_are 
     ∙ ap (λ (l : List Out). viewed (with_outs a l (came old.held ports ((old.held.cut + cut) % 2 ^ 64))) store work) outs_are
     ∙ ap (λ (n : ℕ). viewed (with_outs a o.sent (came old.held ports n)) store work) cut_same
     ∙ ap (λ (l : List ℕ). viewed (with_outs a o.sent (came old.held l ((old.held.cut + o.cut) % 2 ^ 64))) store work) ports_are
-    ∙ ap (λ (s : Contents). viewed (with_outs a o.sent (with_arrival o.cut old.held)) s work) store_is
+    ∙ ap (λ (s : C). viewed (with_outs a o.sent (with_arrival o.cut old.held)) s work) store_is
     ∙ ap (λ (n : ℕ). viewed (with_outs a o.sent (with_arrival o.cut old.held)) o.store n) work_is
     ∙ ap (λ (b : Arrival). with_outcome b (outcome old.store b) old) a_is

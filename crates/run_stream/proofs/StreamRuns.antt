@@ -7,7 +7,6 @@ use Rattle.std.proofs.lemmas.Bool.Decides.{nat_tests}
 use Rattle.std.proofs.Math.Nat.{mod-add-mod, mod-eq_of_lt, mod-lt}
 use Rattle.p4x_fault.specs.declared.Fault.{Fault as Refusal}
 use Rattle.p4x_fault.specs.declared.Rule.TheVariants.{K}
-use Rattle.state_store.specs.State.{Contents}
 use Rattle.fabric.specs.declared.packets.Arrival.{Arrival}
 use Rattle.fabric.specs.declared.packets.Out.{Out}
 use Rattle.fabric.specs.declared.packets.Sent.{Sent}
@@ -45,13 +44,13 @@ outs_records front rest a (out ∷ outs) =
 outs_many : (number : ℕ) (outs : List Out) (rest : List Sent) → length outs + length rest ≡ length (map (numbered number) outs ++ rest)
 outs_many number outs rest = omega (arith, length-append (map (numbered number) outs) rest, length-map outs (numbered number))
 
-module _ (outcome : Contents → Arrival → Outcome) where
-  abbrev run : ℕ → Contents → List Arrival → Ran
+module _ {C : Type 0} (outcome : C → Arrival → Outcome C) where
+  abbrev run : ℕ → C → List Arrival → Ran C
   run number store arrivals = run_from outcome number store arrivals
 
   -- What all records add.
 
-  sent_all : (front : List Arrival) (records : List Record) (v : View)
+  sent_all : (front : List Arrival) (records : List Record) (v : View C)
       → (after_all outcome records v).held.sent ≡ v.held.sent ++ flat_map (sent_record (front ++ arrivals_of v.held.ports records)) (run (length front) v.store (arrivals_of v.held.ports records)).sent
   unfolding after_all
   sent_all front [] v = sym (append-nil v.held.sent)
@@ -68,7 +67,7 @@ module _ (outcome : Contents → Arrival → Outcome) where
       ∙ ap (λ (l : List ℕ). v.held.sent ++ (l ++ flat_map (sent_record (front ++ a ∷ rest)) (run (length front + 1) o.store rest).sent)) (outs_records front rest a o.sent)
       ∙ ap (λ (l : List ℕ). v.held.sent ++ l) (sym (flat_map-append (sent_record (front ++ a ∷ rest)) (map (numbered (length front)) o.sent) (run (length front + 1) o.store rest).sent))
 
-  report_all : (number : ℕ) (records : List Record) (v : View)
+  report_all : (number : ℕ) (records : List Record) (v : View C)
       → (after_all outcome records v).held.report ≡ v.held.report ++ flat_map sent_line (run number v.store (arrivals_of v.held.ports records)).sent
   unfolding after_all
   report_all number [] v = sym (append-nil v.held.report)
@@ -81,7 +80,7 @@ module _ (outcome : Contents → Arrival → Outcome) where
       ∙ ap (λ (l : List ℕ). v.held.report ++ (l ++ flat_map sent_line (run (number + 1) o.store rest).sent)) (outs_lines number o.sent)
       ∙ ap (λ (l : List ℕ). v.held.report ++ l) (sym (flat_map-append sent_line (map (numbered number) o.sent) (run (number + 1) o.store rest).sent))
 
-  arrivals_all : (records : List Record) (v : View) → (after_all outcome records v).held.arrivals % 2 ^ 64 ≡ (v.held.arrivals + length records) % 2 ^ 64
+  arrivals_all : (records : List Record) (v : View C) → (after_all outcome records v).held.arrivals % 2 ^ 64 ≡ (v.held.arrivals + length records) % 2 ^ 64
   unfolding after_all
   arrivals_all [] v = ap (λ (n : ℕ). n % 2 ^ 64) (sym (add-zero v.held.arrivals))
   arrivals_all (one ∷ records) v =
@@ -90,7 +89,7 @@ module _ (outcome : Contents → Arrival → Outcome) where
       ∙ mod-add-mod (v.held.arrivals + 1) (2 ^ 64) (length records)
       ∙ ap (λ (n : ℕ). n % 2 ^ 64) sum
 
-  cut_all : (number : ℕ) (records : List Record) (v : View)
+  cut_all : (number : ℕ) (records : List Record) (v : View C)
       → (after_all outcome records v).held.cut % 2 ^ 64 ≡ (v.held.cut + (run number v.store (arrivals_of v.held.ports records)).cut) % 2 ^ 64
   unfolding after_all
   cut_all number [] v = ap (λ (n : ℕ). n % 2 ^ 64) (sym (add-zero v.held.cut))
@@ -101,7 +100,7 @@ module _ (outcome : Contents → Arrival → Outcome) where
       ∙ mod-add-mod (v.held.cut + o.cut) (2 ^ 64) rest.cut
       ∙ ap (λ (n : ℕ). n % 2 ^ 64) (add_assoc v.held.cut o.cut rest.cut)
 
-  work_all : (number : ℕ) (records : List Record) (v : View)
+  work_all : (number : ℕ) (records : List Record) (v : View C)
       → (after_all outcome records v).work % 2 ^ 64 ≡ (v.work + (run number v.store (arrivals_of v.held.ports records)).work) % 2 ^ 64
   unfolding after_all
   work_all number [] v = ap (λ (n : ℕ). n % 2 ^ 64) (sym (add-zero v.work))
@@ -112,12 +111,12 @@ module _ (outcome : Contents → Arrival → Outcome) where
       ∙ mod-add-mod (v.work + o.work) (2 ^ 64) rest.work
       ∙ ap (λ (n : ℕ). n % 2 ^ 64) (add_assoc v.work o.work rest.work)
 
-  store_all : (number : ℕ) (records : List Record) (v : View) → (after_all outcome records v).store ≡ (run number v.store (arrivals_of v.held.ports records)).store
+  store_all : (number : ℕ) (records : List Record) (v : View C) → (after_all outcome records v).store ≡ (run number v.store (arrivals_of v.held.ports records)).store
   unfolding after_all
   store_all number [] v = refl
   store_all number (one ∷ records) v = store_all (number + 1) records (after_one outcome one v)
 
-  departures_all : (number : ℕ) (records : List Record) (v : View)
+  departures_all : (number : ℕ) (records : List Record) (v : View C)
       → (after_all outcome records v).held.departures % 2 ^ 64 ≡ (v.held.departures + length (run number v.store (arrivals_of v.held.ports records)).sent) % 2 ^ 64
   unfolding after_all
   departures_all number [] v = ap (λ (n : ℕ). n % 2 ^ 64) (sym (add-zero v.held.departures))
@@ -130,7 +129,7 @@ module _ (outcome : Contents → Arrival → Outcome) where
       ∙ ap (λ (n : ℕ). (v.held.departures + n) % 2 ^ 64) (outs_many number o.sent rest)
 
   -- how many packets leave at most
-  pub sent_few : AreFew outcome → (number : ℕ) (store : Contents) (arrivals : List Arrival) → length (run number store arrivals).sent ≤ 65536 * length arrivals
+  pub sent_few : AreFew outcome → (number : ℕ) (store : C) (arrivals : List Arrival) → length (run number store arrivals).sent ≤ 65536 * length arrivals
   sent_few few number store [] = omega arith
   sent_few few number store (a ∷ arrivals) =
       let o = outcome store a in
@@ -140,7 +139,7 @@ module _ (outcome : Contents → Arrival → Outcome) where
 
 -- Counts stay below 2^64.
 
-record Small (v : View) : Type 0 where
+record Small {C : Type 0} (v : View C) : Type 0 where
   arrivals : v.held.arrivals < 2 ^ 64
   departures : v.held.departures < 2 ^ 64
   cut : v.held.cut < 2 ^ 64
@@ -149,7 +148,7 @@ record Small (v : View) : Type 0 where
 some : 0 < 2 ^ 64
 some = omega arith
 
-all_small : (outcome : Contents → Arrival → Outcome) (records : List Record) (v : View) → Small v → Small (after_all outcome records v)
+all_small : {C : Type 0} → (outcome : C → Arrival → Outcome C) (records : List Record) (v : View C) → Small v → Small (after_all outcome records v)
 unfolding after_all
 all_small outcome [] v small = small
 all_small outcome (one ∷ records) v small =
@@ -207,7 +206,7 @@ arrivals_many ports (one ∷ records) = ap (λ (n : ℕ). suc n) (arrivals_many 
 
 -- What a run has come to is the run over the packets so far: so many came in and were sent, so many items were cut, with this work and
 -- store, and these octets are those of the sent file and of the records' part of the report.
-pub record IsRunOf (ran : Ran) (head : Option Head) (packets : List Arrival) (v : View) : Type 0 where
+pub record IsRunOf {C : Type 0} (ran : Ran C) (head : Option Head) (packets : List Arrival) (v : View C) : Type 0 where
   pub sent : v.held.sent ≡ sent_file head packets ran.sent
   pub report : v.held.report ≡ sent_lines ran.sent
   pub arrivals : v.held.arrivals ≡ length packets
@@ -216,11 +215,11 @@ pub record IsRunOf (ran : Ran) (head : Option Head) (packets : List Arrival) (v 
   pub work : v.work ≡ ran.work % 2 ^ 64
   pub store : v.store ≡ ran.store
 
-module _ (outcome : Contents → Arrival → Outcome) (store : Contents) (ports : List ℕ) where
-  abbrev run_over : List Record → Ran
+module _ {C : Type 0} (outcome : C → Arrival → Outcome C) (store : C) (ports : List ℕ) where
+  abbrev run_over : List Record → Ran C
   run_over records = run_of outcome store (arrivals_of ports records)
 
-  abbrev view_after : Option Head → List Record → View
+  abbrev view_after : Option Head → List Record → View C
   view_after head records = after_all outcome records (begun head (start ports store))
 
   sent_by : (head : Option Head) (records : List Record) → (head ≡ None → records ≡ [])
@@ -260,7 +259,7 @@ module _ (outcome : Contents → Arrival → Outcome) (store : Contents) (ports 
 below : (a b : ℕ) → a < 2 ^ 64 → b < 2 ^ 64 → a % 2 ^ 64 ≡ b % 2 ^ 64 → a ≡ b
 below a b a_small b_small same = sym (mod-eq_of_lt a_small) ∙ same ∙ mod-eq_of_lt b_small
 
-pub is_run_of : (outcome : Contents → Arrival → Outcome) (store : Contents) (ports octets : List ℕ) → AreFew outcome → length octets ≤ capture_limit
+pub is_run_of : {C : Type 0} → (outcome : C → Arrival → Outcome C) (store : C) (ports octets : List ℕ) → AreFew outcome → length octets ≤ capture_limit
     → IsRunOf (run_of outcome store (arrivals_of ports (reading_of octets).records)) (reading_of octets).head (arrivals_of ports (reading_of octets).records) (run_view outcome store ports (reading_of octets))
 is_run_of outcome store ports octets few short =
     let reading = reading_of octets in

@@ -4,7 +4,6 @@ use Rattle.std.specs.List.{flat_map}
 use Rattle.std.proofs.lemmas.List.{append-nil}
 use Rattle.std.proofs.lemmas.Bool.Decides.{nat_tests}
 use Rattle.p4x_fault.specs.declared.Fault.{Fault as Refusal}
-use Rattle.state_store.specs.State.{Contents}
 use Rattle.fabric.specs.declared.packets.Arrival.{Arrival}
 use Rattle.fabric.specs.declared.packets.Out.{Out}
 use Rattle.pcap_io.specs.declared.head.Head.{Head}
@@ -19,20 +18,20 @@ use Rattle.run_stream.specs.Runs.{Outcome}
 use Rattle.run_stream.specs.internal.Streams.{Held, View, start, with_header, headed_by, begun, out_record, out_line, with_outs, with_arrival, after_one, after_all, run_view, emptied, drained}
 
 -- the packets of more records
-pub after_append : (outcome : Contents → Arrival → Outcome) (a b : List Record) (v : View) → after_all outcome (a ++ b) v ≡ after_all outcome b (after_all outcome a v)
+pub after_append : {C : Type 0} → (outcome : C → Arrival → Outcome C) (a b : List Record) (v : View C) → after_all outcome (a ++ b) v ≡ after_all outcome b (after_all outcome a v)
 unfolding after_all
 after_append outcome [] b v = refl
 after_append outcome (one ∷ a) b v = after_append outcome a b (after_one outcome one v)
 
 -- What was written before stays in front.
 
-abbrev pub with_held : View → Held → View
+abbrev pub with_held : {C : Type 0} → View C → Held → View C
 with_held v h = record v { held = h }
 
 abbrev pub fronted : List ℕ → List ℕ → Held → Held
 fronted sent report h = record h { sent = sent ++ h.sent; report = report ++ h.report }
 
-abbrev pub preceded : List ℕ → List ℕ → View → View
+abbrev pub preceded : {C : Type 0} → List ℕ → List ℕ → View C → View C
 preceded sent report v = with_held v (fronted sent report v.held)
 
 abbrev with_sent : Held → List ℕ → List ℕ → Held
@@ -47,7 +46,7 @@ headed_fronted : (head : Option Head) (s r : List ℕ) (h : Held) → headed_by 
 headed_fronted None s r h = refl
 headed_fronted (Some head) s r h = header_fronted h.headed head s r h
 
-begun_preceded : (head : Option Head) (s r : List ℕ) (v : View) → begun head (preceded s r v) ≡ preceded s r (begun head v)
+begun_preceded : {C : Type 0} → (head : Option Head) (s r : List ℕ) (v : View C) → begun head (preceded s r v) ≡ preceded s r (begun head v)
 begun_preceded head s r v = ap (with_held v) (headed_fronted head s r v.held)
 
 outs_fronted : (a : Arrival) (outs : List Out) (s r : List ℕ) (h : Held) → with_outs a outs (fronted s r h) ≡ fronted s r (with_outs a outs h)
@@ -55,27 +54,27 @@ outs_fronted a outs s r h =
     ap (λ (l : List ℕ). with_sent (with_outs a outs h) l ((r ++ h.report) ++ flat_map out_line outs)) (append_assoc s h.sent (flat_map (out_record a) outs))
     ∙ ap (λ (l : List ℕ). with_sent (with_outs a outs h) (s ++ (h.sent ++ flat_map (out_record a) outs)) l) (append_assoc r h.report (flat_map out_line outs))
 
-one_preceded : (outcome : Contents → Arrival → Outcome) (one : Record) (s r : List ℕ) (v : View) → after_one outcome one (preceded s r v) ≡ preceded s r (after_one outcome one v)
+one_preceded : {C : Type 0} → (outcome : C → Arrival → Outcome C) (one : Record) (s r : List ℕ) (v : View C) → after_one outcome one (preceded s r v) ≡ preceded s r (after_one outcome one v)
 one_preceded outcome one s r v =
     let a = arrival_of v.held.ports one in
     let o = outcome v.store a in
     ap (with_held (after_one outcome one v)) (outs_fronted a o.sent s r (with_arrival o.cut v.held))
 
-all_preceded : (outcome : Contents → Arrival → Outcome) (records : List Record) (s r : List ℕ) (v : View) → after_all outcome records (preceded s r v) ≡ preceded s r (after_all outcome records v)
+all_preceded : {C : Type 0} → (outcome : C → Arrival → Outcome C) (records : List Record) (s r : List ℕ) (v : View C) → after_all outcome records (preceded s r v) ≡ preceded s r (after_all outcome records v)
 unfolding after_all
 all_preceded outcome [] s r v = refl
 all_preceded outcome (one ∷ records) s r v =
     ap (after_all outcome records) (one_preceded outcome one s r v) ∙ all_preceded outcome records s r (after_one outcome one v)
 
 -- what was appended is in front of what is still to be appended
-pub emptied_again : (v : View) → preceded v.held.sent v.held.report (emptied v) ≡ v
+pub emptied_again : {C : Type 0} → (v : View C) → preceded v.held.sent v.held.report (emptied v) ≡ v
 emptied_again v =
     ap (λ (l : List ℕ). with_held v (with_sent v.held l (v.held.report ++ []))) (append-nil v.held.sent)
     ∙ ap (λ (l : List ℕ). with_held v (with_sent v.held v.held.sent l)) (append-nil v.held.report)
 
 -- The file header is written once.
 
-all_headed : (outcome : Contents → Arrival → Outcome) (records : List Record) (v : View) → (after_all outcome records v).held.headed ≡ v.held.headed
+all_headed : {C : Type 0} → (outcome : C → Arrival → Outcome C) (records : List Record) (v : View C) → (after_all outcome records v).held.headed ≡ v.held.headed
 unfolding after_all
 all_headed outcome [] v = refl
 all_headed outcome (one ∷ records) v = all_headed outcome records (after_one outcome one v)
@@ -96,7 +95,7 @@ no_records octets none = by_size (nat_lt (length octets) 24) refl
         ap (λ (r : Reading). r.records) whole ∙ opened_none (drop 24 octets) (head_of octets) (sym (ap (λ (r : Reading). r.head) whole) ∙ none)
 
 -- the same, of the header that is known once more was read
-begun_later : (outcome : Contents → Arrival → Outcome) (store : Contents) (ports : List ℕ) (old new : Option Head) (records : List Record)
+begun_later : {C : Type 0} → (outcome : C → Arrival → Outcome C) (store : C) (ports : List ℕ) (old new : Option Head) (records : List Record)
     → (old ≡ None → records ≡ []) → ((head : Head) → old ≡ Some head → new ≡ Some head)
     → after_all outcome records (begun new (start ports store)) ≡ begun new (after_all outcome records (begun old (start ports store)))
 unfolding after_all
@@ -115,7 +114,7 @@ read_on_head : (head : Head) (old : Option Head) (octets : List ℕ) → old ≡
 read_on_head head old octets is = ap (λ (h : Option Head). (read_on h octets).head) is ∙ records_head head octets 0
 
 -- what a run has come to once a further piece was read
-module _ (outcome : Contents → Arrival → Outcome) (store : Contents) (ports octets piece : List ℕ) where
+module _ {C : Type 0} (outcome : C → Arrival → Outcome C) (store : C) (ports octets piece : List ℕ) where
   abbrev pub before : Reading
   before = reading_of octets
 
@@ -130,12 +129,12 @@ module _ (outcome : Contents → Arrival → Outcome) (store : Contents) (ports 
       ∙ ap (after_all outcome more.records)
       (begun_later outcome store ports before.head more.head before.records (no_records octets) (λ head is. read_on_head head before.head (before.left ++ piece) is))
 
-  pub next_view : before.fault ≡ None → (whole : View) → whole ≡ run_view outcome store ports before
+  pub next_view : before.fault ≡ None → (whole : View C) → whole ≡ run_view outcome store ports before
       → run_view outcome store ports (reading_of (octets ++ piece))
       ≡ preceded whole.held.sent whole.held.report (after_all outcome (fed (drained before) piece).records (begun (fed (drained before) piece).head (emptied whole)))
   next_view unbroken whole is =
       view_more unbroken
-      ∙ ap (λ (v : View). after_all outcome more.records (begun more.head v)) (sym is ∙ sym (emptied_again whole))
+      ∙ ap (λ (v : View C). after_all outcome more.records (begun more.head v)) (sym is ∙ sym (emptied_again whole))
       ∙ ap (after_all outcome more.records) (begun_preceded more.head whole.held.sent whole.held.report (emptied whole))
       ∙ all_preceded outcome more.records whole.held.sent whole.held.report (begun more.head (emptied whole))
       ∙ ap (λ (f : Option Refusal). preceded whole.held.sent whole.held.report (after_all outcome (fed_by f (drained before) piece).records (begun (fed_by f (drained before) piece).head (emptied whole)))) (sym unbroken)
@@ -146,7 +145,7 @@ first_in : (records : List Record) (one : Record) → Some one ≡ slice_get rec
 first_in [] one is = absurd (cc)
 first_in (x ∷ records) one is = let same : x ≡ one = cc in ap (λ (y : Record). y ∷ records) same
 
-pub turn_ran : (outcome : Contents → Arrival → Outcome) (old new : Reading) (one : Record) (v w : View) → Some one ≡ slice_get old.records 0 → new ≡ taken_from 1 old → w ≡ after_one outcome one v
+pub turn_ran : {C : Type 0} → (outcome : C → Arrival → Outcome C) (old new : Reading) (one : Record) (v w : View C) → Some one ≡ slice_get old.records 0 → new ≡ taken_from 1 old → w ≡ after_one outcome one v
     → after_all outcome new.records w ≡ after_all outcome old.records v
 unfolding after_all
 turn_ran outcome old new one v w first rest ran =
@@ -172,7 +171,7 @@ pub turn_known : (old new : Reading) (one : Record) → Some one ≡ slice_get o
 turn_known old new one first rest is known = known_before old.records one first is (subst (λ (r : Reading). All IsRecord r.records) rest known)
 
 -- no record is left
-pub none_left : (outcome : Contents → Arrival → Outcome) (reader : Reading) (v : View) → None ≡ slice_get reader.records 0 → after_all outcome reader.records v ≡ v
+pub none_left : {C : Type 0} → (outcome : C → Arrival → Outcome C) (reader : Reading) (v : View C) → None ≡ slice_get reader.records 0 → after_all outcome reader.records v ≡ v
 unfolding after_all
 none_left outcome reader v none = ap (λ (l : List Record). after_all outcome l v) (no_first reader.records none)
   where

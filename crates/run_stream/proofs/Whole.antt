@@ -31,11 +31,11 @@ abbrev pub capture_stop : Option (List ℕ) → Option Stop
 capture_stop None = Some Fault
 capture_stop (Some octets) = limited_stop octets (nat_lt capture_limit (length octets))
 
-run_stop : (word : List ℕ) (lines : EndLines) (found : Option Refusal) (head : Option Head) (arrivals : List Arrival) (ran : Ran) → stop_in (lined word (run_reports lines found head arrivals ran).end) ≡ refused_by found
+run_stop : {C : Type 0} → (word : List ℕ) (lines : EndLines C) (found : Option Refusal) (head : Option Head) (arrivals : List Arrival) (ran : Ran C) → stop_in (lined word (run_reports lines found head arrivals ran).end) ≡ refused_by found
 run_stop word lines None head arrivals ran = refl
 run_stop word lines (Some fault) head arrivals ran = refl
 
-pub reports_stop : (word : List ℕ) (lines : EndLines) (run : List Arrival → Ran) (ports : List ℕ) (o : Option (List ℕ)) → stop_in (lined word (reports_over lines run ports o).end) ≡ capture_stop o
+pub reports_stop : {C : Type 0} → (word : List ℕ) (lines : EndLines C) (run : List Arrival → Ran C) (ports : List ℕ) (o : Option (List ℕ)) → stop_in (lined word (reports_over lines run ports o).end) ≡ capture_stop o
 reports_stop word lines run ports None = refl
 reports_stop word lines run ports (Some octets) = by_limit (nat_lt capture_limit (length octets))
   where
@@ -76,7 +76,7 @@ capture_over (Some octets) over =
     ap (limited_stop octets) above
 
 -- What a capture comes to whose run was done: it is a whole one, and these are the sent file, the report and the line of the run.
-pub record Whole (word : List ℕ) (lines : EndLines) (run : List Arrival → Ran) (ports : List ℕ) (file : Option (List ℕ)) (r : Reports) : Type 0 where
+pub record Whole {C : Type 0} (word : List ℕ) (lines : EndLines C) (run : List Arrival → Ran C) (ports : List ℕ) (file : Option (List ℕ)) (r : Reports) : Type 0 where
   pub octets : List ℕ
   pub link : ℕ
   pub nano : Bool
@@ -94,7 +94,7 @@ headed (Some fault) head left is = absurd (cc is)
 headed None None left is = absurd (cc is)
 headed None (Some h) left is = (h, refl)
 
-module _ (word : List ℕ) (lines : EndLines) (run : List Arrival → Ran) (ports octets : List ℕ) where
+module _ {C : Type 0} (word : List ℕ) (lines : EndLines C) (run : List Arrival → Ran C) (ports octets : List ℕ) where
   abbrev arrivals_in : List Arrival
   arrivals_in = arrivals_of ports (reading_of octets).records
 
@@ -124,7 +124,7 @@ module _ (word : List ℕ) (lines : EndLines) (run : List Arrival → Ran) (port
   whole_octets true test done = absurd (not_done (Limit Capture) done)
   whole_octets false test done = whole_reading (grind (arith, nat_tests)) (refusal octets) refl done
 
-pub whole_capture : (word : List ℕ) (lines : EndLines) (run : List Arrival → Ran) (ports : List ℕ) (file : Option (List ℕ)) → 0 ≡ code_of (lined word (reports_over lines run ports file).end) → Whole word lines run ports file (reports_over lines run ports file)
+pub whole_capture : {C : Type 0} → (word : List ℕ) (lines : EndLines C) (run : List Arrival → Ran C) (ports : List ℕ) (file : Option (List ℕ)) → 0 ≡ code_of (lined word (reports_over lines run ports file).end) → Whole word lines run ports file (reports_over lines run ports file)
 whole_capture word lines run ports None done = absurd (not_done Fault done)
 whole_capture word lines run ports (Some octets) done = whole_octets word lines run ports octets (nat_lt capture_limit (length octets)) refl done
 
@@ -187,7 +187,7 @@ early_reading rule early octets is = early_sized rule early octets (nat_lt (leng
 abbrev pub Empty : Reports → Type 0
 Empty r = (r.sent ≡ []) × (r.report ≡ [])
 
-module _ (lines : EndLines) (run : List Arrival → Ran) (none_sent : (run []).sent ≡ []) (ports : List ℕ) where
+module _ {C : Type 0} (lines : EndLines C) (run : List Arrival → Ran C) (none_sent : (run []).sent ≡ []) (ports : List ℕ) where
   empty_run : (fault : Refusal) (found : Option Refusal) (head : Option Head) (records : List Record) → found ≡ Some fault → head ≡ None → records ≡ []
       → Empty (run_reports lines found head (arrivals_of ports records) (run (arrivals_of ports records)))
   empty_run fault None head records is none rest = absurd (cc is)
@@ -214,9 +214,9 @@ module _ (lines : EndLines) (run : List Arrival → Ran) (none_sent : (run []).s
   empty_reports (Some octets) (inr over) = empty_over octets (nat_lt capture_limit (length octets)) refl over
 
 -- runs that are the same on all packets give the same
-pub same_reports : (lines : EndLines) (run other : List Arrival → Ran) → ((arrivals : List Arrival) → run arrivals ≡ other arrivals) → (ports : List ℕ) (file : Option (List ℕ)) → reports_over lines run ports file ≡ reports_over lines other ports file
-same_reports lines run other same ports None = refl
-same_reports lines run other same ports (Some octets) =
+pub same_reports : {C : Type 0} → (lines : EndLines C) (run other : List Arrival → Ran C) → ((arrivals : List Arrival) → run arrivals ≡ other arrivals) → (ports : List ℕ) (file : Option (List ℕ)) → reports_over lines run ports file ≡ reports_over lines other ports file
+same_reports {C = C} lines run other same ports None = refl
+same_reports {C = C} lines run other same ports (Some octets) =
     let reading = reading_of octets in
     let packets = arrivals_of ports reading.records in
-    ap (λ (r : Ran). if nat_lt capture_limit (length octets) then stopped (Limit Capture) else run_reports lines (refusal_in reading) reading.head packets r) (same packets)
+    ap (λ (r : Ran C). if nat_lt capture_limit (length octets) then stopped (Limit Capture) else run_reports lines (refusal_in reading) reading.head packets r) (same packets)

@@ -2,7 +2,6 @@
 use Rattle.std.specs.Prelude.{◌≡◌, ◌⊎◌, ◌<◌, ◌≤◌, ℕ, ◌%◌, ◌^◌, nat_lt, if◌then◌else◌, List, [], length, Option, Some, None, Result, Ok, Err}
 use Rattle.p4x_fault.specs.declared.Fault.{Fault as Refusal}
 use Rattle.p4x_io.specs.Desk.{grown}
-use Rattle.state_store.specs.State.{Contents}
 use Rattle.fabric.specs.declared.packets.Arrival.{Arrival}
 use Rattle.fabric.specs.declared.packets.Sent.{Sent}
 use Rattle.pcap_io.specs.declared.head.Head.{Head}
@@ -33,12 +32,12 @@ sent_file None arrivals sent = []
 sent_file (Some head) arrivals sent = sent_bytes_of head.link head.nano arrivals sent
 
 -- the lines that a runner ends its report with, by the store that it leaves and its work
-abbrev pub EndLines : Type 0
-EndLines = Contents → ℕ → List ℕ
+abbrev pub EndLines : Type 0 → Type 0
+EndLines C = C → ℕ → List ℕ
 
 -- A run over the packets of a capture that is whole, or over those in front of what is refused: then the report has no
 -- end part.
-abbrev pub run_reports : EndLines → Option Refusal → Option Head → List Arrival → Ran → Reports
+abbrev pub run_reports : {C : Type 0} → EndLines C → Option Refusal → Option Head → List Arrival → Ran C → Reports
 run_reports lines None head arrivals run = record {
   sent = sent_file head arrivals run.sent;
   report = report_of (length arrivals) run.sent (run.cut % 2 ^ 64) (lines run.store (run.work % 2 ^ 64));
@@ -51,7 +50,7 @@ run_reports lines (Some fault) head arrivals run = record {
 }
 
 -- what octets come to that are read as this, with packets on these ports
-abbrev pub reading_reports : EndLines → (List Arrival → Ran) → List ℕ → Reading → Reports
+abbrev pub reading_reports : {C : Type 0} → EndLines C → (List Arrival → Ran C) → List ℕ → Reading → Reports
 reading_reports lines run ports reading =
     let arrivals = arrivals_of ports reading.records in
     run_reports lines (refusal_in reading) reading.head arrivals (run arrivals)
@@ -61,7 +60,7 @@ abbrev pub stopped : Stop → Reports
 stopped stop = record { sent = []; report = []; end = Err stop }
 
 -- what the file of a capture comes to whose packets run so
-abbrev pub reports_over : EndLines → (List Arrival → Ran) → List ℕ → Option (List ℕ) → Reports
+abbrev pub reports_over : {C : Type 0} → EndLines C → (List Arrival → Ran C) → List ℕ → Option (List ℕ) → Reports
 reports_over lines run ports None = stopped Fault
 reports_over lines run ports (Some octets) =
     if nat_lt capture_limit (length octets) then stopped (Limit limited.Capture)

@@ -1,6 +1,5 @@
 // Runners of packets.
 ghost use Rattle.std.specs.Prelude.{◌≡◌, ℕ, ◌+◌, ◌%◌, ◌^◌, ◌++◌, List, IfOk, OnOk};
-ghost use Rattle.state_store.specs.State.{Contents};
 ghost use Rattle.fabric.specs.declared.packets.Arrival.{Arrival as Came};
 ghost use Rattle.fabric.specs.Numbers.{IsArrival};
 ghost use Rattle.run_stream.specs.Runs.{Outcome, AreFew};
@@ -17,11 +16,14 @@ pub trait Runner {
 
     ghost setting: { Self → Setting };
 
+    // What its packets change and find changed: its counters, registers and meters, and what else counts on from one to the next.
+    ghost Store: { Type 0 };
+
     // What comes of an arrival that finds this store.
-    ghost outcome: { Setting → Contents → Came → Outcome };
+    ghost outcome: { Setting → Store → Came → Outcome Store };
 
     // The store as the arrivals so far left it.
-    ghost store: { Self → Contents };
+    ghost store: { Self → Store };
 
     // How many statements and transitions began so far, modulo 2^64.
     ghost done: { Self → ℕ };
@@ -39,7 +41,7 @@ pub trait Runner {
         ensures cut { IfOk result (λ fate. fate.cut ≡ (outcome (setting self.old) (store self.old) arrival.now).cut % 2 ^ 64) };
 
     // The lines that end the report, by the store and the work.
-    ghost end_lines: { Setting → Contents → ℕ → List ℕ };
+    ghost end_lines: { Setting → Store → ℕ → List ℕ };
 
     /// Puts the lines last that end the report of the packets so far, behind how many came in and left. They tell of
     /// the runner's counters and registers, and of its work where it tells that.

@@ -12,7 +12,7 @@ abbrev pub leaving : ℕ → List ℕ → Out
 leaving port octets = record { port = port; octets = octets }
 
 -- Each packet leaves twice, and the item that its second pass queues is cut.
-abbrev pub twice : ℕ → Contents → Arrival → Outcome
+abbrev pub twice : ℕ → Contents → Arrival → Outcome Contents
 twice port store a = record {
   sent = leaving port a.octets ∷ leaving port a.octets ∷ [];
   store = store;

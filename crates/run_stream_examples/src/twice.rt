@@ -1,5 +1,6 @@
 //! A runner that sends each packet twice.
 ghost use Rattle.std.specs.Prelude.{◌≡◌, ◌∷◌, [], ℕ, IfOk};
+ghost use Rattle.state_store.specs.State.{Contents};
 ghost use Rattle.run_stream.specs.Reports.{work_line};
 ghost use Rattle.run_stream_examples.specs.Twice.{leaving, twice, no_store, are_few};
 
@@ -55,6 +56,8 @@ impl Runner for Twice {
     ghost Setting = { ℕ };
 
     ghost setting = { λ runner. runner.port };
+
+    ghost Store = { Contents };
 
     ghost outcome = { twice };
 

@@ -20,7 +20,7 @@ use Rattle.v1_parse_machine.specs.declared.machine.ParserMachine.{ParserMachine}
 use Rattle.v1_parse_machine.specs.Working.{Works, made_of}
 use Rattle.v1_parse_run.specs.Made as made
 use Rattle.v1_block_run.specs.Blocks.{IsRunnable}
-use Rattle.v1_block_examples.specs.Growing.{IsSmall, Knows, OnKey, Puts, made_by}
+use Rattle.v1_block_examples.specs.Growing.{FitsCode, IsSmall, Knows, OnKey, Puts, made_by}
 use Rattle.v1_block_examples.specs.Layouts.{small}
 
 pub on_key : (key : ℕ) (keys : List ℕ) (rows : List CaseRow) → keys ≡ key ∷ [] → OnKey key (ready_transition.Select keys rows)
@@ -55,19 +55,24 @@ one_state : (m : made.Made) (s : ReadyState) → FitsState m s → All (FitsStat
 one_state m s fits zero d within = fits
 one_state m s fits (suc k) d within = absurd (omega (arith, within))
 
-pub parser_fits : (a b c d : Code) (r : ReadyParser) (key nothing : ℕ) (s : ReadyState) → Knows a b key → Puts b c nothing → Puts c d s.body → OnKey key s.transition → r.headers ≡ header → r.error ≡ 1 → r.variables ≡ nothing → r.states ≡ s ∷ [] → FitsParser (made_by d) r
+pub parser_fits : (a b c d : Code) (r : ReadyParser) (key nothing : ℕ) (s : ReadyState) → Knows a b key → Puts b c nothing → Puts c d s.body → OnKey key s.transition → r.headers ≡ header → r.error ≡ 1 → r.variables ≡ nothing → r.states ≡ s ∷ [] → FitsCode d r
 parser_fits a b c d r key nothing s knows first last on headers error variables states =
     let exps : length (expressions_in d) ≡ length d.expressions.nodes = growth.count ready_of d.expressions.nodes in
     let count : length (trees_of d) ≡ length d.statements.nodes = growth.count (tree_of (expressions_in d)) d.statements.nodes in
     let known : key < length (expressions_in d) = omega (arith, knows.there, first.grows.expressions, last.grows.expressions, exps) in
     record {
-      headers = subst (λ (l : Layout). IsRange l r.headers) (sym last.grows.small.layout) (subst (IsRange small) (sym headers) header_there);
-      error = subst (λ (l : Layout). HoldsErrors l r.error) (sym last.grows.small.layout) (subst (HoldsErrors small) (sym error) errors_there);
-      variables = omega (arith, variables, first.there, last.grows.nodes, count);
-      states =
-          subst (All (FitsState (made_by d))) (sym states)
-          (one_state (made_by d) s (record { body = omega (arith, last.there, count); transition = on.fits (length (expressions_in d)) known }));
+      fits = λ octets. record {
+        headers = subst (λ (l : Layout). IsRange l r.headers) (sym last.grows.small.layout) (subst (IsRange small) (sym headers) header_there);
+        error = subst (λ (l : Layout). HoldsErrors l r.error) (sym last.grows.small.layout) (subst (HoldsErrors small) (sym error) errors_there);
+        variables = omega (arith, variables, first.there, last.grows.nodes, count);
+        states =
+            subst (All (FitsState (made_by d octets))) (sym states)
+            (one_state (made_by d octets) s (record { body = omega (arith, last.there, count); transition = on.fits (length (expressions_in d)) known }));
+      };
     }
+
+pub fits_machine : (m : ParserMachine) (r : ReadyParser) → FitsCode m.code.now.code r → FitsParser (made_of m) r
+fits_machine m r is = is.fits m.octets.now
 
 pub works_small : (m : ParserMachine) → IsRunnable m.code.now → IsSmall m.code.now.code → m.frame.layout ≡ small → m.run.waiting.layout ≡ small → m.store.shapes ≡ [] → m.parsed ≡ 0 → Works m
 works_small m runnable is frame waiting shapes none = record {
@@ -76,8 +81,8 @@ works_small m runnable is frame waiting shapes none = record {
   within = omega (arith, none);
 }
 
-pub field_there : (m : ParserMachine) (c : Code) → Works m → made_of m ≡ made_by c → IsSmall c → 0 < length m.frame.layout.widths
-field_there m c works same is =
+pub field_there : (m : ParserMachine) (c : Code) (octets : List ℕ) → Works m → made_of m ≡ made_by c octets → IsSmall c → 0 < length m.frame.layout.widths
+field_there m c octets works same is =
     let four : length small.widths ≡ 4 = refl in
     let here : length m.frame.layout.widths ≡ length small.widths =
     ap (λ (l : Layout). length l.widths) (works.over.cells ∙ ap (λ (k : made.Made). k.layout) same ∙ is.layout) in

@@ -5,9 +5,8 @@
 //         transition select(h.f) { 0: start; default: accept; }
 //     }
 ghost use Rattle.std.specs.Prelude.{◌≡◌, IfOk};
-ghost use Rattle.v1_parse_run.specs.Made.{FitsParser};
 ghost use Rattle.v1_block_run.specs.Blocks.{IsRunnable};
-ghost use Rattle.v1_block_examples.specs.Growing.{IsSmall, OnKey, made_by};
+ghost use Rattle.v1_block_examples.specs.Growing.{FitsCode, IsSmall, OnKey};
 ghost use Rattle.v1_block_examples.specs.Layouts.{small};
 
 use crate::code::{known, layout, no_code, put};
@@ -63,7 +62,7 @@ fn parser<'l>(
     requires { layout.now ≡ small }
     ensures runnable { IfOk result (λ made. IsRunnable made.0) }
     ensures small { IfOk result (λ made. IsSmall made.0.code) }
-    ensures fits { IfOk result (λ made. FitsParser (made_by made.0.code) made.1) }
+    ensures fits { IfOk result (λ made. FitsCode made.0.code made.1) }
 {
     let mut states = Rows::new(alloc);
     let mut code = no_code(alloc, layout)?;
@@ -92,7 +91,7 @@ fn parser<'l>(
 }
 
 /// What parsing a packet leaves: the error, how many octets are parsed, the field, and how many statements and transitions began.
-#[tactic(auto, using(crate::proofs::Parsing::works_small, crate::proofs::Parsing::field_there))]
+#[tactic(auto, using(crate::proofs::Parsing::works_small, crate::proofs::Parsing::fits_machine, crate::proofs::Parsing::field_there))]
 fn parsed(
     alloc: Global,
     layout: &FrameLayout,
@@ -103,7 +102,7 @@ fn parsed(
     requires layout { layout.now ≡ small }
     requires runnable { IsRunnable code.now }
     requires small { IsSmall code.now.code }
-    requires fits { FitsParser (made_by code.now.code) parser.now }
+    requires fits { FitsCode code.now.code parser.now }
 {
     let frame = frame(alloc, layout)?;
     let store = store(alloc)?;

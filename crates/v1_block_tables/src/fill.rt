@@ -15,7 +15,7 @@ use std::marker::Model;
 /// whatever runs blocks. Contracts see the tables, and what was set for each.
 #[derive(Drop)]
 pub struct FilledTables<'e> {
-    tables: Rows<Table>,
+    tables: Rows<Table<'e>>,
     fills: &'e [TableFill],
 }
 

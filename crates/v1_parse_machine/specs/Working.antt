@@ -17,6 +17,8 @@ moment_of m = moment m.frame m.store (drop m.parsed m.octets.now) m.run
 abbrev pub made_of : ParserMachine → Made
 made_of m = record {
   layout = (ground_of m.code.now.code).layout;
+  shapes = (ground_of m.code.now.code).shapes;
+  octets = m.octets.now;
   expressions = expressions_in m.code.now.code;
   statements = trees_of m.code.now.code;
 }

@@ -1,5 +1,6 @@
 -- What the states of a parser are made of, by its places.
 use Rattle.std.specs.Prelude.{ℕ, ◌<◌, ◌^◌, List, length, slice_index, Option, Some, None, All}
+use Rattle.state_store.specs.declared.shapes.Shape.{Shape}
 use Rattle.v1_sem.specs.declared.parser_error.ParserError.{ParserError}
 use Rattle.v1_sem.specs.Frames.{error_number}
 use Rattle.v1_frames.specs.Layouts.{Layout}
@@ -12,9 +13,11 @@ use Rattle.v1_ready_states.specs.declared.states.ReadyParser.{ReadyParser}
 use Rattle.v1_ready_states.specs.States.{State, Parser, Onward, onward, finished}
 use Rattle.v1_ready_states.specs.Rows.{state_of, states_of, parser_of}
 
--- the parts of frames, and the expressions and the statements that are kept
+-- the parts of frames, the objects, the octets of the packet, and the expressions and the statements that are kept
 pub record Made : Type 0 where
   pub layout : Layout
+  pub shapes : List Shape
+  pub octets : List ℕ
   pub expressions : List Ready
   pub statements : List Tree
 

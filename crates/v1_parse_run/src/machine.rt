@@ -18,7 +18,8 @@ pub trait Machine {
     // What it needs to work. Each call keeps it, but for want of memory.
     ghost works: { Self → Type 0 };
 
-    // The parts of frames, and the expressions and the statements that are kept. They stay.
+    // The parts of frames, the objects, the octets of the packet, and the expressions and the statements that are kept.
+    // They stay.
     ghost made: { Self → Made };
 
     // The moment, as it was left so far.

@@ -57,8 +57,8 @@ impl<'r, B: Blocks<'r> + Drop> Runner16<'r, B> {
         requires bound { IsBound self.old.bound }
         requires port { IsPort arrival.now.port }
         ensures setting { OnOk result (B.setting self.new.passes.blocks ≡ B.setting self.old.passes.blocks) }
-        ensures sessions { OnOk result (self.new.sessions.now ≡ self.old.sessions.now) }
-        ensures bound { OnOk result (self.new.bound ≡ self.old.bound) }
+        ensures sessions { self.new.sessions.now ≡ self.old.sessions.now }
+        ensures bound { self.new.bound ≡ self.old.bound }
         ensures fate { IfOk result (λ fate. fabric (machine16 (B.setting self.old.passes.blocks)) self.old.sessions.now self.old.bound (between_of (B.store self.old.passes.blocks) self.old.passes.work self.old.passes.events) arrival.now ≡ record { state = between_of (B.store self.new.passes.blocks) self.new.passes.work self.new.passes.events; sent = fate.sent; cut = fate.cut }) }
     {
         let fate = serve(

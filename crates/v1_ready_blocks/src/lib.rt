@@ -8,6 +8,7 @@ mod nodes;
 mod places;
 mod statements;
 
+pub use checked::{is_range, is_slot};
 pub use externs::Extern;
 pub use nodes::{
     ArgumentNode, IncomingNode, Node, OutgoingNode, Single, SourceNode, StatementNode, TestNode,

@@ -208,7 +208,7 @@ concatenated_of d e items b x y few = absurd (cc x)
 concatenated_of d e nothing b x y few = absurd (cc x)
 concatenated_of d e unknown b x y few = absurd (cc x)
 
-kinds_fit : (p : Place) (operator : BinaryOperator) (d e : Exp16) (a b : Kind) → takes (left_place p operator a b) d a ≡ true → takes (right_place p operator a b) e b ≡ true → joins_too_many operator a b ≡ false → KindsFit operator a b
+pub kinds_fit : (p : Place) (operator : BinaryOperator) (d e : Exp16) (a b : Kind) → takes (left_place p operator a b) d a ≡ true → takes (right_place p operator a b) e b ≡ true → joins_too_many operator a b ≡ false → KindsFit operator a b
 kinds_fit p Multiply d e a b x y few = join_of p d e a b x y
 kinds_fit p Add d e a b x y few = join_of p d e a b x y
 kinds_fit p Subtract d e a b x y few = join_of p d e a b x y

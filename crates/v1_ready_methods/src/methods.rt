@@ -53,8 +53,10 @@ pub fn ready_header<'a>(
 
 const PUSH_FRONT: &[u8] = b"push_front";
 
-/// `push_front` or `pop_front`, by its name, of a stack by as many elements as a literal says; as `ready_header`. A number of more than
-/// 32 bits counts as want of memory.
+const POP_FRONT: &[u8] = b"pop_front";
+
+/// `push_front` or `pop_front`, by its name, of a stack by as many elements as a literal says; as `ready_header`, and none for any
+/// other name. A number of more than 32 bits counts as want of memory.
 pub fn ready_stack<'a>(
     alloc: Global,
     nodes: &mut ReadyNodes<'_>,
@@ -76,13 +78,15 @@ pub fn ready_stack<'a>(
     let Some(range) = fixed_range(place) else {
         return Ok(None);
     };
-    let node = if word == PUSH_FRONT {
-        StatementNode::PushFront(range, count)
+    if word == PUSH_FRONT {
+        let statement = put_statement(nodes, StatementNode::PushFront(range, count))?;
+        Ok(Some(statement))
+    } else if word == POP_FRONT {
+        let statement = put_statement(nodes, StatementNode::PopFront(range, count))?;
+        Ok(Some(statement))
     } else {
-        StatementNode::PopFront(range, count)
-    };
-    let statement = put_statement(nodes, node)?;
-    Ok(Some(statement))
+        Ok(None)
+    }
 }
 
 /// `p.extract(e)`; as `ready_header`.

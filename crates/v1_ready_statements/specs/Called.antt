@@ -129,16 +129,24 @@ with_target f to = option_map f to
 abbrev pub register_deed : Around → Scope → List NamedSeat → Name → ℕ → List Exp16 → Option Deed
 register_deed b s seats word number es =
     if bytes_eq word (codes "read") then executes (with_target (λ to. extern.Read number to) (target_given s seats (given_at es 0))) (value_given b s seats index_place (given_at es 1))
-    else executes (Some (extern.Write number)) (join_option (value_given b s seats index_place (given_at es 0)) (value_given b s seats any_bits (given_at es 1)))
+    else if bytes_eq word (codes "write") then executes (Some (extern.Write number)) (join_option (value_given b s seats index_place (given_at es 0)) (value_given b s seats any_bits (given_at es 1)))
+    else None
+
+-- what has one method, of this name
+abbrev pub only_called : Name → Name → Option Deed → Option Deed
+only_called known word d = if bytes_eq word known then d else None
 
 abbrev pub object_deed : Around → Scope → List NamedSeat → ObjectKind → Name → ℕ → List Exp16 → Option Deed
 object_deed b s seats counter word number es =
-    executes (option_map (λ length. extern.Count number length) (standard_slot b (codes "packet_length"))) (value_given b s seats index_place (given_at es 0))
+    only_called (codes "count") word
+    (executes (option_map (λ length. extern.Count number length) (standard_slot b (codes "packet_length"))) (value_given b s seats index_place (given_at es 0)))
 object_deed b s seats direct_counter word number es =
-    executes (option_map (λ length. extern.CountEntry number length) (standard_slot b (codes "packet_length"))) (Some [])
+    only_called (codes "count") word
+    (executes (option_map (λ length. extern.CountEntry number length) (standard_slot b (codes "packet_length"))) (Some []))
 object_deed b s seats register word number es = register_deed b s seats word number es
 object_deed b s seats meter word number es =
-    executes (with_target (λ to. extern.ExecuteMeter number to) (target_given s seats (given_at es 1))) (value_given b s seats index_place (given_at es 0))
+    only_called (codes "execute_meter") word
+    (executes (with_target (λ to. extern.ExecuteMeter number to) (target_given s seats (given_at es 1))) (value_given b s seats index_place (given_at es 0)))
 
 -- methods
 
@@ -146,23 +154,27 @@ abbrev pub header_deed : Around → Scope → List NamedSeat → Exp16 → Name 
 header_deed b s seats e word =
     if bytes_eq word (codes "setValid") then option_map (λ r. set_valid r true) (range_given s seats e)
     else if bytes_eq word (codes "setInvalid") then option_map (λ r. set_valid r false) (range_given s seats e)
-    else option_map let_go (asked_test s seats (table_found b) owner its_validity e)
+    else if bytes_eq word (codes "isValid") then option_map let_go (asked_test s seats (table_found b) owner its_validity e)
+    else None
 
 abbrev pub stack_deed : Scope → List NamedSeat → Exp16 → Name → List Exp16 → Option Deed
-stack_deed s seats e word es = option_map by_word (option_and_then fixed_range (range_given s seats e)) where
-  by_word : Range → Deed
+stack_deed s seats e word es = option_and_then by_word (option_and_then fixed_range (range_given s seats e)) where
+  by_word : Range → Option Deed
   by_word r =
-      if bytes_eq word (codes "push_front") then push_front r (number_given (given_at es 0))
-      else pop_front r (number_given (given_at es 0))
+      if bytes_eq word (codes "push_front") then Some (push_front r (number_given (given_at es 0)))
+      else if bytes_eq word (codes "pop_front") then Some (pop_front r (number_given (given_at es 0)))
+      else None
 
--- the call of a method of something of a kind
+-- the call of a method of something of a kind, which has it
 abbrev pub method_deed : Around → Scope → List NamedSeat → Kind → Exp16 → Name → List Exp16 → Option Deed
 method_deed b s seats (header type) e word es = header_deed b s seats e word
 method_deed b s seats (stack type size) e word es = stack_deed s seats e word es
-method_deed b s seats packet_in e word es = option_map extract_header (range_given s seats (given_at es 0))
-method_deed b s seats packet_out e word es = option_map emit_headers (ready_source s seats (table_found b) (given_at es 0))
+method_deed b s seats packet_in e word es =
+    only_called (codes "extract") word (option_map extract_header (range_given s seats (given_at es 0)))
+method_deed b s seats packet_out e word es =
+    only_called (codes "emit") word (option_map emit_headers (ready_source s seats (table_found b) (given_at es 0)))
 method_deed b s seats (object kind) e word es = object_deed b s seats kind word (object_found b e) es
-method_deed b s seats table e word es = option_map apply (table_found b (name_in e))
+method_deed b s seats table e word es = only_called (codes "apply") word (option_map apply (table_found b (name_in e)))
 method_deed b s seats _ e word es = None
 
 -- a call of this with these arguments

@@ -1,5 +1,5 @@
 -- The statements of the states of a parser.
-use Rattle.std.proofs.Common.{◌≡◌, ℕ, Bool, false, Option, Some, None, IfSome, List, [], subst, append-nil}
+use Rattle.std.proofs.Common.{◌≡◌, ℕ, Bool, false, Option, Some, None, IfSome, List, [], refl, subst, append-nil}
 use Rattle.p416_ast.specs.declared.program.Syntax16.{Syntax16}
 use Rattle.p416_ast.specs.declared.node.CaseLabel.{CaseLabel}
 use Rattle.v1_sem.specs.Frames as sem
@@ -26,7 +26,7 @@ body_left syntax vars vs m k h =
     ((h.some, there), (λ none. subst (λ (inner : List Variable). Shows syntax (in_block vars inner) m k) (h.all none) there))
 
 pub bodies_show : BodiesShow
-bodies_show b w from to n vars x r accepted leaves at keeps are fits is m k h =
+bodies_show b w from to n vars x r tests accepted leaves at keeps are fits is m k h =
     body_left b.syntax vars (declared_from w.around.scope n x) (run w w.around.scope no_label x m) (parser_run r k)
     (at_some (λ (q : Statement). (taken : CaseLabel → Bool) (ran : Option ℕ) (i : sem.Moment) (j : Moment) → Shown (Waits false b.syntax) b.syntax (in_block vars []) i j → LeftBehind (Waits false b.syntax) b.syntax (in_block vars []) (declared_from w.around.scope n x) (run w w.around.scope taken x i) (ready.run quiet_world ran q j)) (ready_of_statement b w.around.scope (seats_in b.syntax w.around.roots (in_block vars [])) n x) r is
-    (statements_show false b w quiet_world from to x w.around.scope (in_block vars []) n accepted leaves at keeps are fits) no_label None m k (record { shows = h; waits = λ never. absurd (cc never) }))
+    (statements_show false b w quiet_world from to x w.around.scope (in_block vars []) n tests vars accepted leaves (record { context = at; variables = refl }) keeps are fits) no_label None m k (record { shows = h; waits = λ never. absurd (cc never) }))

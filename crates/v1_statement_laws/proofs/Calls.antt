@@ -1,5 +1,5 @@
 -- Calls of what headers can do.
-use Rattle.std.proofs.Common.{◌≡◌, ◌⊎◌, inl, inr, Bool, true, false, cond, Option, Some, None, IfSome, List, [], length, refl, sym, ap, ◌∙◌, subst}
+use Rattle.std.proofs.Common.{◌≡◌, Bool, true, false, cond, Option, Some, None, IfSome, List, [], length, refl, sym, ap, ◌∙◌, subst}
 use Rattle.std.specs.Prelude.{option_map, option_and_then, codes}
 use Rattle.std.specs.Str.{bytes_eq}
 use Rattle.std.proofs.lemmas.Slice.Eq.{bytes_eq-Decides}
@@ -113,37 +113,35 @@ module _ (P : Cells → Type 0) (b : Around) (w : meaning.World) (z : World) (s 
     by (Some t) h = gone t h
 
   -- the deed of a call
-  pub header_called : (e handed : Exp16) (type word : Name) (q : Place) → kind_of s e ≡ header type → Keeps s q e → ((text : Name) → table_found b text ≡ None) → (bytes_eq word (codes "isValid") ≡ true) ⊎ ((bytes_eq word (codes "setValid") ≡ true) ⊎ (bytes_eq word (codes "setInvalid") ≡ true)) → IfSome (header_deed b s seats e word) (λ d. RunsAlike P b w z s who [] (expression (call (member e word) handed)) (does d))
-  header_called e handed type word q kind keeps none known = by known where
+  pub header_called : (e handed : Exp16) (type word : Name) (q : Place) → kind_of s e ≡ header type → Keeps s q e → ((text : Name) → table_found b text ≡ None) → IfSome (header_deed b s seats e word) (λ d. RunsAlike P b w z s who [] (expression (call (member e word) handed)) (does d))
+  header_called e handed type word q kind keeps none = first (bytes_eq word (codes "setValid")) refl where
     not_both : (u v : Name) → bytes_eq u v ≡ false → bytes_eq word u ≡ true → bytes_eq word v ≡ false
     not_both u v other is = subst (λ (t : Name). bytes_eq t v ≡ false) (sym ((bytes_eq-Decides word u).0 is)) other
 
-    deed_at : (t u : Bool) → bytes_eq word (codes "setValid") ≡ t → bytes_eq word (codes "setInvalid") ≡ u → IfSome (cond t (option_map (λ r. mark r true) (range_given s seats e)) (cond u (option_map (λ r. mark r false) (range_given s seats e)) (option_map let_go (asked_test s seats (table_found b) owner its_validity e)))) (λ d. RunsAlike P b w z s who [] (expression (call (member e word) handed)) (does d)) → IfSome (header_deed b s seats e word) (λ d. RunsAlike P b w z s who [] (expression (call (member e word) handed)) (does d))
-    deed_at t u x y h =
-        subst (λ (c : Bool). IfSome (cond c (option_map (λ r. mark r true) (range_given s seats e)) (cond (bytes_eq word (codes "setInvalid")) (option_map (λ r. mark r false) (range_given s seats e)) (option_map let_go (asked_test s seats (table_found b) owner its_validity e)))) (λ d. RunsAlike P b w z s who [] (expression (call (member e word) handed)) (does d))) (sym x)
-        (subst (λ (c : Bool). IfSome (cond t (option_map (λ r. mark r true) (range_given s seats e)) (cond c (option_map (λ r. mark r false) (range_given s seats e)) (option_map let_go (asked_test s seats (table_found b) owner its_validity e)))) (λ d. RunsAlike P b w z s who [] (expression (call (member e word) handed)) (does d))) (sym y) h)
+    third : (t : Bool) → bytes_eq word (codes "isValid") ≡ t → IfSome (cond t (option_map let_go (asked_test s seats (table_found b) owner its_validity e)) None) (λ d. RunsAlike P b w z s who [] (expression (call (member e word) handed)) (does d))
+    third true is = asked_only e handed type word q kind is keeps none
+    third false is = tt
 
-    by : (bytes_eq word (codes "isValid") ≡ true) ⊎ ((bytes_eq word (codes "setValid") ≡ true) ⊎ (bytes_eq word (codes "setInvalid") ≡ true)) → IfSome (header_deed b s seats e word) (λ d. RunsAlike P b w z s who [] (expression (call (member e word) handed)) (does d))
-    by (inl is) =
-        deed_at false false (not_both (codes "isValid") (codes "setValid") refl is) (not_both (codes "isValid") (codes "setInvalid") refl is)
-        (asked_only e handed type word q kind is keeps none)
-    by (inr (inl is)) =
-        deed_at true (bytes_eq word (codes "setInvalid")) is refl
-        (marked e handed type word true set_valid kind (not_both (codes "setValid") (codes "isValid") refl is) (set_call word is)
-        (λ x place m k means parts h runs. (header_marked P b w s who accepted layouts e x type place m k scope fine seated kind means parts h runs).0))
-    by (inr (inr is)) =
-        deed_at false true (not_both (codes "setInvalid") (codes "setValid") refl is) is
-        (marked e handed type word false set_invalid kind (not_both (codes "setInvalid") (codes "isValid") refl is) (unset_call word (not_both (codes "setInvalid") (codes "setValid") refl is) is)
-        (λ x place m k means parts h runs. (header_marked P b w s who accepted layouts e x type place m k scope fine seated kind means parts h runs).1))
+    second : (t : Bool) → bytes_eq word (codes "setInvalid") ≡ t → IfSome (cond t (option_map (λ r. mark r false) (range_given s seats e)) (cond (bytes_eq word (codes "isValid")) (option_map let_go (asked_test s seats (table_found b) owner its_validity e)) None)) (λ d. RunsAlike P b w z s who [] (expression (call (member e word) handed)) (does d))
+    second true is =
+        marked e handed type word false set_invalid kind (not_both (codes "setInvalid") (codes "isValid") refl is) (unset_call word (not_both (codes "setInvalid") (codes "setValid") refl is) is)
+        (λ x place m k means parts h runs. (header_marked P b w s who accepted layouts e x type place m k scope fine seated kind means parts h runs).1)
+    second false other = third (bytes_eq word (codes "isValid")) refl
 
-  pub header_does : (e handed : Exp16) (type word : Name) (q : Place) → kind_of s e ≡ header type → Keeps s q e → ((text : Name) → table_found b text ≡ None) → (bytes_eq word (codes "isValid") ≡ true) ⊎ ((bytes_eq word (codes "setValid") ≡ true) ⊎ (bytes_eq word (codes "setInvalid") ≡ true)) → IfSome (expression_ready b s seats (call (member e word) handed)) (RunsAlike P b w z s who [] (expression (call (member e word) handed)))
-  header_does e handed type word q kind keeps none known =
+    first : (t : Bool) → bytes_eq word (codes "setValid") ≡ t → IfSome (cond t (option_map (λ r. mark r true) (range_given s seats e)) (cond (bytes_eq word (codes "setInvalid")) (option_map (λ r. mark r false) (range_given s seats e)) (cond (bytes_eq word (codes "isValid")) (option_map let_go (asked_test s seats (table_found b) owner its_validity e)) None))) (λ d. RunsAlike P b w z s who [] (expression (call (member e word) handed)) (does d))
+    first true is =
+        marked e handed type word true set_valid kind (not_both (codes "setValid") (codes "isValid") refl is) (set_call word is)
+        (λ x place m k means parts h runs. (header_marked P b w s who accepted layouts e x type place m k scope fine seated kind means parts h runs).0)
+    first false other = second (bytes_eq word (codes "setInvalid")) refl
+
+  pub header_does : (e handed : Exp16) (type word : Name) (q : Place) → kind_of s e ≡ header type → Keeps s q e → ((text : Name) → table_found b text ≡ None) → IfSome (expression_ready b s seats (call (member e word) handed)) (RunsAlike P b w z s who [] (expression (call (member e word) handed)))
+  header_does e handed type word q kind keeps none =
       subst (λ (j : Kind). IfSome (option_map does (method_deed b s seats j e word (arguments_of handed))) (RunsAlike P b w z s who [] (expression (call (member e word) handed)))) (sym kind)
-      (each (header_deed b s seats e word) (header_called e handed type word q kind keeps none known)) where
+      (each (header_deed b s seats e word) (header_called e handed type word q kind keeps none)) where
         each : (o : Option Deed) → IfSome o (λ d. RunsAlike P b w z s who [] (expression (call (member e word) handed)) (does d)) → IfSome (option_map does o) (RunsAlike P b w z s who [] (expression (call (member e word) handed)))
         each None h = tt
         each (Some d) h = h
 
 pub headers_called : HeadersCalled
-headers_called calls b w z from to n s who e handed type word q accepted at none keeps kind known =
-    header_does (Waits calls b.syntax) b w z s who accepted at.layouts at.seated at.fine (body_scope (length (variable_kinds b.syntax)) from to n who at.body) e handed type word q kind keeps (no_tables b none) known
+headers_called calls b w z from to n s who e handed type word q accepted at none keeps kind =
+    header_does (Waits calls b.syntax) b w z s who accepted at.layouts at.seated at.fine (body_scope (length (variable_kinds b.syntax)) from to n who at.body) e handed type word q kind keeps (no_tables b none)

@@ -1,6 +1,7 @@
 -- `p.emit(x)` of a header or a stack that no stack tells.
-use Rattle.std.proofs.Common.{◌≡◌, inl, inr, Option, Some, None, IfSome, List, [], ◌∷◌, length, refl, sym, ap, ◌∙◌, subst}
-use Rattle.std.specs.Prelude.{option_map}
+use Rattle.std.proofs.Common.{◌≡◌, inl, inr, Bool, true, false, cond, Option, Some, None, IfSome, List, [], ◌∷◌, length, refl, sym, ap, ◌∙◌, subst}
+use Rattle.std.specs.Prelude.{option_map, codes}
+use Rattle.std.specs.Str.{bytes_eq}
 use Rattle.p416_ast.specs.Tree.{Exp16, literal, truth, error, name, member, index, slice, call, lookahead, cast, unary, binary, choice, parenthesized, no_arguments, argument, listed, expression}
 use Rattle.p416_rules.specs.Names.{Name}
 use Rattle.p416_rules.specs.Kinds.{Kind, bits, unsized, boolean, error_code, header, stack, struct, packet_in, packet_out, errors, enumeration, one_of, table, applied, object, items, nothing, unknown}
@@ -37,7 +38,7 @@ use Rattle.v1_deed_laws.proofs.Emitting.{emit_shows}
 use Rattle.v1_ready_statements.specs.Around.{Around, table_found}
 use Rattle.v1_ready_statements.specs.Tested.{ready_source}
 use Rattle.v1_ready_statements.specs.Given.{given_at}
-use Rattle.v1_ready_statements.specs.Called.{method_deed, expression_ready}
+use Rattle.v1_ready_statements.specs.Called.{only_called, method_deed, expression_ready}
 use Rattle.v1_value_laws.specs.Kinds.{Fine, FormIs}
 use Rattle.v1_value_laws.proofs.Formed.{meant_kind}
 use Rattle.v1_statement_laws.specs.Behind.{Waits, Shown}
@@ -168,15 +169,20 @@ module _ (P : Cells → Type 0) (b : Around) (w : meaning.World) (z : World) (s 
       let source : ready_source s seats (table_found b) f ≡ Some (parts (range_place.Fixed (range_of s.layouts x.spot.seat))) =
       source_is s seats (table_found b) f x means whole ∙ ap (λ (o : Option RangePlace). option_map parts o) (fixed_range s.layouts (form_of (kind_of s f)) x.spot form untold (subst (λ (l : List Layout). IsEmitted l (form_of (kind_of s f))) (sym layouts) even)) in
       subst (λ (j : Kind). IfSome (option_map does (method_deed b s seats j e word (arguments_of handed))) (RunsAlike P b w z s who [] (expression (call (member e word) handed)))) (sym kind)
-      (subst (λ (es : List Exp16). IfSome (option_map does (option_map emit_headers (ready_source s seats (table_found b) (given_at es 0)))) (RunsAlike P b w z s who [] (expression (call (member e word) handed)))) (sym one)
-      (subst (λ (o : Option Source). IfSome (option_map does (option_map emit_headers o)) (RunsAlike P b w z s who [] (expression (call (member e word) handed)))) (sym source)
-      (called_alike P b w z s who accepted layouts seated fine scope (member e word) handed (emit_headers (parts (range_place.Fixed (range_of s.layouts x.spot.seat))))
-      (λ m k h runs. subst (λ (y : sem.Moment). Shown P b.syntax who y (ready_packets.emit (range_of s.layouts x.spot.seat) k)) (sym (leaves m)) (emits f x m k means whole untold even h runs))))) where
+      (subst (λ (es : List Exp16). IfSome (option_map does (only_called (codes "emit") word (option_map emit_headers (ready_source s seats (table_found b) (given_at es 0))))) (RunsAlike P b w z s who [] (expression (call (member e word) handed)))) (sym one)
+      (subst (λ (o : Option Source). IfSome (option_map does (only_called (codes "emit") word (option_map emit_headers o))) (RunsAlike P b w z s who [] (expression (call (member e word) handed)))) (sym source)
+      (by_word (bytes_eq word (codes "emit"))))) where
         leaves : (m : sem.Moment) → method_call w s (kind_of s e) e word handed m ≡ packets.emit (value_of w s emitted f m).value (value_of w s emitted f m).moment
         leaves m =
             ap (λ (j : Kind). method_call w s j e word handed m) kind
             ∙ (ap (λ (es : List Exp16). let y = arguments_from w s (emitted ∷ []) es m in packets.emit (value_at y.given 0) y.moment) one
             ∙ ap (λ (g : Given × sem.Moment). packets.emit g.0.value g.1) (argument_is f x m means))
+
+        by_word : (t : Bool) → IfSome (option_map does (cond t (Some (emit_headers (parts (range_place.Fixed (range_of s.layouts x.spot.seat))))) None)) (RunsAlike P b w z s who [] (expression (call (member e word) handed)))
+        by_word true =
+            called_alike P b w z s who accepted layouts seated fine scope (member e word) handed (emit_headers (parts (range_place.Fixed (range_of s.layouts x.spot.seat))))
+            (λ m k h runs. subst (λ (y : sem.Moment). Shown P b.syntax who y (ready_packets.emit (range_of s.layouts x.spot.seat) k)) (sym (leaves m)) (emits f x m k means whole untold even h runs))
+        by_word false = tt
 
 pub headers_emitted : HeadersEmitted
 headers_emitted calls b w z from to n s who e handed f word x accepted at kind one means whole untold even =

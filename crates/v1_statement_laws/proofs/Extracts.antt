@@ -52,7 +52,7 @@ use Rattle.v1_deed_laws.proofs.Extracting.{extract_header_shows, extract_next_sh
 use Rattle.v1_ready_statements.specs.Around.{Around}
 use Rattle.v1_ready_statements.specs.Targets.{parts_meant, range_given}
 use Rattle.v1_ready_statements.specs.Given.{given_at}
-use Rattle.v1_ready_statements.specs.Called.{method_deed, expression_ready}
+use Rattle.v1_ready_statements.specs.Called.{only_called, method_deed, expression_ready}
 use Rattle.v1_value_laws.specs.Kinds.{Fine}
 use Rattle.v1_statement_laws.specs.Behind.{Waits, Shown}
 use Rattle.v1_statement_laws.specs.Leaves.{RunsAlike}
@@ -339,28 +339,32 @@ module _ (P : Cells → Type 0) (b : Around) (w : meaning.World) (z : World) (s 
   argument_is (argument before last) x m means = absurd (cc means)
   argument_is (listed es) x m means = absurd (cc means)
 
-  pub extract_does : (e handed f : Exp16) (type word : Name) → kind_of s e ≡ packet_in → bytes_eq word (codes "extract") ≡ true → arguments_of handed ≡ f ∷ [] → kind_of s f ≡ header type → IfSome (expression_ready b s seats (call (member e word) handed)) (RunsAlike P b w z s who [] (expression (call (member e word) handed)))
-  extract_does e handed f type word kind is one headed =
+  pub extract_does : (e handed f : Exp16) (type word : Name) → kind_of s e ≡ packet_in → arguments_of handed ≡ f ∷ [] → kind_of s f ≡ header type → IfSome (expression_ready b s seats (call (member e word) handed)) (RunsAlike P b w z s who [] (expression (call (member e word) handed)))
+  extract_does e handed f type word kind one headed =
       subst (λ (j : Kind). IfSome (option_map does (method_deed b s seats j e word (arguments_of handed))) (RunsAlike P b w z s who [] (expression (call (member e word) handed)))) (sym kind)
-      (subst (λ (es : List Exp16). IfSome (option_map does (option_map extract_header (range_given s seats (given_at es 0)))) (RunsAlike P b w z s who [] (expression (call (member e word) handed)))) (sym one)
-      (by_meant (meant_by s seats f) refl)) where
-        leaves : (x : Meant) (m : sem.Moment) → meant_by s seats f ≡ Some x → method_call w s (kind_of s e) e word handed m ≡ sem.going_on (packets.extract (reference_of w.around s f m).reference (stack_of_next w.around s f m)) (reference_of w.around s f m).moment
-        leaves x m means =
+      (subst (λ (es : List Exp16). IfSome (option_map does (only_called (codes "extract") word (option_map extract_header (range_given s seats (given_at es 0))))) (RunsAlike P b w z s who [] (expression (call (member e word) handed)))) (sym one)
+      (by_word (bytes_eq word (codes "extract")) refl)) where
+        leaves : (x : Meant) (m : sem.Moment) → bytes_eq word (codes "extract") ≡ true → meant_by s seats f ≡ Some x → method_call w s (kind_of s e) e word handed m ≡ sem.going_on (packets.extract (reference_of w.around s f m).reference (stack_of_next w.around s f m)) (reference_of w.around s f m).moment
+        leaves x m is means =
             ap (λ (j : Kind). method_call w s j e word handed m) kind
             ∙ (ap (λ (t : Bool). let y = arguments_from w s (wanted_by (cond t (Some (extern_at (parser_position ∷ []) (written_header ∷ []))) None)) (arguments_of handed) m in sem.going_on (packets.extract (target_at y.given 0) (first_stack_of_next w.around s (arguments_of handed) m)) y.moment) is
             ∙ (ap (λ (es : List Exp16). let y = arguments_from w s (written_header ∷ []) es m in sem.going_on (packets.extract (target_at y.given 0) (first_stack_of_next w.around s es m)) y.moment) one
             ∙ ap (λ (g : Given × sem.Moment). sem.going_on (packets.extract g.0.target (stack_of_next w.around s f m)) g.1) (argument_is f x m means)))
 
-        by_parts : (x : Meant) (q : Option RangePlace) → meant_by s seats f ≡ Some x → parts_meant s.layouts x ≡ q → IfSome (option_map does (option_map extract_header q)) (RunsAlike P b w z s who [] (expression (call (member e word) handed)))
-        by_parts x None means parts = tt
-        by_parts x (Some place) means parts =
+        by_parts : (x : Meant) (q : Option RangePlace) → bytes_eq word (codes "extract") ≡ true → meant_by s seats f ≡ Some x → parts_meant s.layouts x ≡ q → IfSome (option_map does (option_map extract_header q)) (RunsAlike P b w z s who [] (expression (call (member e word) handed)))
+        by_parts x None is means parts = tt
+        by_parts x (Some place) is means parts =
             called_alike P b w z s who accepted layouts seated fine scope (member e word) handed (extract_header place)
-            (λ m k h runs. subst (λ (y : sem.Moment). Shown P b.syntax who y (with_range (range_at k.cells place) k (λ r. extract place r k))) (sym (leaves x m means)) (extracts f x place type m k headed means parts h runs))
+            (λ m k h runs. subst (λ (y : sem.Moment). Shown P b.syntax who y (with_range (range_at k.cells place) k (λ r. extract place r k))) (sym (leaves x m is means)) (extracts f x place type m k headed means parts h runs))
 
-        by_meant : (o : Option Meant) → meant_by s seats f ≡ o → IfSome (option_map does (option_map extract_header (option_and_then (parts_meant s.layouts) o))) (RunsAlike P b w z s who [] (expression (call (member e word) handed)))
-        by_meant None means = tt
-        by_meant (Some x) means = by_parts x (parts_meant s.layouts x) means refl
+        by_meant : (o : Option Meant) → bytes_eq word (codes "extract") ≡ true → meant_by s seats f ≡ o → IfSome (option_map does (option_map extract_header (option_and_then (parts_meant s.layouts) o))) (RunsAlike P b w z s who [] (expression (call (member e word) handed)))
+        by_meant None is means = tt
+        by_meant (Some x) is means = by_parts x (parts_meant s.layouts x) is means refl
+
+        by_word : (t : Bool) → bytes_eq word (codes "extract") ≡ t → IfSome (option_map does (cond t (option_map extract_header (range_given s seats f)) None)) (RunsAlike P b w z s who [] (expression (call (member e word) handed)))
+        by_word true is = by_meant (meant_by s seats f) is refl
+        by_word false is = tt
 
 pub headers_extracted : HeadersExtracted
-headers_extracted calls b w z from to n s who e handed f type word accepted at kind is one headed =
-    extract_does (Waits calls b.syntax) b w z s who accepted at.layouts at.seated at.fine (body_scope (length (variable_kinds b.syntax)) from to n who at.body) e handed f type word kind is one headed
+headers_extracted calls b w z from to n s who e handed f type word accepted at kind one headed =
+    extract_does (Waits calls b.syntax) b w z s who accepted at.layouts at.seated at.fine (body_scope (length (variable_kinds b.syntax)) from to n who at.body) e handed f type word kind one headed

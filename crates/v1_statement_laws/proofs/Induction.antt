@@ -5,7 +5,7 @@ use Rattle.p416_ast.specs.Tree.{Exp16, Stmt16, no_statements, then, block, empty
 use Rattle.p416_rules.specs.Names.{Name}
 use Rattle.p416_rules.specs.Kinds.{boolean}
 use Rattle.p416_rules.specs.Scopes.{Scope}
-use Rattle.p416_rules.specs.Calls.{value}
+use Rattle.p416_rules.specs.Calls.{Place, value}
 use Rattle.p416_rules.specs.Statements.{behind}
 use Rattle.p416_rules.specs.Breaks.{BreaksNone, program_rules}
 use Rattle.v1_sem.specs.declared.parser_error.ParserError.{ParserError}
@@ -27,12 +27,12 @@ use Rattle.v1_ready_blocks.specs.Tests.{Valued, World, Test, test_value, with_te
 use Rattle.v1_ready_blocks.specs.Statements as ready
 use Rattle.v1_ready_blocks.specs.Statements.{Statement, nothing, sequence, branch}
 use Rattle.v1_block_laws.specs.Standing.{AreOfKinds}
-use Rattle.v1_block_laws.specs.Keeping.{StatementKeeps}
 use Rattle.v1_block_laws.specs.Variables.{variable}
 use Rattle.v1_ready_statements.specs.Around.{Around, table_found}
 use Rattle.v1_ready_statements.specs.Tested.{ready_test}
 use Rattle.v1_ready_statements.specs.Statements.{both_ready, branch_ready, switch_ready, labelled_ones, the_default, seats_behind, ready_in, ready_of_statement, start_ready}
-use Rattle.v1_statement_laws.specs.Behind.{Waits, declared_from, Shown, LeftBehind, InContext, ValuedShows}
+use Rattle.v1_statement_laws.specs.Behind.{Waits, declared_from, Shown, LeftBehind, Within, ValuedShows}
+use Rattle.v1_statement_laws.specs.Meeting.{Judged, StatementMeets}
 use Rattle.v1_statement_laws.specs.Leaves.{RunsAlike, ActionsAlike, AppliedShows, Leaves}
 use Rattle.v1_statement_laws.specs.Laws.{StatementsShow}
 use Rattle.v1_statement_laws.proofs.Closing.{inner_counted, closed_shows, ticked_shown, run_stopped, ready_stopped}
@@ -60,9 +60,12 @@ switch_made Q T A None o g f h = tt
 switch_made Q T A (Some t) None g f h = tt
 switch_made Q T A (Some t) (Some x) g f h = g t x f h
 
-module _ (P : Cells → Type 0) (b : Around) (w : meaning.World) (z : World) (from to : ℕ) (accepted : BreaksNone b.syntax program_rules) (leaves : Leaves P b w z from to) where
+module _ (U : Scope → Place → Exp16 → Type 0) (P : Cells → Type 0) (b : Around) (w : meaning.World) (z : World) (vars : List Variable) (from to : ℕ) (accepted : BreaksNone b.syntax program_rules) (leaves : Leaves U P b w z vars from to) where
   abbrev Context : ℕ → Scope → InScope → Type 0
-  Context n s who = InContext b.syntax w.around.roots from to n s who
+  Context n s who = Within vars b.syntax w.around.roots from to n s who
+
+  later : (n next : ℕ) (s : Scope) (who : InScope) → n ≤ next → next ≤ to → Context n s who → Context next s who
+  later n next s who le fits h = record { context = context_later b.syntax w.around.roots from to n next s who le fits h.context; variables = h.variables }
 
   abbrev seats : InScope → List NamedSeat
   seats who = seats_in b.syntax w.around.roots who
@@ -169,13 +172,13 @@ module _ (P : Cells → Type 0) (b : Around) (w : meaning.World) (z : World) (fr
 
   abbrev Does : Stmt16 → Type 0
   Does x =
-      (s : Scope) (who : InScope) (n : ℕ) → Context n s who → StatementKeeps s x →
+      (s : Scope) (who : InScope) (n : ℕ) → Context n s who → StatementMeets U s x →
       AreOfKinds (variable_kinds b.syntax) n (kinds_in s x) → n + length (kinds_in s x) ≤ to →
       IfSome (ready_of_statement b s (seats who) n x) (Alike s who (declared_from s n x) x)
 
   abbrev HaveBodies : Stmt16 → Type 0
   HaveBodies x =
-      (s : Scope) (who : InScope) (n : ℕ) → Context n s who → StatementKeeps s x →
+      (s : Scope) (who : InScope) (n : ℕ) → Context n s who → StatementMeets U s x →
       AreOfKinds (variable_kinds b.syntax) n (kinds_in s x) → n + length (kinds_in s x) ≤ to →
       Bodies P b w z s (seats who) n who x
 
@@ -250,7 +253,7 @@ module _ (P : Cells → Type 0) (b : Around) (w : meaning.World) (z : World) (fr
             let two : Both (variable_kinds b.syntax) n to (kinds_in s before) (kinds_in (behind before s) last) = both_kinds (variable_kinds b.syntax) n to (kinds_in s ((then) before last)) (kinds_in s before) (kinds_in (behind before s) last) (kinds_then s before last) are fits in
             let middle : InScope = with_inner_ones (declared_from s n before) who in
             let next : ℕ = n + length (kinds_in s before) in
-            let further : Context next (behind before s) middle = context_behind b.syntax w.around.roots from to before n s who two.front_are two.front_fits at in
+            let further : Context next (behind before s) middle = record { context = context_behind b.syntax w.around.roots from to before n s who two.front_are two.front_fits at.context; variables = at.variables } in
             both_made (Alike s who (declared_from s n ((then) before last)) ((then) before last)) (Alike s who (declared_from s n before) before) (Alike (behind before s) middle (declared_from (behind before s) next last) last) sequence
             (ready_of_statement b s (seats who) n before) (ready_of_statement b (behind before s) (seats_behind b s n before (seats who)) next last)
             (λ q r x y taken ran m k h. in_order s (behind before s) who (declared_from s n before) (declared_from (behind before s) next last) before last q r x y taken ran m k h)
@@ -272,7 +275,7 @@ module _ (P : Cells → Type 0) (b : Around) (w : meaning.World) (z : World) (fr
     (λ s who n at keeps are fits.
         some_weaker (RunsAlike P b w z s who (variable called n ∷ []) (var t called)) (Alike s who (variable called n ∷ []) (var t called)) (start_ready b s n)
         (λ r f. either_way s who (variable called n ∷ []) (var t called) r (λ taken ran m k h runs. f ran m k h runs))
-        (start_shows P b w z from to s who n t called at are fits)),
+        (start_shows P b w z from to s who n t called at.context are fits)),
     nothing_within (var t called) (λ s who n. tt),
   )
   all_do (var_is t called e) = (
@@ -313,7 +316,7 @@ module _ (P : Cells → Type 0) (b : Around) (w : meaning.World) (z : World) (fr
             branch_made (Alike s who [] (if_else c positive negative)) (Tests s who c) (Alike s who (declared_from s n positive) positive) (Alike s who (declared_from s next negative) negative) (ready_test s (seats who) (table_found b) (value boolean) c) (ready_of_statement b s (seats who) n positive) (ready_of_statement b s (seats who) next negative)
             (λ t q r x y v. else_does s who c positive negative (declared_from s n positive) (declared_from s next negative) t q r x y v)
             (leaves.conditions s who n c at keeps.0) (f.0 s who n at keeps.1 two.front_are two.front_fits)
-            (g.0 s who next (context_later b.syntax w.around.roots from to n next s who (omega arith) two.front_fits at) keeps.2 two.back_are two.back_fits)),
+            (g.0 s who next (later n next s who (omega arith) two.front_fits at) keeps.2 two.back_are two.back_fits)),
         nothing_within (if_else c positive negative) (λ s who n. tt),
       )
   all_do (switch text cases) =
@@ -337,9 +340,9 @@ module _ (P : Cells → Type 0) (b : Around) (w : meaning.World) (z : World) (fr
               f.1 s who n at keeps.0 two.front_are two.front_fits,
               some_weaker (Alike s who (declared_from s next body) body) (Closes P b w z s (seats who) n who body) (ready_of_statement b s (seats who) next body)
                   (λ r h m k shown. closes s who (declared_from s next body) body r h None m m k shown (inner_counted P b.syntax who m k shown))
-                  (g.0 s who next (context_later b.syntax w.around.roots from to n next s who (omega arith) two.front_fits at) keeps.1 two.back_are two.back_fits),
+                  (g.0 s who next (later n next s who (omega arith) two.front_fits at) keeps.1 two.back_are two.back_fits),
             )),
       )
 
 pub statements_show : StatementsShow
-statements_show calls b w z from to x s who n accepted leaves at keeps are fits = (all_do (Waits calls b.syntax) b w z from to accepted leaves x).0 s who n at keeps are fits
+statements_show calls b w z from to x s who n tests vars accepted leaves at keeps are fits = (all_do (Judged tests) (Waits calls b.syntax) b w z vars from to accepted leaves x).0 s who n at keeps are fits

@@ -55,6 +55,11 @@ pub record InContext (syntax : Syntax16) (roots : List Root) (from to next : ℕ
   pub seated : NamesSeated s (seats_in syntax roots who)
   pub body : AreInBody (length (variable_kinds syntax)) from to next who
 
+-- there, where the block has these variables
+pub record Within (vars : List Variable) (syntax : Syntax16) (roots : List Root) (from to next : ℕ) (s : Scope) (who : InScope) : Type 0 where
+  pub context : InContext syntax roots from to next s who
+  pub variables : who.variables ≡ vars
+
 -- evaluating gave one value and left moments that are one; or the same error stopped both
 abbrev pub ValuedShows : (Cells → Type 0) → Syntax16 → InScope → sem_expressions.Valued → Valued → Type 0
 ValuedShows P syntax who x y =

@@ -1,6 +1,5 @@
 -- That ready statements do what those of the program do.
-use Rattle.std.specs.Prelude.{◌≡◌, ◌⊎◌, ℕ, ◌+◌, ◌≤◌, Bool, true, false, List, [], ◌∷◌, length, flat_map, filter_map, codes, IfSome, Option, Some, None}
-use Rattle.std.specs.Str.{bytes_eq}
+use Rattle.std.specs.Prelude.{◌≡◌, ℕ, ◌+◌, ◌≤◌, Bool, true, false, List, [], ◌∷◌, length, flat_map, filter_map, IfSome, Option, Some, None}
 use Rattle.p416_ast.specs.declared.parts.Type16.{Type16}
 use Rattle.p416_ast.specs.declared.parsers.Var.{Var}
 use Rattle.p416_ast.specs.declared.controls.Local.{Local}
@@ -11,7 +10,7 @@ use Rattle.p416_rules.specs.Kinds.{Kind, header, stack, struct, packet_in, packe
 use Rattle.p416_rules.specs.Scopes.{Scope, kind_of_type}
 use Rattle.p416_rules.specs.Calls.{Place, value}
 use Rattle.p416_rules.specs.Expressions.{kind_of, is_chosen}
-use Rattle.p416_rules.specs.Uses.{arguments_of}
+use Rattle.p416_rules.specs.Uses.{Use, arguments_of}
 use Rattle.p416_rules.specs.Statements.{assigned_place}
 use Rattle.p416_rules.specs.Declarations.{layouts_of}
 use Rattle.p416_rules.specs.Breaks.{BreaksNone, program_rules}
@@ -41,7 +40,8 @@ use Rattle.v1_ready_statements.specs.Called.{expression_ready}
 use Rattle.v1_ready_statements.specs.Blocks.{starts_from}
 use Rattle.v1_ready_statements.specs.Statements.{assigned_to, initial_ready, ready_of_statement}
 use Rattle.v1_value_laws.specs.Classes.{IsOfClass}
-use Rattle.v1_statement_laws.specs.Behind.{Waits, Shown, LeftBehind, InContext, declared_from}
+use Rattle.v1_statement_laws.specs.Behind.{Waits, Shown, LeftBehind, InContext, Within, declared_from}
+use Rattle.v1_statement_laws.specs.Meeting.{Judged, StatementMeets}
 use Rattle.v1_statement_laws.specs.Leaves.{RunsAlike, Leaves}
 use Rattle.v1_statement_laws.specs.Evaluating.{Evaluates}
 
@@ -50,9 +50,9 @@ use Rattle.v1_statement_laws.specs.Evaluating.{Evaluates}
 abbrev pub StatementsShow : Type 0
 StatementsShow =
     (calls : Bool) (b : Around) (w : meaning.World) (z : World) (from to : ℕ) (x : Stmt16) (s : Scope) (who : InScope)
-    (n : ℕ) →
-    BreaksNone b.syntax program_rules → Leaves (Waits calls b.syntax) b w z from to → InContext b.syntax w.around.roots from to n s who →
-    StatementKeeps s x → AreOfKinds (variable_kinds b.syntax) n (kinds_in s x) → n + length (kinds_in s x) ≤ to →
+    (n : ℕ) (tests : List (Use → Bool)) (vars : List Variable) →
+    BreaksNone b.syntax program_rules → Leaves (Judged tests) (Waits calls b.syntax) b w z vars from to →
+    Within vars b.syntax w.around.roots from to n s who → StatementMeets (Judged tests) s x → AreOfKinds (variable_kinds b.syntax) n (kinds_in s x) → n + length (kinds_in s x) ≤ to →
     IfSome (ready_of_statement b s (seats_in b.syntax w.around.roots who) n x)
     (λ r. (taken : CaseLabel → Bool) (ran : Option ℕ) (m : sem.Moment) (k : Moment) → Shown (Waits calls b.syntax) b.syntax who m k →
     LeftBehind (Waits calls b.syntax) b.syntax who (declared_from s n x) (run w s taken x m) (ready.run z ran r k))
@@ -60,9 +60,10 @@ StatementsShow =
 -- so the statements of a parser's state leave what the ready ones leave, which is what its law asks of them
 abbrev pub BodiesShow : Type 0
 BodiesShow =
-    (b : Around) (w : meaning.World) (from to n : ℕ) (vars : List Variable) (x : Stmt16) (r : ready.Statement) →
-    BreaksNone b.syntax program_rules → Leaves (Waits false b.syntax) b w quiet_world from to →
-    InContext b.syntax w.around.roots from to n w.around.scope (in_block vars []) → StatementKeeps w.around.scope x →
+    (b : Around) (w : meaning.World) (from to n : ℕ) (vars : List Variable) (x : Stmt16) (r : ready.Statement)
+    (tests : List (Use → Bool)) →
+    BreaksNone b.syntax program_rules → Leaves (Judged tests) (Waits false b.syntax) b w quiet_world vars from to →
+    InContext b.syntax w.around.roots from to n w.around.scope (in_block vars []) → StatementMeets (Judged tests) w.around.scope x →
     AreOfKinds (variable_kinds b.syntax) n (kinds_in w.around.scope x) → n + length (kinds_in w.around.scope x) ≤ to →
     ready_of_statement b w.around.scope (seats_in b.syntax w.around.roots (in_block vars [])) n x ≡ Some r →
     (m : sem.Moment) (k : Moment) → Shows b.syntax (in_block vars []) m k →
@@ -112,8 +113,6 @@ HeadersCalled =
     (e given : Exp16) (type word : Name) (q : Place) →
     BreaksNone b.syntax program_rules → InContext b.syntax w.around.roots from to n s who → b.locals ≡ [] → Keeps s q e →
     kind_of s e ≡ header type →
-    (bytes_eq word (codes "isValid") ≡ true)
-    ⊎ ((bytes_eq word (codes "setValid") ≡ true) ⊎ (bytes_eq word (codes "setInvalid") ≡ true)) →
     IfSome (expression_ready b s (seats_in b.syntax w.around.roots who) (call (member e word) given))
     (RunsAlike (Waits calls b.syntax) b w z s who [] (expression (call (member e word) given)))
 
@@ -151,7 +150,7 @@ HeadersExtracted =
     (calls : Bool) (b : Around) (w : meaning.World) (z : World) (from to n : ℕ) (s : Scope) (who : InScope)
     (e given f : Exp16) (type word : Name) →
     BreaksNone b.syntax program_rules → InContext b.syntax w.around.roots from to n s who → kind_of s e ≡ packet_in →
-    bytes_eq word (codes "extract") ≡ true → arguments_of given ≡ f ∷ [] → kind_of s f ≡ header type →
+    arguments_of given ≡ f ∷ [] → kind_of s f ≡ header type →
     IfSome (expression_ready b s (seats_in b.syntax w.around.roots who) (call (member e word) given))
     (RunsAlike (Waits calls b.syntax) b w z s who [] (expression (call (member e word) given)))
 

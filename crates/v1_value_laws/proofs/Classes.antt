@@ -136,7 +136,7 @@ of_truth b v is = let same : v ≡ a_truth b = cc is in (b, same)
 
 -- what a way asks of a kind
 
-abbrev way_kind : List TypeLayout → Way → Kind → Kind
+abbrev pub way_kind : List TypeLayout → Way → Kind → Kind
 way_kind types its_value k = k
 way_kind types its_validity k = boolean
 way_kind types (through_member word way) k = way_kind types way (known_kind (member_kind types k word))
@@ -379,7 +379,7 @@ module _ (types : List TypeLayout) (members : (type word : Name) → KindFine ty
   member_class nothing e word way ask h = h (through_member word way)
   member_class unknown e word way ask h = h (through_member word way)
 
-  valid_class : (t : Bool) (u : Bool) (w : Bool) (v : Value) → IsTruth v → IsOfClass (call_kind (cond t (Some (method false [] boolean)) (cond u (Some (method true [] nothing)) (cond w (Some (method true [] nothing)) None)))) v
+  pub valid_class : (t : Bool) (u : Bool) (w : Bool) (v : Value) → IsTruth v → IsOfClass (call_kind (cond t (Some (method false [] boolean)) (cond u (Some (method true [] nothing)) (cond w (Some (method true [] nothing)) None)))) v
   valid_class true u w v h = h
   valid_class false true w v h = tt
   valid_class false false true v h = tt
@@ -413,7 +413,7 @@ module _ (types : List TypeLayout) (members : (type word : Name) → KindFine ty
 
   -- slices, casts and bits ahead
 
-  slice_class : (k : Kind) (high low : Literal16) (v : Value) → IsNumber v → IsOfClass (slice_kind k high low) v
+  pub slice_class : (k : Kind) (high low : Literal16) (v : Value) → IsNumber v → IsOfClass (slice_kind k high low) v
   slice_class (bits width) high low v h = by_truth (λ (t : Bool). IsOfClass (cond t unknown (bits (suc high.value - low.value))) v) tt h (leaves_width width high low)
   slice_class unsized high low v h = tt
   slice_class boolean high low v h = tt
@@ -499,7 +499,7 @@ module _ (types : List TypeLayout) (members : (type word : Name) → KindFine ty
     by (inr same) = truth_cast width x v (subst (λ (j : Kind). IsOfClass j x) same h) g
   bits_cast width e k false x v is h g = number_cast width x v (class_number k x (bits_number k is) h) g
 
-  cast_class : (to : CastType) (e : Exp16) (k : Kind) (r : Ready) → takes (cast_place to) e k ≡ true → Class its_value k r → Class its_value (cast_kind to) (cast_ready to r)
+  pub cast_class : (to : CastType) (e : Exp16) (k : Kind) (r : Ready) → takes (cast_place to) e k ≡ true → Class its_value k r → Class its_value (cast_kind to) (cast_ready to r)
   cast_class (cast_to.Bit w) e k r is h = λ v g. by (ready_value c left r) refl v g where
     by : (end : Ended) → ready_value c left r ≡ end → (v : Value) → and_then end (λ x. given (bits_value w.value x)) ≡ given v → IsNumber v
     by (given x) same v g = bits_cast w.value e k (nat_eq w.value 1) x v is (h x same) g
@@ -539,7 +539,7 @@ module _ (types : List TypeLayout) (members : (type word : Name) → KindFine ty
   kept_number nothing x v h f = tt
   kept_number unknown x v h f = tt
 
-  unary_class : (operator : UnaryOperator) (p : Place) (e : Exp16) (k : Kind) (r : Ready) → takes (unary_place p operator k) e k ≡ true → Class its_value k r → Class its_value (unary_kind operator k) (ready.unary operator r)
+  pub unary_class : (operator : UnaryOperator) (p : Place) (e : Exp16) (k : Kind) (r : Ready) → takes (unary_place p operator k) e k ≡ true → Class its_value k r → Class its_value (unary_kind operator k) (ready.unary operator r)
   unary_class operator p e k r is h = λ v g. by (ready_value c left r) refl v g where
     of : (o : UnaryOperator) (x v : Value) → takes (unary_place p o k) e k ≡ true → IsOfClass k x → given (unary_value o x) ≡ given v → IsOfClass (unary_kind o k) v
     of Not x v is h g = not_class x v (subst (λ (j : Kind). IsOfClass j x) (truth_only e k is) h) g
@@ -681,12 +681,12 @@ compared_class operator a b x y f g e (numbers _ _ p q) h k = two_numbers operat
 compared_class operator _ _ x y f g e truths h k = two_truths operator x y IsTruth h k g
 compared_class operator _ _ x y f g e both_errors h k = two_errors operator x y IsTruth h k e
 
-abbrev Strict : BinaryOperator → Type 0
+abbrev pub Strict : BinaryOperator → Type 0
 Strict And = ⊥
 Strict Or = ⊥
 Strict operator = Unit {0}
 
-pair_class : (operator : BinaryOperator) → Strict operator → (p : Place) (d e : Exp16) (a b : Kind) (x y : Value) → takes (left_place p operator a b) d a ≡ true → takes (right_place p operator a b) e b ≡ true → IsOfClass a x → IsOfClass b y → IsOfClass (binary_kind operator a b) (binary_value operator x y)
+pub pair_class : (operator : BinaryOperator) → Strict operator → (p : Place) (d e : Exp16) (a b : Kind) (x y : Value) → takes (left_place p operator a b) d a ≡ true → takes (right_place p operator a b) e b ≡ true → IsOfClass a x → IsOfClass b y → IsOfClass (binary_kind operator a b) (binary_value operator x y)
 pair_class Multiply strict p d e a b x y s t h k = joint_class a b x y (binary_value Multiply x y) h k (λ f g. two_numbers Multiply x y IsNumber f g (λ w m v n. (w, (_, refl))))
 pair_class Add strict p d e a b x y s t h k = joint_class a b x y (binary_value Add x y) h k (λ f g. two_numbers Add x y IsNumber f g (λ w m v n. (w, (_, refl))))
 pair_class Subtract strict p d e a b x y s t h k = joint_class a b x y (binary_value Subtract x y) h k (λ f g. two_numbers Subtract x y IsNumber f g (λ w m v n. (w, (_, refl))))
@@ -995,7 +995,7 @@ joint_way_back types way items b v h = way_unknown types way b v h
 joint_way_back types way nothing b v h = way_unknown types way b v h
 joint_way_back types way unknown b v h = way_unknown types way b v h
 
-first_way : (types : List TypeLayout) (way : Way) (a b : Kind) (v : Value) → IsOfClass (way_kind types way a) v → IsOfClass (way_kind types way (same_choice a b)) v
+pub first_way : (types : List TypeLayout) (way : Way) (a b : Kind) (v : Value) → IsOfClass (way_kind types way a) v → IsOfClass (way_kind types way (same_choice a b)) v
 first_way types way a b v h = by (is_same_kind a b) where
   chosen : (t : Bool) → IsOfClass (way_kind types way (cond t a unknown)) v
   chosen true = h
@@ -1005,7 +1005,7 @@ first_way types way a b v h = by (is_same_kind a b) where
   by true = chosen (is_chosen a)
   by false = joint_way types way a b v h
 
-second_way : (types : List TypeLayout) (way : Way) (a b : Kind) (v : Value) → IsOfClass (way_kind types way b) v → IsOfClass (way_kind types way (same_choice a b)) v
+pub second_way : (types : List TypeLayout) (way : Way) (a b : Kind) (v : Value) → IsOfClass (way_kind types way b) v → IsOfClass (way_kind types way (same_choice a b)) v
 second_way types way a b v h = by (is_same_kind a b) refl where
   chosen : (t : Bool) → is_same_kind a b ≡ true → is_chosen a ≡ t → IsOfClass (way_kind types way (cond t a unknown)) v
   chosen true same c = subst (λ (k : Kind). IsOfClass (way_kind types way k) v) (sym (same_kind a b same c)) h
@@ -1017,7 +1017,7 @@ second_way types way a b v h = by (is_same_kind a b) refl where
 
 -- what is judged in an expression is kept in its parts
 
-rest_keeps : (x : Use) (xs : List Use) → KeepsAll (x ∷ xs) → KeepsAll xs
+pub rest_keeps : (x : Use) (xs : List Use) → KeepsAll (x ∷ xs) → KeepsAll xs
 rest_keeps x xs keeps = (second_false (is_mistyped x) (list_any is_mistyped xs) keeps.0, second_false (leaves_size x) (list_any leaves_size xs) keeps.1)
 
 -- what an end that is given tells of the value that the meaning has

@@ -17,6 +17,7 @@ use Rattle.entries_file.specs.declared.draft.Draft.{Draft}
 use Rattle.entries_file.specs.declared.name_index.NameIndex.{NameIndex}
 use Rattle.entries_file.specs.declared.calls.Names.{Names}
 use Rattle.text_lines.specs.Words.{Word}
+use Rattle.entries_file.specs.internal.KeySets.{has_key}
 use Rattle.entries_file.specs.Filling.{table_at, fill_at}
 use Rattle.entries_file.specs.Rules.{place_of, table_name, action_name, meter_name, has_same, has_session}
 use Rattle.entries_file.specs.Reading.{Judgement, fault_at}
@@ -58,7 +59,7 @@ pub record IsDraft (g : Signature) (draft : Draft) : Type 0 where
   pub tables : length draft.tables.items ≡ length g.tables
   pub colours : length draft.colours.items ≡ length g.objects
   pub keys : (table : ℕ) (same : List ℕ)
-      → contains (slice_cmp nat_cmp) draft.keys (table ∷ same)
+      → has_key draft.keys (table ∷ same)
       ≡ has_same (table_at g table).keys (fill_at (drafted draft) table) same
   pub numbers : (number : ℕ) → contains nat_cmp draft.numbers number ≡ has_session draft.sessions number
 

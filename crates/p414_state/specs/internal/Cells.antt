@@ -67,6 +67,10 @@ begun_of l = record { shape = l.shape; instance = begun_one l.shape l.instance }
 abbrev pub new_laid : Shape → Laid
 new_laid shape = record { shape = shape; instance = blank_of shape }
 
+-- the instance in which nothing is parsed that is laid out as one
+abbrev pub renewed_of : Laid → Laid
+renewed_of l = new_laid l.shape
+
 -- other elements in the place of all
 abbrev pub with_all : Laid → List Header → Laid
 with_all l headers =

@@ -41,14 +41,14 @@ abbrev pub no_store : Contents
 no_store = record { shapes = []; cells = [] }
 
 -- what comes of a packet that makes this one pass
-abbrev pub outcome_of : Pass → Contents → Outcome
+abbrev pub outcome_of : Pass → Contents → Outcome Contents
 outcome_of pass store = record { sent = outs_of pass.end; store = store; cut = 0; work = pass.work }
 
 -- the pass of the program without entries
 unfoldable pub own_pass : OneTable16 → Arrival → Pass
 own_pass q a = pass16 (program16 q) (no_entries (signature16 (program16 q))) a
 
-abbrev pub own_outcome : OneTable16 → Contents → Arrival → Outcome
+abbrev pub own_outcome : OneTable16 → Contents → Arrival → Outcome Contents
 own_outcome q store a = outcome_of (own_pass q a) store
 
 -- a pass gives at most one packet

@@ -30,10 +30,10 @@ abbrev pub bound_of : Running14 → ℕ
 bound_of r = min r.bound most_passes
 
 -- what comes of a packet
-abbrev pub outcome_of : Run Between → Outcome
+abbrev pub outcome_of : Run Between → Outcome Contents
 outcome_of fate = record { sent = fate.sent; store = fate.state.store; cut = fate.cut; work = 0 }
 
-unfoldable pub outcome14 : Running14 → Contents → Arrival → Outcome
+unfoldable pub outcome14 : Running14 → Contents → Arrival → Outcome Contents
 outcome14 r store a = outcome_of (fabric (machine14 r.program) r.sessions (bound_of r) (fresh store) a)
 
 -- the lines of its counters and registers

@@ -3,7 +3,6 @@ use Rattle.std.specs.Prelude.{◌≡◌, ◌⊎◌, ℕ, ◌+◌, ◌%◌, ◌^�
 use Rattle.std.specs.List.{flat_map}
 use Rattle.p4x_fault.specs.declared.Fault.{Fault as Refusal}
 use Rattle.p4x_io.specs.Desk.{grown}
-use Rattle.state_store.specs.State.{Contents}
 use Rattle.fabric.specs.declared.packets.Arrival.{Arrival}
 use Rattle.fabric.specs.declared.packets.Out.{Out}
 use Rattle.pcap_io.specs.declared.head.Head.{Head}
@@ -30,9 +29,9 @@ pub record Held : Type 0 where
   pub report : List ℕ
 
 -- the same with the store of the runner, and its work modulo 2^64
-pub record View : Type 0 where
+pub record View (C : Type 0) : Type 0 where
   pub held : Held
-  pub store : Contents
+  pub store : C
   pub work : ℕ
 
 -- a run that goes on, as contracts see it
@@ -48,14 +47,14 @@ held_of s = record {
 }
 
 -- the same with what its runner has come to
-abbrev pub view_of : Stream → Contents → ℕ → View
+abbrev pub view_of : {C : Type 0} → Stream → C → ℕ → View C
 view_of s store work = record { held = held_of s; store = store; work = work }
 
 -- a run before its first packet
 abbrev pub empty : List ℕ → Held
 empty ports = record { ports = ports; headed = false; arrivals = 0; departures = 0; cut = 0; sent = []; report = [] }
 
-abbrev pub start : List ℕ → Contents → View
+abbrev pub start : {C : Type 0} → List ℕ → C → View C
 start ports store = record { held = empty ports; store = store; work = 0 }
 
 -- the file header is written once
@@ -68,7 +67,7 @@ abbrev pub headed_by : Option Head → Held → Held
 headed_by None h = h
 headed_by (Some head) h = with_header h.headed head h
 
-abbrev pub begun : Option Head → View → View
+abbrev pub begun : {C : Type 0} → Option Head → View C → View C
 begun head v = record v { held = headed_by head v.held }
 
 -- the record of a packet that leaves, with the times of the packet that it came from
@@ -105,7 +104,7 @@ with_arrival cut h = record h {
 }
 
 -- a packet comes in, and this comes of it
-abbrev pub with_outcome : Arrival → Outcome → View → View
+abbrev pub with_outcome : {C : Type 0} → Arrival → Outcome C → View C → View C
 with_outcome a one v = record {
   held = with_outs a one.sent (with_arrival one.cut v.held);
   store = one.store;
@@ -113,25 +112,25 @@ with_outcome a one v = record {
 }
 
 -- the packet of a record comes in on the next port
-abbrev pub after_one : (Contents → Arrival → Outcome) → Record → View → View
+abbrev pub after_one : {C : Type 0} → (C → Arrival → Outcome C) → Record → View C → View C
 after_one outcome one v =
     let a = arrival_of v.held.ports one in
     with_outcome a (outcome v.store a) v
 
 -- the packets of records come in, one after another
-unfoldable pub after_all : (Contents → Arrival → Outcome) → List Record → View → View
+unfoldable pub after_all : {C : Type 0} → (C → Arrival → Outcome C) → List Record → View C → View C
 after_all outcome [] v = v
 after_all outcome (one ∷ records) v = after_all outcome records (after_one outcome one v)
 
 -- what a run over the packets of octets that are read as this comes to, where nothing is appended
-abbrev pub run_view : (Contents → Arrival → Outcome) → Contents → List ℕ → Reading → View
+abbrev pub run_view : {C : Type 0} → (C → Arrival → Outcome C) → C → List ℕ → Reading → View C
 run_view outcome store ports reading = after_all outcome reading.records (begun reading.head (start ports store))
 
 -- what was written so far is appended to its files
 abbrev pub cleared : Held → Held
 cleared h = record h { sent = []; report = [] }
 
-abbrev pub emptied : View → View
+abbrev pub emptied : {C : Type 0} → View C → View C
 emptied v = record v { held = cleared v.held }
 
 -- the records were taken
@@ -144,8 +143,8 @@ nothing_read = record { head = None; records = []; left = []; fault = None }
 
 -- The octets were read and run, and what came of that was appended to the sent file and the report. The numbers of each
 -- record fit the words that hold them.
-pub record Streamed (outcome : Contents → Arrival → Outcome) (store : Contents) (ports octets : List ℕ)
-    (sent report sent' report' : Told) (reader : Reading) (stream : View) : Type 0 where
+pub record Streamed {C : Type 0} (outcome : C → Arrival → Outcome C) (store : C) (ports octets : List ℕ)
+    (sent report sent' report' : Told) (reader : Reading) (stream : View C) : Type 0 where
   pub reader_is : reader ≡ drained (reading_of octets)
   pub stream_is : stream ≡ emptied (run_view outcome store ports (reading_of octets))
   pub sent_is : sent' ≡ grown sent (run_view outcome store ports (reading_of octets)).held.sent
@@ -153,12 +152,12 @@ pub record Streamed (outcome : Contents → Arrival → Outcome) (store : Conten
   pub known : All IsRecord (reading_of octets).records
 
 -- A fault or want of memory ended it: the files have grown by fronts of what was to be appended.
-abbrev pub Cut : View → Told → Told → Told → Told → Stop → Type 0
+abbrev pub Cut : {C : Type 0} → View C → Told → Told → Told → Told → Stop → Type 0
 Cut whole sent report sent' report' stop = ((stop ≡ Fault) ⊎ (stop ≡ Memory))
     × GrownByFront sent whole.held.sent sent' × GrownByFront report whole.held.report report'
 
 -- these octets break the rule of this refusal, and what stands before it was run
-abbrev pub Refuses : (Contents → Arrival → Outcome) → Contents → List ℕ → List ℕ → Told → Told → Told → Told → Stop
+abbrev pub Refuses : {C : Type 0} → (C → Arrival → Outcome C) → C → List ℕ → List ℕ → Told → Told → Told → Told → Stop
     → Type 0
 Refuses outcome store ports octets sent report sent' report' stop =
     (fault : Refusal) × (stop ≡ Refused fault) × ((reading_of octets).fault ≡ Some fault)
@@ -166,8 +165,8 @@ Refuses outcome store ports octets sent report sent' report' stop =
     × (report' ≡ grown report (run_view outcome store ports (reading_of octets)).held.report)
 
 -- how the run of a piece ends, with which these octets were read
-abbrev pub PieceEnds : (Contents → Arrival → Outcome) → Contents → List ℕ → List ℕ → Told → Told → Told → Told
-    → Reading → View → Result (Unit {0}) Stop → Type 0
+abbrev pub PieceEnds : {C : Type 0} → (C → Arrival → Outcome C) → C → List ℕ → List ℕ → Told → Told → Told → Told
+    → Reading → View C → Result (Unit {0}) Stop → Type 0
 PieceEnds outcome store ports octets sent report sent' report' reader stream (Ok u) =
     ((reading_of octets).fault ≡ None) × Streamed outcome store ports octets sent report sent' report' reader stream
 PieceEnds outcome store ports octets sent report sent' report' reader stream (Err stop) =
@@ -175,8 +174,8 @@ PieceEnds outcome store ports octets sent report sent' report' reader stream (Er
     ⊎ Cut (run_view outcome store ports (reading_of octets)) sent report sent' report' stop
 
 -- how the run of all pieces of a file ends that isn't over its limit
-abbrev pub PiecesEnd : (Contents → Arrival → Outcome) → Contents → List ℕ → Option (List ℕ) → Told → Told → Told
-    → Told → Reading → View → Result (Unit {0}) Stop → Type 0
+abbrev pub PiecesEnd : {C : Type 0} → (C → Arrival → Outcome C) → C → List ℕ → Option (List ℕ) → Told → Told → Told
+    → Told → Reading → View C → Result (Unit {0}) Stop → Type 0
 PiecesEnd outcome store ports None sent report sent' report' reader stream end =
     IsErrAnd end (λ stop. ((stop ≡ Fault) ⊎ (stop ≡ Memory)) × (sent' ≡ sent) × (report' ≡ report))
 PiecesEnd outcome store ports (Some text) sent report sent' report' reader stream end =

@@ -4,7 +4,7 @@ use Rattle.entries_file.proofs.arguments.read_arguments.Goals as goal
 use Rattle.entries_file.proofs.arguments.read_arguments.Goals.{in-NoNumber, in-Argument+in_ok-push-in-Argument}
 
 pub loop-i-init : goal.loop-i-init
-loop-i-init c = rw c.new-arguments.ensures (arguments_start c.args.widths.now (map (λ word. word.now) c.args.words.now))
+loop-i-init c = rw c.in_ok-arguments.ensures (arguments_start c.args.widths.now (map (λ word. word.now) c.args.words.now))
 
 pub returns-in-TooWide : goal.returns-in-TooWide
 returns-in-TooWide c =

@@ -11,3 +11,6 @@ returns-in-Ports g c = rw c.in-Ports.is c.say-in-Ports.ensures
 
 pub returns-in-Capture : goal.returns-in-Capture
 returns-in-Capture g c = rw c.in-Capture.is c.say-in-Capture.ensures
+
+pub returns-in-Text : goal.returns-in-Text
+returns-in-Text g c = rw c.in-Text.is c.say-in-Text.ensures

@@ -33,5 +33,5 @@ returns-in-None-clause-ran g c = λ store ports octets sent report unbroken so.
     let r = g.R.Runner in
     let given = c.in_ok-refused.ensures in
     let done = c.in_ok-flush.ensures in
-    let emptied_is = ap (λ (h : Held). let v : View = record { held = h; store = r.store c.feed.new.runner; work = r.done c.feed.new.runner } in v) done.emptied in
+    let emptied_is = ap (λ (h : Held). let v : View r.Store = record { held = h; store = r.store c.feed.new.runner; work = r.done c.feed.new.runner } in v) done.emptied in
     piece_run _ store ports octets _ unbroken sent report _ _ _ _ _ _ _ _ _ so (given.known, given.ran) given.reads (sym c.in-None.is ∙ given.refused) done.sent done.report emptied_is

@@ -32,7 +32,7 @@ returns c =
           tables = ap (λ (fs : List TableFill). length fs) (sym put) ∙ (length-set fills table _ ∙ c.requires.draft.tables);
           colours = c.requires.draft.colours;
           keys = subst (λ (fs : List TableFill). KeysFound g fs c.insert.new.self) put
-              (keys_put g fills c.args.self.now.keys c.insert.new.self table c.args.entry c.in_ok-key.key within key c.requires.draft.keys (c.in-Ok.ensures.updates).0);
+              (keys_put g fills c.args.self.now.keys c.insert.new.self table c.args.entry c.in_ok-key.key within key c.requires.draft.keys c.in-Ok.ensures.updates);
           numbers = c.requires.draft.numbers;
         };
         read_is = ap (λ (fs : List TableFill). record (drafted c.args.self.now) { tables = fs }) (sym put);

@@ -1,4 +1,4 @@
-use Rattle.std.proofs.Common.{◌≡◌, ap, ◌∙◌}
+use Rattle.std.proofs.Common.{◌≡◌, sym, ap, ◌∙◌}
 use Rattle.p414_pipe_run.specs.Packed.{packed_egress}
 use Rattle.p414_pipe_run.specs.Prepared.{Prepared, Running, comes_to}
 use Rattle.p414_pipe_run.specs.internal.Ending.{egress_answer}
@@ -14,3 +14,7 @@ returns-clause-is c =
 pub returns-clause-left : goal.returns-clause-left
 returns-clause-left c =
     out_leaves c.args.self.now.prepared c.args.packet.now c.begin_egress.new.state c.run_egress.new.packet c.args.self.now.between.store c.run_egress.new.self.between c.args.port c.args.kind c.in_ok-begin_egress.ensures c.in_ok-run_egress.ensures.ran
+
+pub returns-clause-layout : goal.returns-clause-layout
+returns-clause-layout c =
+    c.in_ok-ended.ensures.layout ∙ (c.in_ok-run_egress.ensures.ran.layout ∙ sym c.requires.layout)

@@ -1,0 +1,15 @@
+pub mod Values
+pub mod Calling
+pub mod Statements
+pub mod Emitted
+pub mod Seats
+pub mod Places
+pub mod Veiled
+pub mod Sound
+pub mod Outside
+pub mod Meeting
+pub mod Rooted
+pub mod Running
+pub mod Levels
+pub mod Joining
+pub mod Concluding

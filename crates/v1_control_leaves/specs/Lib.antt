@@ -1,0 +1,3 @@
+-- Laws has the laws; Finished puts assignments and initial values in.
+pub mod Laws
+pub mod Finished

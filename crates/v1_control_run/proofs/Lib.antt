@@ -1,0 +1,4 @@
+mod Ending
+mod Fixed
+mod Runs
+mod Seen

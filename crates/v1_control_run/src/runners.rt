@@ -1,0 +1,82 @@
+// The controls of a program, each with the room that its statements take.
+ghost use Rattle.std.specs.Prelude.{◌≡◌, OnOk};
+ghost use Rattle.v1_sem.specs.declared.block.Block.{Block as Control};
+ghost use Rattle.v1_ready_blocks.specs.Blocks.{ready_run};
+ghost use Rattle.v1_ready_externs.specs.Seen.{moment};
+ghost use Rattle.v1_ready_steps.specs.Steps.{Comes, IsOver, ground_of};
+ghost use Rattle.v1_block_run.specs.Blocks.{seen_block};
+ghost use Rattle.v1_block_tables.specs.Parts.{CanApply};
+ghost use Rattle.v1_control_run.specs.Prepared.{IsPrepared};
+ghost use Rattle.v1_control_run.specs.internal.Runs.{AreRunners, RunsBlock, filled_of};
+
+use crate::prepared::Prepared;
+use p4x_bits::OutOfMemory;
+use state_store::Store;
+use std::alloc::Global;
+use v1_block_run::ReadyBlock;
+use v1_block_tables::{BlockRunner, FilledBlock, FilledTables};
+use v1_frames::Frame;
+use v1_ready_externs::Run;
+use v1_sem::Block;
+
+/// What runs the controls of a program on one packet after another.
+#[derive(Drop)]
+pub struct Runners<'r> {
+    pub verify: BlockRunner<'r, 'r>,
+    pub ingress: BlockRunner<'r, 'r>,
+    pub egress: BlockRunner<'r, 'r>,
+    pub compute: BlockRunner<'r, 'r>,
+    pub deparse: BlockRunner<'r, 'r>,
+}
+
+/// What runs a block with the tables of its program. It takes no memory.
+#[tactic(auto, using(crate::proofs::Runs::runs_block))]
+fn runner<'r>(
+    alloc: Global,
+    block: &'r ReadyBlock<'r>,
+    fill: &'r FilledTables<'r>,
+) -> BlockRunner<'r, 'r>
+    requires { CanApply block.now }
+    ensures { RunsBlock result.tables.of block.now fill.now }
+{
+    BlockRunner::new(alloc, FilledBlock { block, fill })
+}
+
+impl<'r> Runners<'r> {
+    /// What runs the controls of a prepared program. It takes no memory.
+    #[tactic(auto, using(crate::proofs::Runs::are_runners))]
+    pub fn new(alloc: Global, of: Prepared<'r>) -> Self
+        requires { IsPrepared of }
+        ensures { AreRunners of.entry result }
+    {
+        Runners {
+            verify: runner(alloc, of.verify, of.fill),
+            ingress: runner(alloc, of.ingress, of.fill),
+            egress: runner(alloc, of.egress, of.fill),
+            compute: runner(alloc, of.compute, of.fill),
+            deparse: runner(alloc, of.deparse, of.fill),
+        }
+    }
+
+    /// Runs the statements of a control. The one error is want of memory.
+    pub fn run(
+        &mut self,
+        block: Block,
+        frame: &mut Frame<'_>,
+        store: &mut Store,
+        unparsed: &[u8],
+        run: &mut Run<'_>,
+    ) -> Result<(), OutOfMemory>
+        requires { IsOver (ground_of (filled_of self.old block).block.now.code) (moment frame.old store.old unparsed.now run.old) }
+        ensures of { (b : Control) → filled_of self.new b ≡ filled_of self.old b }
+        ensures runs { OnOk result (Comes (ground_of (filled_of self.old block).block.now.code) (ready_run (filled_of self.old block).fill.now (seen_block (filled_of self.old block).block.now) (moment frame.old store.old unparsed.now run.old)) (moment frame.new store.new unparsed.now run.new)) }
+    {
+        match block {
+            Block::Verify => self.verify.run(frame, store, unparsed, run),
+            Block::Ingress => self.ingress.run(frame, store, unparsed, run),
+            Block::Egress => self.egress.run(frame, store, unparsed, run),
+            Block::Compute => self.compute.run(frame, store, unparsed, run),
+            Block::Deparse => self.deparse.run(frame, store, unparsed, run),
+        }
+    }
+}

@@ -1,0 +1,100 @@
+// What a packet is run with besides its frame.
+ghost use Rattle.std.specs.Prelude.{◌≡◌, [], OnOk, IfOk};
+ghost use Rattle.p4x_bits.specs.BitLists.{octet_bits, IsOctets};
+ghost use Rattle.v1_frames.specs.Cells.{AreWhole};
+ghost use Rattle.v1_control_run.specs.internal.Runs.{begun_run, HasEnded};
+
+use p4x_bits::{Bits, Octets, OutOfMemory, Rows};
+use state_store::Store;
+use std::alloc::Global;
+use v1_frames::{Frame, FrameLayout};
+use v1_parse_machine::ParserRoom;
+use v1_ready_externs::Run;
+
+/// What a packet is run with besides its frame and the store. Its room stays from packet to packet.
+#[derive(Drop)]
+pub struct Spare<'r> {
+    /// A frame that stands in the place of the packet's while the parser has that.
+    pub frame: Frame<'r>,
+    /// A store that stands in the place of the program's while the parser has that.
+    pub store: Store,
+    /// What a run keeps.
+    pub run: Run<'r>,
+    /// The room of the parser.
+    pub room: ParserRoom,
+}
+
+impl<'r> Spare<'r> {
+    /// What packets are run with whose frames have this layout. The one error is want of memory.
+    pub fn new(alloc: Global, layout: &'r FrameLayout) -> Result<Self, OutOfMemory>
+        ensures { IfOk result (λ spare. spare.run.waiting.layout ≡ layout.now) }
+    {
+        let frame = Frame::of_layout(alloc, layout)?;
+        let Ok(store) = Store::new(alloc, &[]) else {
+            return Err(OutOfMemory);
+        };
+        let waiting = Frame::of_layout(alloc, layout)?;
+        let room = ParserRoom::with_capacity(alloc, 0)?;
+        Ok(Spare {
+            frame,
+            store,
+            run: Run {
+                waiting,
+                emitted: Bits::new(alloc),
+                work: 0,
+                stopped: None,
+                hit: None,
+                values: Rows::new(alloc),
+                list: Bits::new(alloc),
+            },
+            room,
+        })
+    }
+}
+
+/// A run begins where these octets were emitted, with this count of work.
+pub fn begin(run: &mut Run<'_>, emitted: &[u8], work: u64) -> Result<(), OutOfMemory>
+    ensures begins { OnOk result (run.new ≡ begun_run (octet_bits emitted.now) work run.old) }
+    ensures octets { IsOctets emitted.now }
+    ensures waiting { AreWhole run.new.waiting }
+{
+    run.waiting.is_whole();
+    run.emitted.clear();
+    run.emitted.push_octets(emitted)?;
+    run.work = work;
+    run.stopped = None;
+    run.hit = None;
+    Ok(())
+}
+
+/// The list is these octets. For want of memory it is none.
+fn put_octets(out: &mut Octets, octets: &[u8]) -> Result<(), OutOfMemory>
+    ensures put { OnOk result (out.new ≡ octets.now) }
+    ensures are { IsOctets octets.now }
+{
+    out.clear();
+    out.extend_from_slice(octets)
+}
+
+/// A run ended: the octets that it emitted. A run that is stopped, in which an action runs, or that emitted a part of an octet
+/// counts as want of memory: no control of an accepted program leaves one.
+#[tactic(auto, using(crate::proofs::Ending::all_bits))]
+pub fn end(run: &Run<'_>, emitted: &mut Octets) -> Result<(), OutOfMemory>
+    ensures { OnOk result (HasEnded run.now emitted.new) }
+{
+    if run.stopped.is_some() || run.hit.is_some() || run.emitted.len() % 8 != 0 {
+        return Err(OutOfMemory);
+    }
+    put_octets(emitted, run.emitted.as_octets())
+}
+
+/// A run of the parser ended, which was stopped by nothing any more, in which no action runs, and that emitted nothing. Another one
+/// counts as want of memory: no parser of an accepted program leaves one.
+pub fn end_silently(run: &Run<'_>) -> Result<(), OutOfMemory>
+    ensures { OnOk result (HasEnded run.now []) }
+{
+    if run.stopped.is_some() || run.hit.is_some() || !run.emitted.is_empty() {
+        return Err(OutOfMemory);
+    }
+    Ok(())
+}

@@ -1,0 +1,3 @@
+-- Which ready parser a parser is.
+pub mod Parsers
+pub mod Places

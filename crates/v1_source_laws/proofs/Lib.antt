@@ -1,0 +1,10 @@
+pub mod Ways
+pub mod Still
+pub mod Seeking
+pub mod Taking
+pub mod Depths
+pub mod Shapes
+pub mod Stacks
+pub mod Initializing
+pub mod Pushing
+pub mod Laws
