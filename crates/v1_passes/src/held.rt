@@ -1,10 +1,12 @@
 // What is kept between two passes, and what is held between ingress and egress.
-ghost use Rattle.std.specs.Prelude.{◌≡◌, IfOk};
+ghost use Rattle.std.specs.Prelude.{◌≡◌, ℕ, ◌<◌, ◌^◌, IfOk};
 ghost use Rattle.state_store.specs.Ports.{IsPort};
+ghost use Rattle.v1_sem.specs.Slots.{FramePart};
 ghost use Rattle.v1_frame_values.specs.Frames.{IsFrameOf};
 ghost use Rattle.v1_frame_values.specs.Programs.{layout16};
 ghost use Rattle.v1_pass_slots.specs.Starts.{metadata_start};
 ghost use Rattle.v1_packets.specs.Packets.{packet_frame, kept_value, AreFitting};
+ghost use Rattle.v1_passes.specs.Held.{HasSlot, IsBitsAt, SlotHolds, held_number, with_number};
 
 use p4x_bits::{Octets, OutOfMemory};
 use std::alloc::Global;
@@ -106,5 +108,28 @@ impl<'r> Held16<'r> {
             unparsed,
             port: self.port,
         })
+    }
+
+    /// The number in a slot of its frame: that of each part of its headers, its metadata or its standard metadata that is bits and
+    /// stands there. In the slot of a field of an invalid header it is 0. It takes no memory.
+    pub fn number(&self, slot: u32) -> u128
+        requires { HasSlot self.now.program slot }
+        ensures { (part : FramePart) (width : ℕ) → IsBitsAt self.now.program part width slot → result ≡ held_number self.now.value part }
+    {
+        self.frame.get(slot)
+    }
+
+    /// Puts a number into a slot of its frame, and so into each part of its headers, its metadata or its standard metadata that is
+    /// bits of a width that the number fits and stands there. In the slot of a field of an invalid header nothing changes. It takes
+    /// no memory.
+    #[tactic(auto, using(crate::proofs::Numbers::still_frame))]
+    pub fn put(&mut self, slot: u32, value: u128)
+        requires slot { HasSlot self.old.program slot }
+        requires value { SlotHolds self.old.program slot value }
+        ensures program { self.new.program ≡ self.old.program }
+        ensures put { (part : FramePart) (width : ℕ) → IsBitsAt self.old.program part width slot → value < 2 ^ width → self.new ≡ record { program = self.old.program; value = with_number part width value self.old.value } }
+    {
+        self.frame.set(slot, value);
+        self.frame.is_whole();
     }
 }
