@@ -1,0 +1,4 @@
+mod Looking
+mod Chaining
+mod Calling
+pub mod Naming

@@ -1,0 +1,4 @@
+-- What private functions and proofs name.
+pub mod Looked
+pub mod Passes
+pub mod Calls
