@@ -93,7 +93,7 @@ impl<'r> ReadyProgram16<'r> {
 
     /// Its parts, lent.
     #[tactic(auto, using(crate::proofs::Preparing::is_prepared))]
-    fn prepared(&'r self) -> Prepared<'r>
+    fn prepared(&self) -> Prepared<'_>
         ensures prepared { IsPrepared result }
         ensures setting { setting_of result ≡ self.now }
     {
@@ -114,7 +114,7 @@ impl<'r> ReadyProgram16<'r> {
 
     /// What runs its blocks, with these counters, registers and meters. The one error is want of memory.
     #[tactic(auto, using(crate::proofs::Preparing::shaped, crate::proofs::Preparing::runs_so))]
-    pub fn blocks(&'r self, alloc: Global, store: Store) -> Result<PreparedBlocks<'r>, OutOfMemory>
+    pub fn blocks(&self, alloc: Global, store: Store) -> Result<PreparedBlocks<'_>, OutOfMemory>
         requires { store.shapes ≡ objects_of self.now }
         ensures { IfOk result (λ blocks. blocks ≡ record { setting = self.now; store = store }) }
     {

@@ -23,11 +23,11 @@ use v1_passes::{Runner16, one_packet_more, run_blocks};
 /// What runs the blocks of a program, where all counters and registers are 0 and the meters have the colours of the entries. The one
 /// error is want of memory.
 #[tactic(auto, using(crate::proofs::Running::fits_so, crate::proofs::Running::first_shapes, crate::proofs::Running::setting_so, crate::proofs::Running::begun_so))]
-fn first_blocks<'r>(
+fn first_blocks<'s>(
     alloc: Global,
-    ready: &'r ReadyProgram16<'r>,
+    ready: &'s ReadyProgram16<'_>,
     signature: &Signature,
-) -> Result<PreparedBlocks<'r>, OutOfMemory>
+) -> Result<PreparedBlocks<'s>, OutOfMemory>
     requires signature { signature.now ≡ signature16 ready.now.syntax }
     requires formed { IsSignature signature.now }
     requires fits { Fits ready.now.entries signature.now }
@@ -47,9 +47,9 @@ fn first_blocks<'r>(
 /// # Errors
 /// It fails for want of memory alone.
 #[tactic(auto, using(crate::proofs::Running::first_of, crate::proofs::Running::sessions_of, crate::proofs::Running::sessions_fit, crate::proofs::Running::sent_so, crate::proofs::Running::store_so, crate::proofs::Running::cut_so, crate::proofs::Running::work_so))]
-pub fn run_ready16<'r>(
+pub fn run_ready16(
     alloc: Global,
-    ready: &'r ReadyProgram16<'r>,
+    ready: &ReadyProgram16<'_>,
     signature: &Signature,
     bound: u32,
     arrivals: &[Arrival],
@@ -73,12 +73,12 @@ pub fn run_ready16<'r>(
 /// A program that runs on one packet after another, where a packet and all that comes of it make at most `bound` passes, before its
 /// first packet. The one error is want of memory.
 #[tactic(auto, using(crate::proofs::Running::begins))]
-pub fn runner16<'r>(
+pub fn runner16<'s>(
     alloc: Global,
-    ready: &'r ReadyProgram16<'r>,
+    ready: &'s ReadyProgram16<'_>,
     signature: &Signature,
     bound: u32,
-) -> Result<Runner16<'r, PreparedBlocks<'r>>, OutOfMemory>
+) -> Result<Runner16<'s, PreparedBlocks<'s>>, OutOfMemory>
     requires signature { signature.now ≡ signature16 ready.now.syntax }
     requires formed { IsSignature signature.now }
     requires fits { Fits ready.now.entries signature.now }
