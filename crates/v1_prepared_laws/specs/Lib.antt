@@ -1,0 +1,2 @@
+-- Read Laws.
+pub mod Laws
