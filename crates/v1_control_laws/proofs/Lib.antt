@@ -13,3 +13,17 @@ pub mod Running
 pub mod Levels
 pub mod Joining
 pub mod Concluding
+pub mod Asking
+pub mod Named
+pub mod Binding
+pub mod Choosing
+pub mod Applying
+pub mod Tabled
+pub mod Signed
+pub mod Untold
+pub mod Keyed
+pub mod Counting
+pub mod Handed
+pub mod Plain
+pub mod Standard
+pub mod Answering

@@ -29,9 +29,9 @@ use Rattle.v1_ready_statements.specs.Tested.{is_application, applies, by_applica
 use Rattle.v1_ready_statements.specs.Around.{ActionPlace, Found, found_from, action_found, number_of_table, table_found, object_found}
 use Rattle.v1_ready_statements.specs.Blocks.{number_in}
 use Rattle.v1_ready_statements.specs.Called.{hashes, verified, updated, clones}
-use Rattle.v1_ready_functions.specs.Functions.{hash_by, verify_by, update_by, clone_by}
-use Rattle.v1_ready_functions.specs.Objects.{count_by, read_by, write_by, meter_by}
-use Rattle.v1_ready_functions.proofs.Calling.{hash_in, verify_in, update_in, clone_in}
+use Rattle.v1_ready_calls.specs.Functions.{hash_by, verify_by, update_by, clone_by}
+use Rattle.v1_ready_calls.specs.Objects.{count_by, read_by, write_by, meter_by}
+use Rattle.v1_ready_calls.proofs.CallingFunctions.{hash_in, verify_in, update_in, clone_in}
 use Rattle.v1_ready_calls.specs.declared.callees.Callees.{Callees}
 use Rattle.v1_ready_calls.specs.Callees.{seen_action, around_of, action_name, table_name, AreCallees}
 use Rattle.v1_ready_calls.specs.internal.Passes.{found_with, found_by, IsHeaderOf, IsMemberOf, IsCallOf, count_deed, read_deed, write_deed, meter_deed, valid_deed, let_go_ready}

@@ -1,4 +1,6 @@
 -- What private functions and proofs name.
+pub mod SourcePasses
+pub mod Coded
 pub mod Looked
 pub mod Passes
 pub mod Calls

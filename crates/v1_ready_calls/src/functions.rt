@@ -7,19 +7,21 @@ ghost use Rattle.v1_ready_blocks.specs.Statements.{does};
 ghost use Rattle.v1_ready_program.specs.Seen.{seen_seats};
 ghost use Rattle.v1_ready_nodes.specs.Held.{IsHeld, Grows};
 ghost use Rattle.v1_ready_statements.specs.Called.{hashes, verified, updated, clones, function_deed};
-ghost use Rattle.v1_ready_assignments.specs.Seen.{seen_statement, IsStatementIn};
+ghost use Rattle.v1_ready_calls.specs.SeenStatements.{seen_statement, IsStatementIn};
 ghost use Rattle.v1_ready_calls.specs.Callees.{around_of, AreCallees};
 ghost use Rattle.v1_ready_calls.specs.internal.Passes.{drop_deed, request_deed, later_deed};
 
 use crate::callees::Callees;
+use crate::drop::ready_drop;
+use crate::function_statements::{
+    ready_clone, ready_hash, ready_request, ready_update, ready_verify,
+};
+use crate::next_arguments::next_argument;
 use fabric::RequestKind;
 use p4x_bits::OutOfMemory;
 use p416_ast::ExpView;
 use std::alloc::Global;
 use v1_ready_arguments::arguments_in;
-use v1_ready_functions::{
-    next_argument, ready_clone, ready_drop, ready_hash, ready_request, ready_update, ready_verify,
-};
 use v1_ready_nodes::ReadyNodes;
 use v1_ready_program::Around;
 

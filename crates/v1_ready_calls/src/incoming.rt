@@ -21,6 +21,7 @@ ghost use Rattle.v1_ready_calls.specs.internal.Passes.{incoming_by, behind_in};
 
 use crate::callees::Callees;
 use crate::passed::Passed;
+use crate::sources::ready_source;
 use name_numbers::Numbering;
 use p4x_bits::OutOfMemory;
 use p416_ast::{Direction, ExpView};
@@ -32,7 +33,6 @@ use v1_ready_blocks::{IncomingNode, Node, Range};
 use v1_ready_nodes::ReadyNodes;
 use v1_ready_places::range_of;
 use v1_ready_program::Around;
-use v1_ready_sources::ready_source;
 use v1_ready_tests::ready_test;
 use v1_seats::Seat;
 use work_stack::Stack;

@@ -12,23 +12,22 @@ ghost use Rattle.v1_ready_program.specs.Seen.{seen_seats};
 ghost use Rattle.v1_ready_nodes.specs.Held.{IsHeld, Grows};
 ghost use Rattle.v1_ready_statements.specs.Around.{object_found};
 ghost use Rattle.v1_ready_statements.specs.Called.{header_deed, stack_deed, object_deed, method_deed};
-ghost use Rattle.v1_ready_assignments.specs.Seen.{seen_statement, IsStatementIn};
+ghost use Rattle.v1_ready_calls.specs.SeenStatements.{seen_statement, IsStatementIn};
 ghost use Rattle.v1_ready_calls.specs.Callees.{around_of, AreCallees};
 ghost use Rattle.v1_ready_calls.specs.internal.Passes.{IsHeaderOf, IsCallOf, count_deed, direct_deed, read_deed, write_deed, meter_deed, valid_deed, extract_deed, emit_deed, apply_deed};
 
 use crate::callees::{Callees, name_in, object_called};
+use crate::method_statements::{
+    ready_apply, ready_emit, ready_extract, ready_header, ready_let_go, ready_stack,
+};
+use crate::next_arguments::next_argument;
+use crate::objects::{ready_count, ready_count_entry, ready_meter, ready_read, ready_write};
 use p4x_bits::OutOfMemory;
 use p416_ast::ExpView;
 use p416_calls::Place;
 use p416_kinds::{Kind, ObjectKind};
 use std::alloc::Global;
 use v1_ready_arguments::arguments_in;
-use v1_ready_functions::{
-    next_argument, ready_count, ready_count_entry, ready_meter, ready_read, ready_write,
-};
-use v1_ready_methods::{
-    ready_apply, ready_emit, ready_extract, ready_header, ready_let_go, ready_stack,
-};
 use v1_ready_nodes::ReadyNodes;
 use v1_ready_program::Around;
 

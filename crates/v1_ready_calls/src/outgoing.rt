@@ -15,6 +15,7 @@ ghost use Rattle.v1_ready_calls.specs.Seen.{seen_outgoing, ArePassedIn};
 ghost use Rattle.v1_ready_calls.specs.internal.Passes.{behind_out};
 
 use crate::callees::Callees;
+use crate::given_values::{range_given, target_given};
 use crate::passed::Passed;
 use p4x_bits::OutOfMemory;
 use p416_ast::{Direction, ExpView};
@@ -22,7 +23,6 @@ use p416_kinds::Kind;
 use std::alloc::Global;
 use v1_block_seats::variable_seat;
 use v1_ready_blocks::{Node, OutgoingNode, Range, RangePlace, Target};
-use v1_ready_methods::{range_given, target_given};
 use v1_ready_nodes::ReadyNodes;
 use v1_ready_places::{fixed_range, range_of};
 use v1_ready_program::Around;

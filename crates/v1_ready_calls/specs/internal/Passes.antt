@@ -21,7 +21,7 @@ use Rattle.v1_ready_statements.specs.Tested.{asked_test, ready_test, ready_sourc
 use Rattle.v1_ready_statements.specs.Around.{Around, ActionPlace, Found, table_found, standard_slot}
 use Rattle.v1_ready_statements.specs.Given.{cons_option, join_option, value_given, given_at, incoming_of, outgoing_of}
 use Rattle.v1_ready_statements.specs.Called.{executes, number_given, only_called, updated, clones}
-use Rattle.v1_ready_functions.specs.Functions.{drop_by}
+use Rattle.v1_ready_calls.specs.Functions.{drop_by}
 use Rattle.v1_ready_calls.specs.declared.passed.Passed.{Passed}
 
 -- actions by their numbers

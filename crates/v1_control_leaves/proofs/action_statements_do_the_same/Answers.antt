@@ -1,5 +1,0 @@
-use Rattle.v1_control_leaves.proofs.Joined.{action_bodies_do}
-use Rattle.v1_control_leaves.proofs.action_statements_do_the_same.Goals as goal
-
-pub returns : goal.returns
-returns c = action_bodies_do

@@ -1,3 +1,0 @@
--- Laws has the laws; Finished puts assignments and initial values in.
-pub mod Laws
-pub mod Finished

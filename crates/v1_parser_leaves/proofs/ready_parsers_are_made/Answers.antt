@@ -1,5 +1,0 @@
-use Rattle.v1_parser_leaves.proofs.Parsers.{ready_parser_is_made}
-use Rattle.v1_parser_leaves.proofs.ready_parsers_are_made.Goals as goal
-
-pub returns : goal.returns
-returns c = ready_parser_is_made

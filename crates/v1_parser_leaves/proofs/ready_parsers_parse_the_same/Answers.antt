@@ -1,5 +1,0 @@
-use Rattle.v1_parser_leaves.proofs.Parsers.{ready_parser_shows}
-use Rattle.v1_parser_leaves.proofs.ready_parsers_parse_the_same.Goals as goal
-
-pub returns : goal.returns
-returns c = ready_parser_shows

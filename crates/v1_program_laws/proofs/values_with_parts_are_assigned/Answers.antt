@@ -1,0 +1,5 @@
+use Rattle.v1_program_laws.proofs.SourceLaws.{all_parts_go}
+use Rattle.v1_program_laws.proofs.values_with_parts_are_assigned.Goals as goal
+
+pub returns : goal.returns
+returns c = all_parts_go

@@ -1,1 +1,0 @@
--- The definitions of methods are those of v1_ready_statements.

@@ -1,4 +1,0 @@
-mod Keeping
-mod Joining
-mod Seeking
-mod Turning

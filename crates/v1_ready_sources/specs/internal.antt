@@ -1,3 +1,0 @@
--- What private functions and proofs name.
-pub mod Passes
-pub mod Coded

@@ -1,5 +1,0 @@
-use Rattle.v1_source_laws.proofs.Laws.{block_parts_begin}
-use Rattle.v1_source_laws.proofs.block_variables_begin_with_parts.Goals as goal
-
-pub returns : goal.returns
-returns c = block_parts_begin

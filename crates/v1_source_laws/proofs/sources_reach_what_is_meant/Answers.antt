@@ -1,5 +1,0 @@
-use Rattle.v1_source_laws.proofs.Laws.{sources_sought}
-use Rattle.v1_source_laws.proofs.sources_reach_what_is_meant.Goals as goal
-
-pub returns : goal.returns
-returns c = sources_sought

@@ -1,5 +1,0 @@
-use Rattle.v1_source_laws.proofs.Laws.{all_parts_go}
-use Rattle.v1_source_laws.proofs.values_with_parts_are_assigned.Goals as goal
-
-pub returns : goal.returns
-returns c = all_parts_go

@@ -1,5 +1,0 @@
-use Rattle.v1_source_laws.proofs.Laws.{all_parts_begin}
-use Rattle.v1_source_laws.proofs.values_with_parts_are_initial.Goals as goal
-
-pub returns : goal.returns
-returns c = all_parts_begin

@@ -1,5 +1,0 @@
-use Rattle.v1_table_laws.proofs.Handed.{parameters_handed}
-use Rattle.v1_table_laws.proofs.parameters_are_handed.Goals as goal
-
-pub returns : goal.returns
-returns c = parameters_handed

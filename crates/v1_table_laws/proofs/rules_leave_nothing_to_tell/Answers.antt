@@ -1,5 +1,0 @@
-use Rattle.v1_table_laws.proofs.Answering.{rules_tell_none}
-use Rattle.v1_table_laws.proofs.rules_leave_nothing_to_tell.Goals as goal
-
-pub returns : goal.returns
-returns c = rules_tell_none

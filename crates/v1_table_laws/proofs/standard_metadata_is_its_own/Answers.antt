@@ -1,5 +1,0 @@
-use Rattle.v1_table_laws.proofs.Standard.{standards_own}
-use Rattle.v1_table_laws.proofs.standard_metadata_is_its_own.Goals as goal
-
-pub returns : goal.returns
-returns c = standards_own

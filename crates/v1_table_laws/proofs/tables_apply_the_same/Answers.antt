@@ -1,5 +1,0 @@
-use Rattle.v1_table_laws.proofs.Answering.{tables_applied}
-use Rattle.v1_table_laws.proofs.tables_apply_the_same.Goals as goal
-
-pub returns : goal.returns
-returns c = tables_applied

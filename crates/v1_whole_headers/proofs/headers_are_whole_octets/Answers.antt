@@ -1,5 +1,0 @@
-use Rattle.v1_whole_headers.proofs.Headers.{headers_are_whole}
-use Rattle.v1_whole_headers.proofs.headers_are_whole_octets.Goals as goal
-
-pub returns : goal.returns
-returns c = headers_are_whole

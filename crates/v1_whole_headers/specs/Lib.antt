@@ -1,2 +1,0 @@
--- Read Laws.
-pub mod Laws
