@@ -1,5 +1,5 @@
 // The rows of all lists.
-ghost use Rattle.std.specs.Prelude.{◌≡◌, ℕ, [], replicate, IfOk};
+ghost use Rattle.std.specs.Prelude.{◌≡◌, [], replicate, IfOk};
 ghost use Rattle.digraph.specs.Components.{AreComponents};
 ghost use Rattle.p414_rules.specs.Expansion.{lists};
 ghost use Rattle.p414_rules.specs.Lists.{HoldsItself};

@@ -21,7 +21,7 @@ use Rattle.v1_sem.specs.Numbered.{InScope}
 use Rattle.v1_sem.specs.Expressions as sem_expressions
 use Rattle.v1_sem.specs.Expressions.{value_of}
 use Rattle.v1_sem.specs.Calls as calls
-use Rattle.v1_sem.specs.Calls.{argument_at, arguments_from, copied_in}
+use Rattle.v1_sem.specs.Calls.{argument_at, arguments_from}
 use Rattle.v1_frames.specs.Cells.{Cells, slot_value}
 use Rattle.v1_frame_values.specs.Seats.{Content, Form, slot_form, header_form, stack_form, struct_form, no_form, form_of, Seat}
 use Rattle.v1_frame_values.specs.Values.{seat_value}

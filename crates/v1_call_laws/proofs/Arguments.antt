@@ -15,7 +15,6 @@ use Rattle.p416_rules.specs.Sizes.{leaves_size}
 use Rattle.p416_rules.specs.Writes.{is_written_place}
 use Rattle.v1_sem.specs.Values.{Value, some_bits, bits_of_list, number_in, width_in}
 use Rattle.v1_sem.specs.Frames as sem
-use Rattle.v1_sem.specs.Frames.{Reference, nowhere}
 use Rattle.v1_sem.specs.Surroundings as meaning
 use Rattle.v1_sem.specs.Numbered.{InScope}
 use Rattle.v1_sem.specs.Expressions as sem_expressions

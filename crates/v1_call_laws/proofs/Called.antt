@@ -17,7 +17,7 @@ use Rattle.v1_sem.specs.Surroundings as meaning
 use Rattle.v1_sem.specs.Surroundings.{action_named}
 use Rattle.v1_sem.specs.Numbered.{InScope, named_values, frame_in}
 use Rattle.v1_sem.specs.Calls as calls
-use Rattle.v1_sem.specs.Calls.{arguments_from, bound_arguments, copied_out, acted, call_action, named_call, call_statement}
+use Rattle.v1_sem.specs.Calls.{arguments_from, bound_arguments, acted, call_action, named_call, call_statement}
 use Rattle.v1_frames.specs.Cells.{Cells}
 use Rattle.v1_frame_values.specs.Programs.{numbered16}
 use Rattle.v1_frame_values.specs.Scopes.{IsScope}
@@ -29,7 +29,7 @@ use Rattle.v1_ready_blocks.specs.Moments.{Moment, with_cells}
 use Rattle.v1_ready_blocks.specs.Tests.{World}
 use Rattle.v1_ready_blocks.specs.Arguments.{Incoming, Outgoing, brought_in, given_back}
 use Rattle.v1_ready_blocks.specs.Statements as ready
-use Rattle.v1_ready_blocks.specs.Statements.{Statement, called}
+use Rattle.v1_ready_blocks.specs.Statements.{called}
 use Rattle.v1_ready_statements.specs.Around.{Around, Found}
 use Rattle.v1_ready_statements.specs.Given.{any_applies, all_incoming, all_outgoing}
 use Rattle.v1_value_laws.specs.Kinds.{Fine}

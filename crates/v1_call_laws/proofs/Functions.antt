@@ -21,7 +21,7 @@ use Rattle.p416_rules.specs.Breaks.{BreaksNone, program_rules}
 use Rattle.p416_rules.specs.Declarations.{layouts_of}
 use Rattle.v1_sem.specs.Values.{Value, a_symbol, number_in, symbol_in, to_member}
 use Rattle.v1_sem.specs.Frames as sem
-use Rattle.v1_sem.specs.Frames.{Reference, stepped}
+use Rattle.v1_sem.specs.Frames.{stepped}
 use Rattle.v1_sem.specs.Slots.{variable_kinds}
 use Rattle.v1_sem.specs.Surroundings as meaning
 use Rattle.v1_sem.specs.Numbered.{InScope}

@@ -34,7 +34,7 @@ use Rattle.v1_ready_blocks.specs.Moments.{Moment}
 use Rattle.v1_ready_blocks.specs.Places.{range_at}
 use Rattle.v1_ready_blocks.specs.Tests.{World, Test, test_value, with_test, with_range}
 use Rattle.v1_ready_blocks.specs.Statements as ready
-use Rattle.v1_ready_blocks.specs.Statements.{Deed, set_valid as mark, let_go, does, header_made, Statement}
+use Rattle.v1_ready_blocks.specs.Statements.{Deed, set_valid as mark, let_go, does, header_made}
 use Rattle.v1_place_laws.specs.Places.{Meant, meant_by}
 use Rattle.v1_ready_statements.specs.Around.{Around, table_found}
 use Rattle.v1_ready_statements.specs.Targets.{parts_meant, range_given}

@@ -20,7 +20,7 @@ use Rattle.p416_rules.specs.Breaks.{BreaksNone, program_rules}
 use Rattle.p416_rules.specs.Declarations.{layouts_of}
 use Rattle.v1_sem.specs.Values.{Value, a_symbol, number_in, to_member, Slice}
 use Rattle.v1_sem.specs.Frames as sem
-use Rattle.v1_sem.specs.Frames.{Reference, stepped, read}
+use Rattle.v1_sem.specs.Frames.{stepped, read}
 use Rattle.v1_sem.specs.Surroundings as meaning
 use Rattle.v1_sem.specs.Surroundings.{named}
 use Rattle.v1_sem.specs.Numbered.{InScope}

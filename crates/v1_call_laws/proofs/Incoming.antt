@@ -23,7 +23,7 @@ use Rattle.v1_sem.specs.Surroundings as meaning
 use Rattle.v1_sem.specs.Slots.{the_variable, parameter_kind}
 use Rattle.v1_sem.specs.Numbered.{InScope}
 use Rattle.v1_sem.specs.Expressions as sem_expressions
-use Rattle.v1_sem.specs.Expressions.{valued, Referred, reference_of, value_of}
+use Rattle.v1_sem.specs.Expressions.{valued, reference_of, value_of}
 use Rattle.v1_sem.specs.Calls as calls
 use Rattle.v1_sem.specs.Calls.{by_value, by_reference, argument_at, copied_in}
 use Rattle.v1_frames.specs.Cells.{Cells, slot_value}
@@ -38,7 +38,7 @@ use Rattle.v1_ready_laws.specs.Rules.{Keeps, NamesSeated}
 use Rattle.v1_ready_blocks.specs.Moments.{Moment, with_cells}
 use Rattle.v1_ready_blocks.specs.Places.{put_value, copied, emptied}
 use Rattle.v1_ready_blocks.specs.Tests.{Applied, World, Test, test_value, with_test, Source, Sought, source_range, with_source}
-use Rattle.v1_ready_blocks.specs.Arguments.{Incoming, value_in, parts_in, zero_in, Outgoing, value_out, parts_out, placed}
+use Rattle.v1_ready_blocks.specs.Arguments.{Incoming, value_in, parts_in, zero_in, Outgoing, placed}
 use Rattle.v1_ready_blocks.specs.Arguments as incoming
 use Rattle.v1_parser_laws.specs.Ranges.{IsRangeOf, all_of}
 use Rattle.v1_place_laws.specs.Laws.{FitsSlot}

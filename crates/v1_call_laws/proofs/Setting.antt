@@ -7,7 +7,7 @@ use Rattle.p416_ast.specs.declared.program.Syntax16.{Syntax16}
 use Rattle.p416_rules.specs.Scopes.{Layout as TypeLayout}
 use Rattle.p416_rules.specs.Breaks.{BreaksNone, program_rules}
 use Rattle.p416_rules.specs.Declarations.{layouts_of}
-use Rattle.v1_sem.specs.Values.{Value, a_number, no_value, as_number, number_in, fitted}
+use Rattle.v1_sem.specs.Values.{Value, a_number, no_value, as_number, fitted}
 use Rattle.v1_sem.specs.Values as value
 use Rattle.v1_sem.specs.Frames as sem
 use Rattle.v1_sem.specs.Frames.{Frame}

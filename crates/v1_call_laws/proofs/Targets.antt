@@ -14,7 +14,7 @@ use Rattle.p416_rules.specs.Breaks.{BreaksNone, program_rules}
 use Rattle.p416_rules.specs.Declarations.{layouts_of}
 use Rattle.v1_sem.specs.Values.{to_member, to_element, Slice}
 use Rattle.v1_sem.specs.Frames as sem
-use Rattle.v1_sem.specs.Frames.{Reference, cut_to, stepped}
+use Rattle.v1_sem.specs.Frames.{Reference, cut_to}
 use Rattle.v1_sem.specs.Surroundings as meaning
 use Rattle.v1_sem.specs.Numbered.{InScope}
 use Rattle.v1_sem.specs.Expressions.{reference_of, slice_of}

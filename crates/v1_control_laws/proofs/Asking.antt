@@ -27,7 +27,7 @@ use Rattle.v1_sem.specs.Frames as sem
 use Rattle.v1_sem.specs.Surroundings as meaning
 use Rattle.v1_sem.specs.Numbered.{InScope}
 use Rattle.v1_sem.specs.Expressions as sem_expressions
-use Rattle.v1_sem.specs.Expressions.{valued, told, name_in, member_value, method_value, slice_of, value_of}
+use Rattle.v1_sem.specs.Expressions.{valued, told, member_value, method_value, slice_of, value_of}
 use Rattle.v1_frames.specs.Cells.{Cells, AreWhole}
 use Rattle.v1_ready_expressions.specs.Ready as ready
 use Rattle.v1_ready_expressions.specs.Ready.{Ready, Ended, given, ready_value}

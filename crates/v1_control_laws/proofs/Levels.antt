@@ -19,7 +19,7 @@ use Rattle.p416_rules.specs.Unknown.{declared_name}
 use Rattle.v1_sem.specs.declared.block.Block.{Block as BlockName}
 use Rattle.v1_sem.specs.Values.{Value}
 use Rattle.v1_sem.specs.Frames as sem
-use Rattle.v1_sem.specs.Frames.{Frame, is_stopped, closed}
+use Rattle.v1_sem.specs.Frames.{Frame}
 use Rattle.v1_sem.specs.Slots.{variable_kinds, parameter_kind, kinds_in}
 use Rattle.v1_sem.specs.Surroundings as meaning
 use Rattle.v1_sem.specs.Surroundings.{Setting, Root, action_named, action_called}

@@ -20,7 +20,7 @@ use Rattle.p416_ast.specs.declared.program.Syntax16.{Syntax16}
 use Rattle.p416_ast.specs.Tree.{Exp16, literal, truth, error, name, member, index, slice, call, lookahead, cast, unary, binary, choice, parenthesized, no_arguments, argument, listed, Stmt16, no_statements, then, block, empty, var, var_is, assign, expression, if_then, if_else, switch, no_cases, case_of}
 use Rattle.p416_rules.specs.Names.{Name}
 use Rattle.p416_rules.specs.Kinds.{Kind, boolean, is_packet}
-use Rattle.p416_rules.specs.Scopes.{called_of, Scope, Part, in_action, in_apply, kind_of_type, sort_of}
+use Rattle.p416_rules.specs.Scopes.{called_of, Scope, Part, in_action, kind_of_type, sort_of}
 use Rattle.p416_rules.specs.Calls.{Place, value, target, statement, callee, unasked, parser_position}
 use Rattle.p416_rules.specs.Expressions.{kind_of, signature_of, is_chosen}
 use Rattle.p416_rules.specs.Uses.{Use, an_expression, names_of_scope, some_parameters, some_counters, a_body, of_variable, of_action_parameter, of_block_parameter, type_uses, uses, uses_at, many, wanted_by}

@@ -9,7 +9,7 @@ use Rattle.p416_rules.specs.Breaks.{program_rules, BreaksNone}
 use Rattle.v1_sem.specs.declared.block.Block.{Block as BlockName}
 use Rattle.v1_sem.specs.Frames as sem
 use Rattle.v1_sem.specs.Surroundings as meaning
-use Rattle.v1_sem.specs.Surroundings.{Setting, table_called, table_named}
+use Rattle.v1_sem.specs.Surroundings.{Setting, table_called}
 use Rattle.v1_sem.specs.Numbered.{Variable, InScope}
 use Rattle.v1_sem.specs.Tables.{applied}
 use Rattle.v1_sem.specs.Blocks.{act, control_world, around_control, control_at}
@@ -18,8 +18,8 @@ use Rattle.v1_ready_forms.specs.Named.{NamedSeat}
 use Rattle.v1_ready_blocks.specs.Moments.{Moment}
 use Rattle.v1_ready_blocks.specs.Tests.{World}
 use Rattle.v1_ready_blocks.specs.Tables as ready_tables
-use Rattle.v1_ready_blocks.specs.Tables.{Table, Fill}
-use Rattle.v1_ready_blocks.specs.Blocks.{Block, no_table, table_of, table_applied, world_of}
+use Rattle.v1_ready_blocks.specs.Tables.{Fill}
+use Rattle.v1_ready_blocks.specs.Blocks.{Block, no_table, world_of}
 use Rattle.v1_ready_blocks.specs.Blocks as blocks
 use Rattle.v1_block_laws.specs.Variables.{scope_in_control, control_from, control_variables, control_seats}
 use Rattle.v1_block_laws.proofs.Blocks.{control_seated}

@@ -1,12 +1,10 @@
 // The passes of a program.
-ghost use Rattle.std.specs.Prelude.{◌≡◌, ℕ, ◌≤◌, ◌==◌, List, [], length, drop, IfOk, OnOk, option_map};
+ghost use Rattle.std.specs.Prelude.{◌≡◌, ℕ, ◌≤◌, ◌==◌, [], length, drop, IfOk, OnOk, option_map};
 ghost use Rattle.state_store.specs.Ports.{IsPort, drop_port};
-ghost use Rattle.fabric.specs.declared.items.Event.{Event as Applied};
 ghost use Rattle.fabric.specs.Owned.{IsOwnIngressNext};
 ghost use Rattle.v1_sem.specs.Surroundings.{Setting as Set};
 ghost use Rattle.v1_sem.specs.Parsing.{parse16};
 ghost use Rattle.v1_sem.specs.Passes.{Between, is_no_error, verified_and_run, egress_spec, put_together};
-ghost use Rattle.v1_frames.specs.Cells.{request_of};
 ghost use Rattle.v1_frame_values.specs.Frames.{IsFrameOf};
 ghost use Rattle.v1_packets.specs.Packets.{packet_frame};
 ghost use Rattle.v1_passes.specs.Moments.{moment_at};

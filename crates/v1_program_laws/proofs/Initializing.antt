@@ -18,7 +18,7 @@ use Rattle.p416_rules.specs.Breaks.{BreaksNone, program_rules}
 use Rattle.p416_rules.specs.Declarations.{layouts_of}
 use Rattle.v1_sem.specs.Values.{Value, a_member, no_value, to_member, with_member, member_in, with_part_at, fitted, members_from, zero_within, zero_value}
 use Rattle.v1_sem.specs.Frames as sem
-use Rattle.v1_sem.specs.Frames.{Frame, Reference, of_inner, of_variables, whole, stepped, put_at}
+use Rattle.v1_sem.specs.Frames.{Frame, Reference, of_inner, of_variables, whole, stepped}
 use Rattle.v1_sem.specs.Slots.{the_variable, part_with, variable_kinds}
 use Rattle.v1_sem.specs.Surroundings as meaning
 use Rattle.v1_sem.specs.Numbered.{InScope, Numbered, number_of, part_behind}

@@ -34,7 +34,7 @@ use Rattle.v1_ready_blocks.specs.Moments.{Moment}
 use Rattle.v1_ready_blocks.specs.Packets as ready_packets
 use Rattle.v1_ready_blocks.specs.Tests.{World, Source, Reached, Sought, source_range, with_source}
 use Rattle.v1_ready_blocks.specs.Statements as ready
-use Rattle.v1_ready_blocks.specs.Statements.{Deed, Statement, does, apply, emit_headers}
+use Rattle.v1_ready_blocks.specs.Statements.{does, apply, emit_headers}
 use Rattle.v1_ready_statements.specs.Around.{Around, table_found}
 use Rattle.v1_ready_statements.specs.Targets.{fixed_range, range_given}
 use Rattle.v1_deed_laws.specs.Forms.{IsEmitted}

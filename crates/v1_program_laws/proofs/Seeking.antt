@@ -18,7 +18,7 @@ use Rattle.v1_sem.specs.declared.parser_error.ParserError.{ParserError}
 use Rattle.v1_sem.specs.declared.parser_error.ParserError.TheVariants.{StackOutOfBounds}
 use Rattle.v1_sem.specs.Values.{Value, place_in, elements_in, is_true, part_of, to_member, to_element}
 use Rattle.v1_sem.specs.Frames as sem
-use Rattle.v1_sem.specs.Frames.{Frame, Reference, read}
+use Rattle.v1_sem.specs.Frames.{Frame, read}
 use Rattle.v1_sem.specs.Surroundings as meaning
 use Rattle.v1_sem.specs.Surroundings.{named}
 use Rattle.v1_sem.specs.Numbered.{InScope, frame_in}

@@ -28,7 +28,7 @@ use Rattle.v1_ready_blocks.specs.Moments.{Moment, with_cells}
 use Rattle.v1_ready_blocks.specs.Places.{put_value}
 use Rattle.v1_ready_blocks.specs.Tests.{World, Test, test_value, with_test}
 use Rattle.v1_ready_blocks.specs.Statements as ready
-use Rattle.v1_ready_blocks.specs.Statements.{Deed, assign as assign_deed, does}
+use Rattle.v1_ready_blocks.specs.Statements.{assign as assign_deed, does}
 use Rattle.v1_place_laws.specs.Places.{Meant, meant_by}
 use Rattle.v1_place_laws.specs.Finding.{FoundAt, IsFound, seat_now}
 use Rattle.v1_place_laws.proofs.Finding.{places_found}

@@ -11,7 +11,7 @@ use Rattle.p416_rules.specs.Types.{takes}
 use Rattle.p416_rules.specs.Breaks.{BreaksNone, program_rules}
 use Rattle.v1_sem.specs.declared.parser_error.ParserError.TheVariants.{StackOutOfBounds}
 use Rattle.v1_sem.specs.Frames as sem
-use Rattle.v1_sem.specs.Frames.{Frame, Reference, put_at}
+use Rattle.v1_sem.specs.Frames.{Reference, put_at}
 use Rattle.v1_sem.specs.Slots.{variable_kinds}
 use Rattle.v1_sem.specs.Surroundings as meaning
 use Rattle.v1_sem.specs.Numbered.{InScope}
@@ -32,7 +32,7 @@ use Rattle.v1_ready_blocks.specs.Moments.{Moment, with_cells, raised}
 use Rattle.v1_ready_blocks.specs.Places.{range_at, copied}
 use Rattle.v1_ready_blocks.specs.Tests.{World, Source, Reached, Sought as Seen, source_range, with_source, with_range}
 use Rattle.v1_ready_blocks.specs.Statements as ready
-use Rattle.v1_ready_blocks.specs.Statements.{Deed, assign_parts, does}
+use Rattle.v1_ready_blocks.specs.Statements.{assign_parts, does}
 use Rattle.v1_parser_laws.specs.Ranges.{IsRangeOf}
 use Rattle.v1_place_laws.specs.Places.{Meant, meant_by}
 use Rattle.v1_place_laws.specs.Finding.{IsAt, FoundAt, seat_now}

@@ -1,5 +1,5 @@
 -- What a statement puts in front of what is left comes to the statement.
-use Rattle.std.proofs.Common.{◌≡◌, ℕ, suc, ◌+◌, ◌-◌, ◌<◌, Bool, true, false, cond, List, [], ◌∷◌, ◌++◌, length, drop, Option, Some, None, option_map, refl, sym, ap, ◌∙◌, subst, arith}
+use Rattle.std.proofs.Common.{◌≡◌, ℕ, ◌+◌, ◌-◌, ◌<◌, Bool, true, false, cond, List, [], ◌∷◌, ◌++◌, length, drop, Option, Some, None, option_map, refl, sym, ap, ◌∙◌, arith}
 use Rattle.std.specs.List.{filter_map}
 use Rattle.std.proofs.Math.Seq.{drop-append_seam}
 use Rattle.std.proofs.lemmas.List.{append_assoc, length-append}
@@ -15,7 +15,7 @@ use Rattle.p416_scopes.specs.declared.scope.Scope.{Scope as CodeScope}
 use Rattle.p416_scopes.specs.Seen.{seen_scope}
 use Rattle.p416_visits.specs.Left.{height, shortened}
 use Rattle.p416_visits.proofs.Visiting.{left_again, scope_height}
-use Rattle.v1_sem.specs.Slots.{visited_kind, kinds_in}
+use Rattle.v1_sem.specs.Slots.{visited_kind}
 use Rattle.v1_ready_forms.specs.Named.{NamedSeat, named_seat}
 use Rattle.v1_ready_blocks.specs.Statements.{Statement, nothing, otherwise}
 use Rattle.v1_ready_statements.specs.Around.{Around, Found, table_found, action_found, variable_seat}

@@ -1,5 +1,5 @@
 // What is still to be done is kept on a stack, and so is what was made.
-ghost use Rattle.std.specs.Prelude.{◌≡◌, ◌<◌, ◌+◌, ◌∷◌, true, false, List, length, IfOk, OnOk};
+ghost use Rattle.std.specs.Prelude.{◌≡◌, ◌<◌, ◌+◌, ◌∷◌, true, false, List, IfOk, OnOk};
 ghost use Rattle.p416_ast.specs.declared.program.Decl16.{Decl16};
 ghost use Rattle.p416_ast.specs.Tree.{no_cases};
 ghost use Rattle.v1_ready_statements.specs.Around.{Around};

@@ -1,5 +1,5 @@
 -- The tables that are made ready are those of v1_ready_statements.
-use Rattle.std.proofs.Common.{◌≡◌, ℕ, zero, suc, ◌+◌, ◌<◌, Bool, true, false, cond, List, [], ◌∷◌, ◌++◌, length, map, get_or, drop, Option, Some, None, refl, sym, ap, ◌∙◌, slice_get}
+use Rattle.std.proofs.Common.{◌≡◌, ℕ, zero, suc, ◌+◌, ◌<◌, Bool, true, false, cond, List, [], ◌∷◌, ◌++◌, length, map, get_or, drop, Option, Some, None, refl, sym, ap, ◌∙◌}
 use Rattle.std.specs.Borrow.{Bor}
 use Rattle.std.specs.Prelude.{filter_map, unwrap_or, option_map, option_and_then}
 use Rattle.std.specs.Option.{option_map_or}
@@ -21,7 +21,7 @@ use Rattle.v1_sem.specs.Tables.{listed_name, name_of_number, own_default}
 use Rattle.v1_sem.specs.Tables as meaning
 use Rattle.v1_ready_expressions.specs.Ready.{Ready}
 use Rattle.v1_ready_forms.specs.Named.{NamedSeat}
-use Rattle.v1_ready_blocks.specs.Tables.{Chosen, Table}
+use Rattle.v1_ready_blocks.specs.Tables.{Chosen}
 use Rattle.v1_ready_statements.specs.Given.{cons_option}
 use Rattle.v1_ready_statements.specs.Around.{Around, Found, action_found}
 use Rattle.v1_ready_statements.specs.Blocks.{all_of, key_ready, number_in, action_number, action_numbers, chosen_ready, default_ready, with_parts, table_ready}

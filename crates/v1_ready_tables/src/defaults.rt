@@ -2,7 +2,6 @@
 ghost use Rattle.std.specs.Prelude.{◌≡◌, [], Some, map, option_map, option_and_then, IfOk};
 ghost use Rattle.std.specs.Option.{option_map_or};
 ghost use Rattle.p416_ast.specs.Properties.{default_action_of, default_arguments_of};
-ghost use Rattle.p416_ast.specs.declared.controls.ActionName.TheVariants as action_name;
 ghost use Rattle.p416_rules.specs.Totals.{size_value};
 ghost use Rattle.p416_rules.specs.Uses.{arguments_of};
 ghost use Rattle.p416_scopes.specs.Seen.{seen_scope};

@@ -1,5 +1,5 @@
 -- Bits that are still to be put behind a list, as the number that they make.
-use Rattle.std.specs.Prelude.{ℕ, ◌^◌, ◌<◌, ◌≤◌, Bool, List}
+use Rattle.std.specs.Prelude.{◌^◌, ◌<◌, ◌≤◌, Bool, List}
 use Rattle.p4x_bits.specs.BitLists.{bits}
 use Rattle.p414_field_lists.specs.declared.bits.Run.{Run}
 

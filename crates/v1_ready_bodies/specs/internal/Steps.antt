@@ -1,9 +1,9 @@
 -- What each thing that is left to be done does to where statements stand and to the statements that are made so far.
-use Rattle.std.specs.Prelude.{◌≡◌, ℕ, suc, ◌+◌, ◌-◌, Bool, true, false, if◌then◌else◌, List, [], ◌∷◌, ◌++◌, length, drop, map, Option, Some, None, option_map}
+use Rattle.std.specs.Prelude.{◌≡◌, ℕ, ◌+◌, ◌-◌, Bool, true, false, if◌then◌else◌, List, [], ◌∷◌, ◌++◌, length, drop, map, Option, Some, None, option_map}
 use Rattle.p416_ast.specs.declared.program.Decl16.{Decl16}
 use Rattle.p416_ast.specs.declared.node.CaseLabel.{CaseLabel}
 use Rattle.p416_ast.specs.declared.node.CaseLabel.TheVariants as label
-use Rattle.p416_ast.specs.Tree.{Stmt16, no_statements, then, block, empty, var, var_is, assign, expression, if_then, if_else, switch, no_cases, case_of}
+use Rattle.p416_ast.specs.Tree.{Stmt16, then, block, if_then, if_else, switch, no_cases, case_of}
 use Rattle.p416_rules.specs.Kinds.{boolean}
 use Rattle.p416_rules.specs.Scopes.{Scope}
 use Rattle.p416_rules.specs.Calls.{value}

@@ -1,4 +1,4 @@
-use Rattle.std.proofs.Common.{◌≡◌, [], ◌∷◌, ap, ◌∙◌}
+use Rattle.std.proofs.Common.{[], ◌∷◌, ap, ◌∙◌}
 use Rattle.v1_ready_bodies.specs.declared.making.Work.TheVariants as work
 use Rattle.v1_ready_bodies.specs.internal.Steps.{State, first_made}
 use Rattle.v1_ready_bodies.proofs.Steps.{body_done}

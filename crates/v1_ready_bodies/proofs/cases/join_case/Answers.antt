@@ -1,4 +1,4 @@
-use Rattle.std.proofs.Common.{◌≡◌, ap, ◌∙◌}
+use Rattle.std.proofs.Common.{ap, ◌∙◌}
 use Rattle.v1_ready_bodies.specs.internal.Steps.{number_of}
 use Rattle.v1_ready_bodies.proofs.Keeping.{all_wider, label_put}
 use Rattle.v1_ready_bodies.proofs.cases.join_case.Goals as goal

@@ -3,7 +3,7 @@ use Rattle.std.proofs.lemmas.Result.{on_ok_weaker}
 use Rattle.v1_ready_statements.specs.Around.{table_found}
 use Rattle.v1_ready_statements.specs.Statements.{switch_ready}
 use Rattle.v1_ready_bodies.specs.Seen.{seen_statement}
-use Rattle.v1_ready_bodies.specs.internal.Steps.{seen_all, cases_joined, first_made, others_made, switch_made}
+use Rattle.v1_ready_bodies.specs.internal.Steps.{seen_all, cases_joined, first_made, switch_made}
 use Rattle.v1_ready_bodies.proofs.Keeping.{put_seen, put_within}
 use Rattle.v1_ready_bodies.proofs.cases.make_switch.Goals as goal
 

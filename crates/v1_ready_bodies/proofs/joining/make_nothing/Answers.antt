@@ -1,4 +1,4 @@
-use Rattle.std.proofs.Common.{◌≡◌, Some, ◌∷◌}
+use Rattle.std.proofs.Common.{Some, ◌∷◌}
 use Rattle.std.proofs.lemmas.Result.{on_ok_weaker}
 use Rattle.v1_ready_blocks.specs.Statements.{nothing}
 use Rattle.v1_ready_bodies.proofs.Keeping.{put_seen, put_within}
