@@ -5,7 +5,6 @@ use p414_ast::{
     ReadKey, StateAttr, Stateful, Table, TableAttr, TypeTail,
 };
 use std::alloc::Global;
-use std::test::Fail;
 
 fn literal(value: u128) -> Literal {
     Literal { width: None, value }
@@ -25,26 +24,35 @@ fn is_text(text: Option<&Text>, octets: &[u8]) -> bool {
     }
 }
 
-fn reads(alloc: Global) -> Result<Rows<Read>, OutOfMemory> {
-    let mut reads = Rows::new(alloc);
-    let name = Text::from_slice(alloc, b"ipv4")?;
-    reads.push(Read {
-        key: ReadKey::Instance(Inst { name, index: None }),
+/// A key of an instance without a name.
+fn key(alloc: Global) -> Read {
+    Read {
+        key: ReadKey::Instance(Inst {
+            name: Text::new(alloc),
+            index: None,
+        }),
         mask: None,
-        kind: Text::from_slice(alloc, b"valid")?,
-    })?;
-    Ok(reads)
+        kind: Text::new(alloc),
+    }
+}
+
+/// A size, one key, a default action without a list of arguments, and another size.
+fn attributes(alloc: Global) -> Result<Rows<TableAttr>, OutOfMemory> {
+    let reads = Rows::from_vec(vec![in alloc; key(alloc)]?);
+    let action = Text::from_slice(alloc, b"drop")?;
+    Ok(Rows::from_vec(vec![in alloc;
+        TableAttr::Size(literal(5)),
+        TableAttr::Reads(reads),
+        TableAttr::DefaultAction(action, None),
+        TableAttr::Size(literal(7)),
+    ]?))
 }
 
 fn table(alloc: Global) -> Result<Table, OutOfMemory> {
-    let mut attributes = Rows::new(alloc);
-    attributes.push(TableAttr::Size(literal(5)))?;
-    attributes.push(TableAttr::Reads(reads(alloc)?))?;
-    attributes.push(TableAttr::DefaultAction(Text::from_slice(alloc, b"drop")?, None))?;
-    attributes.push(TableAttr::Size(literal(7)))?;
+    let name = Text::from_slice(alloc, b"acl")?;
     Ok(Table {
-        name: Text::from_slice(alloc, b"acl")?,
-        attributes,
+        name,
+        attributes: attributes(alloc)?,
     })
 }
 
@@ -60,14 +68,17 @@ fn declares_first(table: &Table) -> bool {
         && table.name_text() == b"acl".as_slice()
 }
 
+/// A direct counter without a name.
 fn counter(alloc: Global) -> Result<Stateful, OutOfMemory> {
-    let mut attributes = Rows::new(alloc);
-    attributes.push(StateAttr::Counts(CounterType::Bytes))?;
-    attributes.push(StateAttr::Direct(Text::from_slice(alloc, b"acl")?))?;
-    attributes.push(StateAttr::Saturating)?;
-    attributes.push(StateAttr::Width(literal(32)))?;
+    let table = Text::from_slice(alloc, b"acl")?;
+    let attributes = Rows::from_vec(vec![in alloc;
+        StateAttr::Counts(CounterType::Bytes),
+        StateAttr::Direct(table),
+        StateAttr::Saturating,
+        StateAttr::Width(literal(32)),
+    ]?);
     Ok(Stateful {
-        name: Text::from_slice(alloc, b"seen")?,
+        name: Text::new(alloc),
         attributes,
     })
 }
@@ -83,24 +94,31 @@ fn declares_direct(counter: &Stateful) -> bool {
         && counter.instance_count().is_none()
 }
 
-fn fields(alloc: Global) -> Result<Rows<Field>, OutOfMemory> {
-    let mut fields = Rows::new(alloc);
-    fields.push(Field {
-        name: Text::from_slice(alloc, b"ttl")?,
+/// A field of 8 bits without a name.
+fn field(alloc: Global) -> Field {
+    Field {
+        name: Text::new(alloc),
         width: FieldWidth::Bits(literal(8)),
         attributes: Rows::new(alloc),
-    })?;
-    Ok(fields)
+    }
+}
+
+/// A header type of this name and with these fields, whose length is at most a number.
+fn header_type_of(
+    alloc: Global,
+    name: Text,
+    fields: Rows<Field>,
+) -> Result<HeaderType, OutOfMemory> {
+    let mut nodes = Nodes::new(alloc);
+    let length = nodes.expression(ExprNode::Number(literal(20)))?;
+    let tails = Rows::from_vec(vec![in alloc; TypeTail::MaxLength(length)]?);
+    Ok(HeaderType::new(name, fields, tails, nodes))
 }
 
 fn header_type(alloc: Global) -> Result<HeaderType, OutOfMemory> {
-    let fields = fields(alloc)?;
     let name = Text::from_slice(alloc, b"ipv4_t")?;
-    let mut nodes = Nodes::new(alloc);
-    let length = nodes.expression(ExprNode::Number(literal(20)))?;
-    let mut tails = Rows::new(alloc);
-    tails.push(TypeTail::MaxLength(length))?;
-    Ok(HeaderType::new(name, fields, tails, nodes))
+    let fields = Rows::from_vec(vec![in alloc; field(alloc)]?);
+    header_type_of(alloc, name, fields)
 }
 
 /// Whether that header type declares what stands.
@@ -120,24 +138,26 @@ fn gives_back(header_type: &HeaderType) -> bool {
         && parts.nodes.exprs_len() == 1
 }
 
-fn table_declares(alloc: Global) -> Result<bool, OutOfMemory> {
-    Ok(declares_first(&table(alloc)?))
+/// Whether a table tells the first of two attributes, and which are absent.
+pub fn table_declares(alloc: Global) -> bool {
+    match &table(alloc) {
+        Ok(table) => declares_first(table),
+        Err(_) => false,
+    }
 }
 
-fn counter_declares(alloc: Global) -> Result<bool, OutOfMemory> {
-    Ok(declares_direct(&counter(alloc)?))
+/// Whether a counter tells its attributes, and which are absent.
+pub fn counter_declares(alloc: Global) -> bool {
+    match &counter(alloc) {
+        Ok(counter) => declares_direct(counter),
+        Err(_) => false,
+    }
 }
 
-fn header_type_declares(alloc: Global) -> Result<bool, OutOfMemory> {
-    let header_type = header_type(alloc)?;
-    Ok(declares_most(&header_type) && gives_back(&header_type))
-}
-
-#[test]
-fn declarations_tell_what_comes_first_and_what_stands(rt: HostRuntime) -> Result<(), Fail> {
-    let table = table_declares(rt.alloc())?;
-    let counter = counter_declares(rt.alloc())?;
-    let header_type = header_type_declares(rt.alloc())?;
-    assert_eq!(rt; (table, counter, header_type), (true, true, true));
-    Ok(())
+/// Whether a header type tells its attributes, and gives back its parts.
+pub fn header_type_declares(alloc: Global) -> bool {
+    match &header_type(alloc) {
+        Ok(header_type) => declares_most(header_type) && gives_back(header_type),
+        Err(_) => false,
+    }
 }

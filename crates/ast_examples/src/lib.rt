@@ -8,4 +8,6 @@ mod nodes14;
 #[cfg(test)]
 mod sorts14;
 #[cfg(test)]
+mod tests;
+#[cfg(test)]
 mod walks14;

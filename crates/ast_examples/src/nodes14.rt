@@ -5,7 +5,6 @@ ghost use Rattle.p414_ast.specs.Tree.{ExprInOrder, StmtInOrder};
 use p4x_bits::{OutOfMemory, Text};
 use p414_ast::{BinaryOperator, Control, ExprNode, Label, Literal, Nodes, StmtNode};
 use std::alloc::Global;
-use std::test::Fail;
 
 /// An expression over earlier ones, which are told by their places.
 #[derive(Clone, Copy, Drop)]
@@ -56,8 +55,8 @@ fn expr_node(row: Expr, exprs: usize) -> Option<ExprNode>
     }
 }
 
-/// The node of a statement over so many expressions and statements; nothing where it names a later one.
-fn stmt_node(row: Stmt, table: Text, exprs: usize, stmts: usize) -> Option<StmtNode>
+/// The node of a statement over so many expressions and statements; nothing where it names a later one. Tables have no name.
+fn stmt_node(alloc: Global, row: Stmt, exprs: usize, stmts: usize) -> Option<StmtNode>
     ensures { IfSome result (StmtInOrder exprs stmts) }
 {
     match row {
@@ -68,8 +67,8 @@ fn stmt_node(row: Stmt, table: Text, exprs: usize, stmts: usize) -> Option<StmtN
         Stmt::NoStatements => Some(StmtNode::NoStatements),
         Stmt::NoElse => Some(StmtNode::NoElse),
         Stmt::NoBranches => Some(StmtNode::NoBranches),
-        Stmt::Apply => Some(StmtNode::Apply(table)),
-        Stmt::ApplyBranches(a) if a < stmts => Some(StmtNode::ApplyBranches(table, a)),
+        Stmt::Apply => Some(StmtNode::Apply(Text::new(alloc))),
+        Stmt::ApplyBranches(a) if a < stmts => Some(StmtNode::ApplyBranches(Text::new(alloc), a)),
         Stmt::ElseBlock(a) if a < stmts => Some(StmtNode::ElseBlock(a)),
         Stmt::ElseIf(a) if a < stmts => Some(StmtNode::ElseIf(a)),
         _ => None,
@@ -84,52 +83,55 @@ fn put_expr(nodes: &mut Nodes, row: Expr) -> Result<bool, OutOfMemory> {
     }
 }
 
-fn put_stmt(nodes: &mut Nodes, row: Stmt, table: Text) -> Result<bool, OutOfMemory> {
+fn put_stmt(alloc: Global, nodes: &mut Nodes, row: Stmt) -> Result<bool, OutOfMemory> {
     let place = nodes.statements_len();
-    match stmt_node(row, table, nodes.exprs_len(), place) {
+    match stmt_node(alloc, row, nodes.exprs_len(), place) {
         Some(node) => Ok(nodes.statement(node)? == place),
         None => Ok(false),
     }
 }
 
-/// Expressions and statements in the order in which they are put; nothing where one isn't put at the next place.
-pub fn nodes_of(
+/// Puts expressions and statements in this order, and answers whether each is put at the next place.
+fn put_all(
     alloc: Global,
+    nodes: &mut Nodes,
     exprs: &[Expr],
     stmts: &[Stmt],
-) -> Result<Option<Nodes>, OutOfMemory> {
-    let mut nodes = Nodes::new(alloc);
+) -> Result<bool, OutOfMemory> {
     for row in exprs {
-        if !put_expr(&mut nodes, *row)? {
-            return Ok(None);
+        if !put_expr(nodes, *row)? {
+            return Ok(false);
         }
     }
     for row in stmts {
-        let table = Text::from_slice(alloc, b"acl")?;
-        if !put_stmt(&mut nodes, *row, table)? {
-            return Ok(None);
+        if !put_stmt(alloc, nodes, *row)? {
+            return Ok(false);
         }
     }
-    Ok(Some(nodes))
+    Ok(true)
 }
 
-/// The control `ingress` over these, whose body is the last statement.
+/// The control `ingress` over these nodes, whose body is the last statement; none where there is no statement.
+fn control_over(alloc: Global, nodes: Nodes) -> Result<Option<Control>, OutOfMemory> {
+    let count = nodes.statements_len();
+    if count == 0 {
+        return Ok(None);
+    }
+    let name = Text::from_slice(alloc, b"ingress")?;
+    Ok(Some(Control::new(name, nodes, count - 1)))
+}
+
+/// The control `ingress` over these expressions and statements, whose body is the last statement.
 pub fn control_of(
     alloc: Global,
     exprs: &[Expr],
     stmts: &[Stmt],
 ) -> Result<Option<Control>, OutOfMemory> {
-    let name = Text::from_slice(alloc, b"ingress")?;
-    match nodes_of(alloc, exprs, stmts)? {
-        Some(nodes) => {
-            let count = nodes.statements_len();
-            if count == 0 {
-                return Ok(None);
-            }
-            Ok(Some(Control::new(name, nodes, count - 1)))
-        }
-        None => Ok(None),
+    let mut nodes = Nodes::new(alloc);
+    if !put_all(alloc, &mut nodes, exprs, stmts)? {
+        return Ok(None);
     }
+    control_over(alloc, nodes)
 }
 
 /// Whether these are the nodes of a sum and of a block of one statement.
@@ -143,24 +145,17 @@ fn are_sum_and_block(nodes: &Nodes) -> bool {
         && matches!(nodes.statement_node(2), StmtNode::Then(0, 1))
 }
 
-fn nodes_give_back(alloc: Global) -> Result<bool, OutOfMemory> {
-    let exprs = [Expr::Number(1), Expr::Truth, Expr::Sum(0, 1)];
-    let stmts = [Stmt::NoStatements, Stmt::Apply, Stmt::Then(0, 1)];
-    match nodes_of(alloc, &exprs, &stmts)? {
-        Some(nodes) => Ok(are_sum_and_block(&nodes)),
-        None => Ok(false),
-    }
-}
-
 /// Whether nothing was put yet.
 fn are_none(nodes: &Nodes) -> bool {
     nodes.exprs_len() == 0 && nodes.statements_len() == 0
 }
 
-#[test]
-fn nodes_give_back_what_was_put(rt: HostRuntime) -> Result<(), Fail> {
-    let none = are_none(&Nodes::new(rt.alloc()));
-    let given_back = nodes_give_back(rt.alloc())?;
-    assert!(rt; none && given_back);
-    Ok(())
+/// Whether nodes give back what was put, and nothing before.
+pub fn nodes_give_back(alloc: Global) -> bool {
+    let exprs = [Expr::Number(1), Expr::Truth, Expr::Sum(0, 1)];
+    let stmts = [Stmt::NoStatements, Stmt::Apply, Stmt::Then(0, 1)];
+    let mut nodes = Nodes::new(alloc);
+    are_none(&nodes)
+        && matches!(put_all(alloc, &mut nodes, &exprs, &stmts), Ok(true))
+        && are_sum_and_block(&nodes)
 }

@@ -3,31 +3,35 @@ use crate::nodes14::{Stmt, control_of};
 use p4x_bits::{OutOfMemory, Rows, Text};
 use p414_ast::{Decl, Sorted, Stateful, Syntax14, Table, sort_declarations};
 use std::alloc::Global;
-use std::test::Fail;
 
-fn table(alloc: Global, name: &[u8]) -> Result<Table, OutOfMemory> {
-    Ok(Table {
-        name: Text::from_slice(alloc, name)?,
+fn put_table(alloc: Global, decls: &mut Rows<Decl>, name: &[u8]) -> Result<(), OutOfMemory> {
+    let name = Text::from_slice(alloc, name)?;
+    decls.push(Decl::Table(Table {
+        name,
         attributes: Rows::new(alloc),
-    })
+    }))
 }
 
-fn object(alloc: Global, name: &[u8]) -> Result<Stateful, OutOfMemory> {
-    Ok(Stateful {
-        name: Text::from_slice(alloc, name)?,
+fn put_meter(alloc: Global, decls: &mut Rows<Decl>) -> Result<(), OutOfMemory> {
+    decls.push(Decl::Meter(Stateful {
+        name: Text::new(alloc),
         attributes: Rows::new(alloc),
-    })
+    }))
 }
 
-fn declarations(alloc: Global) -> Result<Syntax14, OutOfMemory> {
-    let mut decls = Rows::new(alloc);
-    decls.push(Decl::Table(table(alloc, b"acl")?))?;
-    decls.push(Decl::Meter(object(alloc, b"rate")?))?;
-    decls.push(Decl::Table(table(alloc, b"routes")?))?;
-    if let Some(control) = control_of(alloc, &[], &[Stmt::NoStatements])? {
-        decls.push(Decl::Control(control))?;
+fn put_control(alloc: Global, decls: &mut Rows<Decl>) -> Result<(), OutOfMemory> {
+    match control_of(alloc, &[], &[Stmt::NoStatements])? {
+        Some(control) => decls.push(Decl::Control(control)),
+        None => Ok(()),
     }
-    Ok(Syntax14 { decls })
+}
+
+/// The tables `acl` and `routes` with a meter between them, and a control.
+fn put_declarations(alloc: Global, decls: &mut Rows<Decl>) -> Result<(), OutOfMemory> {
+    put_table(alloc, decls, b"acl")?;
+    put_meter(alloc, decls)?;
+    put_table(alloc, decls, b"routes")?;
+    put_control(alloc, decls)
 }
 
 fn is_table_named(table: Option<&Table>, name: &[u8]) -> bool {
@@ -50,15 +54,17 @@ fn are_sorted(found: &Sorted<'_>) -> bool {
         && found.left_out.len() == 0
 }
 
-fn are_kept(alloc: Global) -> Result<bool, OutOfMemory> {
-    let syntax = declarations(alloc)?;
-    let found = sort_declarations(alloc, &syntax)?;
-    Ok(are_sorted(&found))
+fn is_sorted(alloc: Global, syntax: &Syntax14) -> bool {
+    match &sort_declarations(alloc, syntax) {
+        Ok(found) => are_sorted(found),
+        Err(_) => false,
+    }
 }
 
-#[test]
-fn declarations_keep_their_order_in_their_sort(rt: HostRuntime) -> Result<(), Fail> {
-    let kept = are_kept(rt.alloc())?;
-    assert!(rt; kept);
-    Ok(())
+/// Whether declarations keep their order in their sort.
+pub fn order_is_kept(alloc: Global) -> bool {
+    let mut syntax = Syntax14 {
+        decls: Rows::new(alloc),
+    };
+    put_declarations(alloc, &mut syntax.decls).is_ok() && is_sorted(alloc, &syntax)
 }

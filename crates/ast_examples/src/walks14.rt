@@ -1,12 +1,10 @@
 // What a walk over a control of P4_14 finds, worked by hand: a letter for each statement or expression.
 use crate::nodes14::{Expr, Stmt, control_of};
-use p4x_bits::{OutOfMemory, Text};
 use p414_ast::{
     Control, ExprHead, ExprView, StmtHead, StmtView, all_conditions, all_expressions,
     all_statements,
 };
 use std::alloc::Global;
-use std::test::Fail;
 
 /// A control, all its statements, its conditions, and the expressions of the condition of a body that is one `if`.
 struct Walk {
@@ -103,40 +101,53 @@ fn expression_letter(head: ExprHead<'_>) -> u8 {
     }
 }
 
-fn statement_letters(alloc: Global, found: &[StmtView<'_>]) -> Result<Text, OutOfMemory> {
-    let mut letters = Text::new(alloc);
-    for statement in found {
-        letters.push(statement_letter(statement.head()))?;
-    }
-    Ok(letters)
-}
-
-fn expression_letters(alloc: Global, found: &[ExprView<'_>]) -> Result<Text, OutOfMemory> {
-    let mut letters = Text::new(alloc);
-    for expression in found {
-        letters.push(expression_letter(expression.head()))?;
-    }
-    Ok(letters)
-}
-
-fn walked(alloc: Global, control: &Control) -> Result<Text, OutOfMemory> {
-    let found = all_statements(alloc, control)?;
-    statement_letters(alloc, found.as_slice())
-}
-
-fn conditions(alloc: Global, control: &Control) -> Result<Text, OutOfMemory> {
-    let found = all_conditions(alloc, control)?;
-    expression_letters(alloc, found.as_slice())
-}
-
-/// The expressions of the condition of a control whose body is one `if`; none of another control.
-fn walked_condition(alloc: Global, control: &Control) -> Result<Text, OutOfMemory> {
-    match control.body().condition() {
-        Some(condition) => {
-            let found = all_expressions(alloc, &condition)?;
-            expression_letters(alloc, found.as_slice())
+/// Whether these letters stand for these statements.
+fn are_statements(found: &[StmtView<'_>], letters: &[u8]) -> bool {
+    for (place, statement) in found.iter().enumerate() {
+        if place >= letters.len() || statement_letter(statement.head()) != letters[place] {
+            return false;
         }
-        None => Ok(Text::new(alloc)),
+    }
+    found.len() == letters.len()
+}
+
+/// Whether these letters stand for these expressions.
+fn are_expressions(found: &[ExprView<'_>], letters: &[u8]) -> bool {
+    for (place, expression) in found.iter().enumerate() {
+        if place >= letters.len() || expression_letter(expression.head()) != letters[place] {
+            return false;
+        }
+    }
+    found.len() == letters.len()
+}
+
+fn has_statements(alloc: Global, control: &Control, letters: &[u8]) -> bool {
+    match &all_statements(alloc, control) {
+        Ok(found) => are_statements(found, letters),
+        Err(_) => false,
+    }
+}
+
+fn has_conditions(alloc: Global, control: &Control, letters: &[u8]) -> bool {
+    match &all_conditions(alloc, control) {
+        Ok(found) => are_expressions(found, letters),
+        Err(_) => false,
+    }
+}
+
+/// Whether these letters stand for the expressions of a condition.
+fn has_expressions(alloc: Global, condition: &ExprView<'_>, letters: &[u8]) -> bool {
+    match &all_expressions(alloc, condition) {
+        Ok(found) => are_expressions(found, letters),
+        Err(_) => false,
+    }
+}
+
+/// The same of the condition of a control whose body is one `if`; no letters for another control.
+fn has_condition(alloc: Global, control: &Control, letters: &[u8]) -> bool {
+    match control.body().condition() {
+        Some(condition) => has_expressions(alloc, &condition, letters),
+        None => letters.is_empty(),
     }
 }
 
@@ -149,27 +160,24 @@ fn gives_back(control: &Control, stmts: usize) -> bool {
 }
 
 /// Whether that is found in a control.
-fn are_found(alloc: Global, walk: &Walk, control: &Control) -> Result<bool, OutOfMemory> {
-    Ok(
-        gives_back(control, walk.stmts.len())
-            && walked(alloc, control)?.as_slice() == walk.statements
-            && conditions(alloc, control)?.as_slice() == walk.conditions
-            && walked_condition(alloc, control)?.as_slice() == walk.expressions,
-    )
+fn is_found(alloc: Global, walk: &Walk, control: &Control) -> bool {
+    gives_back(control, walk.stmts.len())
+        && has_statements(alloc, control, walk.statements)
+        && has_conditions(alloc, control, walk.conditions)
+        && has_condition(alloc, control, walk.expressions)
 }
 
-fn is_walked(alloc: Global, walk: &Walk) -> Result<bool, OutOfMemory> {
-    match control_of(alloc, walk.exprs, walk.stmts)? {
-        Some(control) => are_found(alloc, walk, &control),
-        None => Ok(false),
+fn is_walked(alloc: Global, walk: &Walk) -> bool {
+    match &control_of(alloc, walk.exprs, walk.stmts) {
+        Ok(Some(control)) => is_found(alloc, walk, control),
+        _ => false,
     }
 }
 
 #[test]
-fn controls_are_walked_in_the_order_of_the_text(rt: HostRuntime) -> Result<(), Fail> {
+fn controls_are_walked_in_the_order_of_the_text(rt: HostRuntime) {
     for walk in walks() {
-        let found = is_walked(rt.alloc(), walk)?;
+        let found = is_walked(rt.alloc(), walk);
         assert!(rt; found, "{}", walk.text);
     }
-    Ok(())
 }
