@@ -1,0 +1,7 @@
+mod Asking
+mod Owning
+mod Leaving
+mod Acting
+pub mod Starting
+mod Joining
+mod Standing

@@ -1,0 +1,3 @@
+-- What private functions name.
+pub mod Zipped
+pub mod Declared

@@ -1,0 +1,5 @@
+mod Naming
+mod Standard
+mod Standing
+mod Calling
+mod Making

@@ -1,0 +1,8 @@
+use Rattle.std.proofs.Common.{◌≡◌, ◌++◌, map, filter_map, drop}
+use Rattle.p416_rules.specs.Declarations.{table_in}
+use Rattle.p416_rules.specs.Tables.{table_plane}
+use Rattle.v1_ready_whole.proofs.names.add_tables.Given as goal
+
+abbrev pub invariant-loop-local : goal.invariant-loop-local
+invariant-loop-local l =
+    map (λ name. name.now) l.names.items ++ map table_plane (filter_map table_in (drop l.local-index l.locals)) ≡ map (λ name. name.now) l.fn.names.items ++ map table_plane (filter_map table_in l.locals)

@@ -1,0 +1,7 @@
+use Rattle.std.proofs.Common.{◌≡◌, ◌++◌, map, flat_map, drop}
+use Rattle.p416_rules.specs.Tables.{table_plane, tables_of}
+use Rattle.v1_ready_whole.proofs.names.planes.Given as goal
+
+abbrev pub invariant-loop-decl : goal.invariant-loop-decl
+invariant-loop-decl l =
+    map (λ name. name.now) l.names.items ++ map table_plane (flat_map tables_of (drop l.decl-index l.decls)) ≡ map table_plane (flat_map tables_of l.decls)

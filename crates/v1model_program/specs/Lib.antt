@@ -1,0 +1,3 @@
+-- Laws: that what is made ready does what the program does. Ran: what a run answers.
+pub mod Laws
+pub mod Ran
