@@ -64,6 +64,13 @@ run() {
     expect "$status" "$line" none "$sent" "$report" run14 "$program14" "$entries" "$capture" --sent out.pcap --report report.txt "$@"
 }
 
+# The same of a run of a P4_16 text.
+run16() {
+    status=$1 line=$2 sent=$3 report=$4 text16=$5 entries=$6 capture=$7
+    shift 7
+    expect "$status" "$line" none "$sent" "$report" run16 "$text16" "$entries" "$capture" --sent out.pcap --report report.txt "$@"
+}
+
 # Entries that break this rule at this line, for a program.
 entry() {
     printf '%s\n' "$4" >entry.txt
@@ -76,6 +83,14 @@ changed() {
     cmp -s changed.p4 p1.p4 && { words=$3; wrong "nothing is changed"; }
     "$program" carry changed.p4 entries.txt in.pcap --text out.p4 --sent out.pcap --report report.txt >printed 2>said
     [ $? -eq 3 ] && [ "$(cat printed)" = "refused $1" ] && [ -s said ] || { words=$3; wrong "$(cat printed)"; }
+}
+
+# The program of "What breaks T1 to T12", with this change, is refused by this rule, and a sentence is said.
+broken() {
+    sed "$2" rules.p4 >broken.p4
+    cmp -s broken.p4 rules.p4 && { words=$2; wrong "nothing is changed"; }
+    "$program" run16 broken.p4 entries.txt in.pcap --sent out.pcap --report report.txt >printed 2>said
+    [ $? -eq 8 ] && [ "$(cat printed)" = "refused $1" ] && [ -s said ] || { words=$2; wrong "$(cat printed)"; }
 }
 
 HEAD='\324\303\262\241\002\000\004\000\000\000\000\000\000\000\000\000\377\377\000\000\001\000\000\000'
@@ -92,6 +107,7 @@ printf "\324\303\262\241$ZEROS" >version.pcap
 printf "$HEAD\000" >short.pcap
 printf "$HEAD\001\000\000\000\002\000\000\000\000\000\001\000\000\000\001\000" >long.pcap
 printf '$' >dollar.p4
+printf 'table_add routes x =>' >three.txt
 printf header >header.p4
 sed 's/modify_field(.*);/drop();/' p1.p4 >form.p4
 truncate -s 1048577 big.p4
@@ -99,6 +115,7 @@ truncate -s 4194305 big.txt
 truncate -s 16777217 long.txt
 truncate -s 1073741825 big.pcap
 sed 's/ : lpm;/ : ternary;/' router.p4 >ternary.p4
+sed 's/9w3/9w600/' plain16.p4 >wide.p4
 
 # README.md: the run, and a port that is refused.
 "$program" carry p1.p4 entries.txt in.pcap --text text --sent out.pcap --report report.txt >/dev/null
@@ -155,6 +172,36 @@ run 5 'refused K1' 0 0 router.p4 routes.txt empty.pcap
 run 5 'refused K4' 24 0 router.p4 routes.txt short.pcap
 run 6 'limit entries' none none router.p4 long.txt frame.pcap
 run 6 'limit capture' 0 0 router.p4 routes.txt big.pcap
+run16 0 'ran 1 1 0' 115 55 router16.p4 routes.txt frame.pcap
+printf 'sent 3 75\nin 1\nout 1\ncut 0\ndirect routed 0 1 0\nwork 14\n' | cmp -s - report.txt || wrong 'the report is another'
+run16 0 'ran 0 0 0' 24 24 router16.p4 routes.txt none.pcap
+run16 0 'ran 1 1 0' 54 34 text entries.txt in.pcap
+printf 'sent 3 14\nin 1\nout 1\ncut 0\nwork 6\n' | cmp -s - report.txt || wrong 'the report is another'
+run16 2 usage none none router16.p4 entries.txt frame.pcap --rule parallel
+run16 8 'refused L1 at 1:1' none none dollar.p4 entries.txt in.pcap
+run16 8 'refused S1 at 1:1' none none empty.p4 entries.txt in.pcap
+run16 8 'refused T4' none none wide.p4 entries.txt in.pcap
+run16 6 'limit text' none none long.txt entries.txt in.pcap
+run16 4 'refused E3 at 1:1' none none router16.p4 three.txt frame.pcap
+run16 5 'refused K1' 0 0 router16.p4 routes.txt empty.pcap
+run16 5 'refused K4' 24 0 router16.p4 routes.txt short.pcap
+run16 6 'limit entries' none none router16.p4 long.txt frame.pcap
+run16 6 'limit capture' 0 0 router16.p4 routes.txt big.pcap
+awk '/^### What breaks T1 to T12/ { here = 1 } here && /^```$/ { if (inside) exit; inside = 1; next } inside' "$top/docs/MESSAGES.md" >rules.p4
+run16 0 'ran 1 1 0' 54 34 rules.p4 entries.txt in.pcap
+in_ingress='s/^control I(.*{$/&'
+broken T1 's/bit<48> b;/bit<48> a;/'
+broken T2 's/bit<48> a;/bit<129> a;/'
+broken T3 's/9w3/8w3/'
+broken T4 's/9w3/9w600/'
+broken T5 's/p.emit(hdr.h);/hdr.h.setInvalid(); &/'
+broken T6 's/p.extract(hdr.h)/p.extract()/'
+broken T7 's/p.extract(hdr.h); transition accept;/transition start;/'
+broken T8 "$in_ingress action x() { x(); }/"
+broken T9 "$in_ingress action x() { } table t { key = { hdr.h.c : valid; } actions = { x; } }/"
+broken T10 's/^control V(.*) { apply { } }/control V(inout hs hdr, inout ms meta, inout standard_metadata_t sm) { apply { mark_to_drop(sm); } }/'
+broken T11 '/^control D/d; s/C(), D()/C(), V()/'
+broken T12 "$in_ingress register<bit<8>>(0) r;/"
 expect 0 accepted none none none check p1.p4
 expect 0 eth none none none order p1.p4
 for command in check order; do

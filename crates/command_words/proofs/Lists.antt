@@ -2,7 +2,7 @@
 use Rattle.std.proofs.Common.{◌≡◌, ℕ, ◌<◌, ◌≤◌, ◌-◌, List, [], ◌∷◌, length, map, take, drop, get_or, Some, None, refl, sym, ◌∙◌, ap, arith}
 use Rattle.std.proofs.lemmas.List.{take_rest}
 use Rattle.std.specs.Option.{option_and_then}
-use Rattle.command_words.specs.Words.{Options, with_option, options_in, carry_form, run14_form, form}
+use Rattle.command_words.specs.Words.{Options, with_option, options_in, carry_form, run14_form, run16_form, form}
 
 -- two words, and those behind them
 pub two_words : {A : Type 0} (h : A → List ℕ) (words : List A) (a b : A) → 2 ≤ length words → a ≡ get_or words 0 a → b ≡ get_or words 1 b
@@ -18,6 +18,10 @@ too_few h _ few = refl
 pub too_few_of_run14 : {A : Type 0} (h : A → List ℕ) (words : List A) → length words < 3 → run14_form (map h words) ≡ None
 too_few_of_run14 h (x ∷ y ∷ z ∷ rest) few = absurd (omega arith)
 too_few_of_run14 h _ few = refl
+
+pub too_few_of_run16 : {A : Type 0} (h : A → List ℕ) (words : List A) → length words < 3 → run16_form (map h words) ≡ None
+too_few_of_run16 h (x ∷ y ∷ z ∷ rest) few = absurd (omega arith)
+too_few_of_run16 h _ few = refl
 
 pub no_words : {A : Type 0} (h : A → List ℕ) (words : List A) → length words < 1 → form (map h words) ≡ None
 no_words h (x ∷ rest) few = absurd (omega arith)

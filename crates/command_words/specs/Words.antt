@@ -29,12 +29,23 @@ pub record Run14Files : Type 0 where
   pub rule : Rule14
   pub passes : ℕ
 
+-- the files that `run16` names, of which the ports need not be named, and the bound on passes
+pub record Run16Files : Type 0 where
+  pub text : List ℕ
+  pub entries : List ℕ
+  pub capture : List ℕ
+  pub ports : Option (List ℕ)
+  pub sent : List ℕ
+  pub report : List ℕ
+  pub passes : ℕ
+
 -- a command with its names and options
 pub data Command : Type 0 where
   carry : (files : CarryFiles) → Command
   check : (program : List ℕ) → Command
   order : (program : List ℕ) → Command
   run14 : (files : Run14Files) → Command
+  run16 : (files : Run16Files) → Command
 
 -- the files that `carry` reads
 abbrev pub carry_inputs : CarryFiles → List (List ℕ)
@@ -52,12 +63,21 @@ run14_inputs f = f.program ∷ f.entries ∷ f.capture ∷ option_to_list f.port
 abbrev pub run14_outputs : Run14Files → List (List ℕ)
 run14_outputs f = f.sent ∷ f.report ∷ []
 
+-- the files that `run16` reads
+abbrev pub run16_inputs : Run16Files → List (List ℕ)
+run16_inputs f = f.text ∷ f.entries ∷ f.capture ∷ option_to_list f.ports
+
+-- the files that `run16` writes
+abbrev pub run16_outputs : Run16Files → List (List ℕ)
+run16_outputs f = f.sent ∷ f.report ∷ []
+
 -- the files that a command reads
 abbrev pub inputs_of : Command → List (List ℕ)
 inputs_of (carry files) = carry_inputs files
 inputs_of (check program) = program ∷ []
 inputs_of (order program) = program ∷ []
 inputs_of (run14 files) = run14_inputs files
+inputs_of (run16 files) = run16_inputs files
 
 -- the files that a command writes
 abbrev pub outputs_of : Command → List (List ℕ)
@@ -65,6 +85,7 @@ outputs_of (carry files) = carry_outputs files
 outputs_of (check program) = []
 outputs_of (order program) = []
 outputs_of (run14 files) = run14_outputs files
+outputs_of (run16 files) = run16_outputs files
 
 -- the name of an input file that is no option's isn't empty and doesn't begin with two dashes
 abbrev pub is_name : List ℕ → Bool
@@ -97,6 +118,11 @@ abbrev pub are_run14_names : Run14Files → Bool
 are_run14_names f =
     are_inputs f.program f.entries f.capture f.ports && is_value f.sent && is_value f.report
     && are_apart (run14_inputs f) (run14_outputs f)
+
+abbrev pub are_run16_names : Run16Files → Bool
+are_run16_names f =
+    are_inputs f.text f.entries f.capture f.ports && is_value f.sent && is_value f.report
+    && are_apart (run16_inputs f) (run16_outputs f)
 
 -- a number but 0
 abbrev pub positive : Option ℕ → Option ℕ
@@ -224,6 +250,37 @@ run14_form (program ∷ entries ∷ capture ∷ words) =
     option_and_then (run14_found program entries capture) (options_in words no_options)
 run14_form words = None
 
+-- the files of `run16` by their names, where these may stand together
+abbrev pub run16_with : List ℕ → List ℕ → List ℕ → Option (List ℕ) → ℕ → List ℕ → List ℕ → Option Run16Files
+run16_with text entries capture ports passes sent report =
+    let f : Run16Files = record {
+      text = text;
+      entries = entries;
+      capture = capture;
+      ports = ports;
+      sent = sent;
+      report = report;
+      passes = passes;
+    } in
+    if are_run16_names f then Some f else None
+
+-- by the options that were found: both outputs are named, and no text is, nor a rule
+abbrev pub run16_by : List ℕ → List ℕ → List ℕ → Option (List ℕ) → Option (List ℕ) → Option (List ℕ) → Option ℕ
+    → Option (List ℕ) → Option (List ℕ) → Option Run16Files
+run16_by text entries capture ports None None (Some passes) (Some sent) (Some report) =
+    run16_with text entries capture ports passes sent report
+run16_by text entries capture ports written rule passes sent report = None
+
+abbrev pub run16_found : List ℕ → List ℕ → List ℕ → Options → Option Run16Files
+run16_found text entries capture o =
+    run16_by text entries capture o.ports o.text o.rule (passes_in o.passes) o.sent o.report
+
+-- TEXT ENTRIES CAPTURE --sent F --report F [--ports F] [--passes N], the options in any order
+abbrev pub run16_form : List (List ℕ) → Option Run16Files
+run16_form (text ∷ entries ∷ capture ∷ words) =
+    option_and_then (run16_found text entries capture) (options_in words no_options)
+run16_form words = None
+
 -- a word that is the name of a file
 abbrev pub named : List ℕ → Option (List ℕ)
 named program = if is_name program then Some program else None
@@ -239,5 +296,6 @@ form (command ∷ words) =
     if bytes_eq command (codes "carry") then option_map (λ f. carry f) (carry_form words)
     else (if bytes_eq command (codes "check") then option_map (λ p. check p) (program_form words)
     else (if bytes_eq command (codes "order") then option_map (λ p. order p) (program_form words)
-    else (if bytes_eq command (codes "run14") then option_map (λ f. run14 f) (run14_form words) else None)))
+    else (if bytes_eq command (codes "run14") then option_map (λ f. run14 f) (run14_form words)
+    else (if bytes_eq command (codes "run16") then option_map (λ f. run16 f) (run16_form words) else None))))
 form [] = None

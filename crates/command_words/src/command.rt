@@ -16,6 +16,8 @@ pub enum Command<'a> {
     Order(&'a str),
     /// `run14 PROGRAM ENTRIES CAPTURE --sent F --report F [--ports F] [--rule R] [--passes N]`.
     Run14(Run14Names<'a>),
+    /// `run16 TEXT ENTRIES CAPTURE --sent F --report F [--ports F] [--passes N]`.
+    Run16(Run16Names<'a>),
 }
 
 /// The files that `carry` names, and the bound on passes. No output is another output or an input.
@@ -62,4 +64,25 @@ pub struct Run14Names<'a> {
     pub passes: u32,
     ghost bound: { IsBound passes },
     ghost apart: { are_apart (program.now ∷ entries.now ∷ capture.now ∷ map (λ name. name.now) (option_to_list ports)) (sent.now ∷ report.now ∷ []) ≡ true },
+}
+
+/// The files that `run16` names, and the bound on passes. No output is another output or an input.
+#[derive(Clone, Copy, Drop)]
+pub struct Run16Names<'a> {
+    /// The P4_16 program.
+    pub text: &'a str,
+    /// The entries file.
+    pub entries: &'a str,
+    /// The capture of the packets that arrive.
+    pub capture: &'a str,
+    /// The ports that they arrive on, where these are named.
+    pub ports: Option<&'a str>,
+    /// The capture of the packets that are sent.
+    pub sent: &'a str,
+    /// The report.
+    pub report: &'a str,
+    /// How many passes a packet and all that comes of it may make, from 1 to 65,536.
+    pub passes: u32,
+    ghost bound: { IsBound passes },
+    ghost apart: { are_apart (text.now ∷ entries.now ∷ capture.now ∷ map (λ name. name.now) (option_to_list ports)) (sent.now ∷ report.now ∷ []) ≡ true },
 }

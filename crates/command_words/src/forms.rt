@@ -2,12 +2,12 @@
 ghost use Rattle.std.specs.Prelude.{◌≡◌, [], ◌∷◌, map, string_bytes, option_map, option_to_list, Some};
 ghost use Rattle.fabric.specs.Numbers.{IsBound};
 ghost use Rattle.command_words.specs.Apart.{are_apart, AreApart};
-ghost use Rattle.command_words.specs.Words.{Command as Called, inputs_of, outputs_of, is_name, is_value, are_ports, are_inputs, carry_with, carry_found, carry_form, run14_with, run14_found, run14_form, named, program_form, form};
-ghost use Rattle.command_words.specs.Views.{files_of, run14_files_of, command_of};
+ghost use Rattle.command_words.specs.Words.{Command as Called, inputs_of, outputs_of, is_name, is_value, are_ports, are_inputs, carry_with, carry_found, carry_form, run14_with, run14_found, run14_form, run16_with, run16_found, run16_form, named, program_form, form};
+ghost use Rattle.command_words.specs.Views.{files_of, run14_files_of, run16_files_of, command_of};
 ghost use Rattle.command_words.specs.internal.Found.{options_of};
 
 use crate::apart::are_apart;
-use crate::command::{CarryNames, Command, Run14Names};
+use crate::command::{CarryNames, Command, Run14Names, Run16Names};
 use crate::options::{Found, read_options};
 use crate::values::{read_passes, read_rule};
 use p414_ast::Rule14;
@@ -212,6 +212,65 @@ fn read_run14(words: &[String]) -> Option<Run14Names<'_>>
     run14_found(program.as_str(), entries.as_str(), capture.as_str(), found)
 }
 
+// The names of `run16`, where they are names of files that may stand together.
+fn run16_with<'a>(
+    inputs: Inputs<'a>,
+    passes: u32,
+    sent: &'a str,
+    report: &'a str,
+) -> Option<Run16Names<'a>>
+    requires { IsBound passes }
+    ensures { option_map run16_files_of result ≡ run16_with inputs.entry.program.now inputs.entry.entries.now inputs.entry.capture.now (option_map (λ name. name.now) inputs.entry.ports) passes sent.now report.now }
+{
+    let named = are_inputs(inputs) && is_value(sent) && is_value(report);
+    if named && are_apart_from(inputs, &[sent, report]) {
+        Some(Run16Names {
+            text: inputs.program,
+            entries: inputs.entries,
+            capture: inputs.capture,
+            ports: inputs.ports,
+            sent,
+            report,
+            passes,
+        })
+    } else {
+        None
+    }
+}
+
+// Those by the options that were found, where these are options of `run16` and name both outputs.
+fn run16_found<'a>(
+    text: &'a str,
+    entries: &'a str,
+    capture: &'a str,
+    found: Found<'a>,
+) -> Option<Run16Names<'a>>
+    ensures { option_map run16_files_of result ≡ run16_found text.now entries.now capture.now (options_of found.entry) }
+{
+    let (None, None) = (found.text, found.rule) else {
+        return None;
+    };
+    let passes = read_passes(found.passes)?;
+    let inputs = Inputs {
+        program: text,
+        entries,
+        capture,
+        ports: found.ports,
+    };
+    run16_with(inputs, passes, found.sent?, found.report?)
+}
+
+/// The files that the words behind `run16` name; `None` exactly where they are no form of it.
+fn read_run16(words: &[String]) -> Option<Run16Names<'_>>
+    ensures { option_map run16_files_of result ≡ run16_form (map string_bytes words.now) }
+{
+    let [text, entries, capture, options @ ..] = words else {
+        return None;
+    };
+    let found = read_options(options)?;
+    run16_found(text.as_str(), entries.as_str(), capture.as_str(), found)
+}
+
 /// The file that the words behind `check` or `order` name; `None` exactly where they are no form of these: one name, and no more.
 fn read_program(words: &[String]) -> Option<&str>
     ensures { option_map (λ name. name.now) result ≡ program_form (map string_bytes words.now) }
@@ -248,6 +307,7 @@ pub fn read_words(words: &[String]) -> Option<Command<'_>>
         "check" => Some(Command::Check(read_program(behind)?)),
         "order" => Some(Command::Order(read_program(behind)?)),
         "run14" => Some(Command::Run14(read_run14(behind)?)),
+        "run16" => Some(Command::Run16(read_run16(behind)?)),
         _ => None,
     }
 }

@@ -8,5 +8,5 @@ mod forms;
 mod options;
 mod values;
 
-pub use command::{CarryNames, Command, Run14Names};
+pub use command::{CarryNames, Command, Run14Names, Run16Names};
 pub use forms::read_words;

@@ -8,10 +8,11 @@ use std::{fmt, str};
 const FORMS: &str = "these words are no form of a command. The forms are:
   carry PROGRAM ENTRIES CAPTURE --text F --sent F --report F [--ports F] [--passes N]
   run14 PROGRAM ENTRIES CAPTURE --sent F --report F [--ports F] [--rule R] [--passes N]
+  run16 TEXT ENTRIES CAPTURE --sent F --report F [--ports F] [--passes N]
   check PROGRAM
   order PROGRAM
-The names come first, then the options, in any order and each at most once. A name isn't empty, and PROGRAM, ENTRIES and
-CAPTURE don't begin with --. The outputs --text, --sent and --report are other files than each other and than the inputs. N is
+The names come first, then the options, in any order and each at most once. A name isn't empty, and PROGRAM, TEXT, ENTRIES
+and CAPTURE don't begin with --. The outputs --text, --sent and --report are other files than each other and than the inputs. N is
 a decimal number from 1 to 65,536, and R is parallel or sequential.";
 
 /// What a rule of a file that `carry` reads asks, and what was found in its place.
@@ -24,7 +25,7 @@ fn carry_words(rule: &str) -> &'static str {
     }
 }
 
-/// What a rule of a file that `run14` reads asks, and what was found in its place.
+/// What a rule of a file that `run14` or `run16` reads asks, and what was found in its place.
 fn run_words(rule: &str) -> &'static str {
     match rule {
         "E1" => "the line is none of the four forms of an entries file",
@@ -130,6 +131,7 @@ fn of_file<'a>(words: &'a [String], line: &'a str) -> Option<Advice<'a>> {
     }
     match line {
         "limit program" => over(file_of(words, "C"), "1,048,576"),
+        "limit text" => over(file_of(words, "T"), "16,777,216"),
         "limit entries" => over(file_of(words, "E"), "16,777,216"),
         "limit ports" => over(file_of(words, "P"), "4,194,304"),
         "limit capture" => over(file_of(words, "K"), "1,073,741,824"),

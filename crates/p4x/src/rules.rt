@@ -3,8 +3,8 @@
 /// A rule of a program, and what was found where it is broken.
 type Asked = (&'static str, &'static str);
 
-/// The rules of the tokens and the grammar, and those of declarations, parsers, tables, actions and controls.
-static PROGRAM_RULES: [Asked; 33] = [
+/// The rules of the tokens and the grammar, those of declarations, parsers, tables, actions and controls of P4_14, and those of P4_16.
+static PROGRAM_RULES: [Asked; 45] = [
     ("L1", "no token begins with this octet"),
     (
         "L2",
@@ -104,6 +104,42 @@ static PROGRAM_RULES: [Asked; 33] = [
     ),
     ("C27", "a parameter stands where none may"),
     ("C28", "blocks or an expression are over 64 deep"),
+    (
+        "T1",
+        "a name is declared twice, or isn't declared as what stands here",
+    ),
+    (
+        "T2",
+        "a width isn't 1 to 128, a size isn't 1 to 256, a header has no whole octets, or a slice or an element is outside",
+    ),
+    (
+        "T3",
+        "an expression or a type isn't the one that its place asks for",
+    ),
+    ("T4", "a literal doesn't fit its width"),
+    ("T5", "what is written can't be written"),
+    ("T6", "a call has a wrong number of arguments"),
+    (
+        "T7",
+        "a parser has no state start, or a cycle of its states extracts nothing",
+    ),
+    (
+        "T8",
+        "an action calls itself, or a table is applied inside an action or a key",
+    ),
+    (
+        "T9",
+        "a table, an action, a switch or a direct counter isn't of a form that is taken, or two have one name for entries",
+    ),
+    (
+        "T10",
+        "a call stands in a block that doesn't allow it, or next or last of a stack outside a parser",
+    ),
+    ("T11", "main hasn't the six blocks with their parameters"),
+    (
+        "T12",
+        "there are too many fields, octets of headers, cells or levels, or an object has no cell",
+    ),
 ];
 
 /// What a rule of the program asks; none where the rule is of another file.

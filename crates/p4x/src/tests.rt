@@ -16,6 +16,11 @@ const RUN: [&str; 10] = [
     "run14", "p", "e", "c", "--ports", "o", "--sent", "s", "--report", "r",
 ];
 
+/// The words of a run of a P4_16 text, with a file of ports.
+const RUN_TEXT: [&str; 10] = [
+    "run16", "p", "e", "c", "--ports", "o", "--sent", "s", "--report", "r",
+];
+
 /// What is told of a call of `carry` with so many of its words; nothing where the text is empty.
 fn expect_told(
     rt: &impl Abort,
@@ -176,6 +181,31 @@ fn a_run_tells_of_its_files(rt: HostRuntime) -> Result<(), Fail> {
         (0, "ran 1 1 0\n", ""),
     ] {
         expect_front(&rt, alloc, &RUN, 10, status, line, told)?;
+    }
+    Ok(())
+}
+
+#[test]
+fn a_run_of_a_text_tells_of_it(rt: HostRuntime) -> Result<(), Fail> {
+    let alloc = rt.alloc();
+    for (status, line, told) in [
+        (
+            8,
+            "refused L1 at 1:1\n",
+            "p4x: p:1:1: no token begins with this octet (L1)",
+        ),
+        (
+            8,
+            "refused T4\n",
+            "p4x: p: a literal doesn't fit its width (T4)",
+        ),
+        (
+            6,
+            "limit text\n",
+            "p4x: p: the file has more than 16,777,216 octets",
+        ),
+    ] {
+        expect_front(&rt, alloc, &RUN_TEXT, 10, status, line, told)?;
     }
     Ok(())
 }

@@ -6,7 +6,7 @@ use Rattle.fabric.specs.Numbers.{IsArrival, IsBound}
 use Rattle.fabric.specs.declared.packets.Arrival.{Arrival}
 use Rattle.match_core.specs.declared.signatures.Signature.{Signature}
 use Rattle.match_core.specs.Signatures.{IsSignature}
-use Rattle.command_words.specs.Words.{CarryFiles, Command, carry, check, order, run14, carry_inputs, carry_outputs, inputs_of, outputs_of}
+use Rattle.command_words.specs.Words.{CarryFiles, Command, carry, check, order, run14, run16, carry_inputs, carry_outputs, inputs_of, outputs_of}
 use Rattle.file_work.specs.declared.stop.Stop.{Stop}
 use Rattle.file_work.specs.declared.stop.Stop.TheVariants.{Fault, Program, Judged, Unfit}
 use Rattle.file_work.specs.Clauses.{Ended, OwnRose, AsDue}
@@ -28,6 +28,7 @@ use Rattle.p4x_cmd.specs.Runs.{this_run, this_run14}
 use Rattle.run_stream.proofs.Whole.{Whole, whole_capture, empty_reports}
 use Rattle.p4x_cmd.proofs.Filling.{no_entries_fit, signature_is}
 use Rattle.run14_cmd.proofs.Causes.{run14_statuses, run14_kept, run14_left, run14_ran, run14_ends}
+use Rattle.run16_cmd.proofs.Causes.{run16_statuses, run16_kept, run16_left, run16_ran, run16_ends}
 use Rattle.p4x_cmd.proofs.Judging.{program_first, entries_first, ports_first}
 use Rattle.program_commands.proofs.Stops.{one_program}
 use Rattle.p4x_cmd.proofs.ProgramCauses.{no_usage, program_ends, program_statuses, program_done, program_left}
@@ -217,6 +218,7 @@ fault_works (Some (carry f)) old new before after end works is = inl (works.work
 fault_works (Some (check program)) old new before after end works is = inl (works.works.cause.fault is)
 fault_works (Some (order program)) old new before after end works is = inl (works.works.cause.fault is)
 fault_works (Some (run14 f)) old new before after end works is = inl (works.works.cause.fault is)
+fault_works (Some (run16 f)) old new before after end works is = inl (works.works.cause.fault is)
 
 usages : (found : Option Command) (old new : DeskView) (before after : SinkView) (status : ℕ) → Ended (WorksFor found old new) before after status → Usages found old new before after status
 usages None old new before after status ended = (by_line, ended.is.1)
@@ -234,12 +236,17 @@ usages (Some (run14 f)) old new before after status ended = λ two. elim ended.s
   | inl whole ↦ ended.is.works.cause.usage (is_usage ended.end (sym whole.0 ∙ two))
   | inr cut ↦ omega (arith, cut.0)
 ]
+usages (Some (run16 f)) old new before after status ended = λ two. elim ended.says.said [
+  | inl whole ↦ ended.is.works.cause.usage (is_usage ended.end (sym whole.0 ∙ two))
+  | inr cut ↦ omega (arith, cut.0)
+]
 usages (Some (check program)) old new before after status ended = no_usage PrintsAccepted program old new before after status ended
 usages (Some (order program)) old new before after status ended = no_usage PrintsOrder program old new before after status ended
 
 ends : (found : Option Command) (old new : DeskView) (end : Result (List ℕ) Stop) → WorksFor found old new end → IsEnd found old end
 ends None old new end works = works.0
 ends (Some (run14 f)) old new end works = (run14_ends f old new end works, works.order)
+ends (Some (run16 f)) old new end works = (run16_ends f old new end works, works.order)
 ends (Some (check program)) old new end works = program_ends PrintsAccepted program old new end works
 ends (Some (order program)) old new end works = program_ends PrintsOrder program old new end works
 ends (Some (carry f)) old new end works = ((λ files told. left_ends (carry_outputs f) (CarryDue f files) old new end (works.works.leaves files told)), works.order)
@@ -250,18 +257,21 @@ only (Some (carry f)) old new end works name none = works.works.moves.others nam
 only (Some (check program)) old new end works name none = works.works.moves.others name none
 only (Some (order program)) old new end works name none = works.works.moves.others name none
 only (Some (run14 f)) old new end works name none = works.works.moves.others name none
+only (Some (run16 f)) old new end works name none = works.works.moves.others name none
 
 statuses_of : (c : Command) (files : List ℕ → Option (List ℕ)) (old new : DeskView) (before after : SinkView) (status : ℕ) → Ended (WorksFor (Some c) old new) before after status → Statuses c old files status
 statuses_of (carry f) files old new before after status ended = each_status f files old new before after status ended
 statuses_of (check program) files old new before after status ended = program_statuses PrintsAccepted program old new before after status ended files
 statuses_of (order program) files old new before after status ended = program_statuses PrintsOrder program old new before after status ended files
 statuses_of (run14 f) files old new before after status ended = run14_statuses f files old new before after status ended
+statuses_of (run16 f) files old new before after status ended = run16_statuses f files old new before after status ended
 
 kept_of : (c : Command) (files : List ℕ → Option (List ℕ)) (old new : DeskView) (before after : SinkView) (status : ℕ) → Ended (WorksFor (Some c) old new) before after status → Kept c files old new status
 kept_of (carry f) files old new before after status ended = kept_first f files old new before after status ended
 kept_of (check program) files old new before after status ended = tt
 kept_of (order program) files old new before after status ended = tt
 kept_of (run14 f) files old new before after status ended = run14_kept f files old new before after status ended
+kept_of (run16 f) files old new before after status ended = run16_kept f files old new before after status ended
 
 -- what holds of the work of a command
 module _ (c : Command) (files : List ℕ → Option (List ℕ)) (old new : DeskView) (before after : SinkView) (status : ℕ) (ended : Ended (WorksFor (Some c) old new) before after status) (told : Tells (inputs_of c) old files) where
@@ -274,6 +284,7 @@ module _ (c : Command) (files : List ℕ → Option (List ℕ)) (old new : DeskV
       by_command (check program) e t m = program_done PrintsAccepted program old new before after status e files t zero
       by_command (order program) e t m = program_done PrintsOrder program old new before after status e files t zero
       by_command (run14 f) e t m = run14_ran f files old new before after status e t (m.0, m.1.0) zero
+      by_command (run16 f) e t m = run16_ran f files old new before after status e t (m.0, m.1.0) zero
 
   left_of : Left c files old new status
   left_of = by_command c ended told
@@ -283,6 +294,7 @@ module _ (c : Command) (files : List ℕ → Option (List ℕ)) (old new : DeskV
       by_command (check program) e t = program_left PrintsAccepted program old new before after status e files t
       by_command (order program) e t = program_left PrintsOrder program old new before after status e files t
       by_command (run14 f) e t = run14_left f files old new before after status e t
+      by_command (run16 f) e t = run16_left f files old new before after status e t
 
   taken_of : AcceptsAll c files → (status ≡ 0) ⊎ (status ≡ 1) ⊎ (status ≡ 7)
   taken_of taken = by_command c (statuses_of c files old new before after status ended) told taken
@@ -292,6 +304,7 @@ module _ (c : Command) (files : List ℕ → Option (List ℕ)) (old new : DeskV
       by_command (check program) s told t = (s.accepted told).1 t
       by_command (order program) s told t = (s.accepted told).1 t
       by_command (run14 f) s told t = (s.accepted told).1 t
+      by_command (run16 f) s told t = (s.accepted told).1 t
 
 module _ (found : Option Command) (old new : DeskView) (before after : SinkView) (status : ℕ) (ended : Ended (WorksFor found old new) before after status) where
   pub fault_is : status ≡ 1 → OwnRose (inputs_in found) (outputs_in found) old new before after

@@ -4,16 +4,20 @@ use Rattle.state_store.specs.State.{Contents}
 use Rattle.p416_ast.specs.declared.program.Syntax16.{Syntax16}
 use Rattle.p4x_fault.specs.declared.Fault.{Fault as Refusal}
 use Rattle.p4x_io.specs.Desk.{DeskView, SinkView, Rose, put, said}
-use Rattle.command_words.specs.Words.{CarryFiles, Command, carry, check, order, run14, carry_inputs, carry_outputs, inputs_of, outputs_of}
+use Rattle.command_words.specs.Words.{CarryFiles, Command, carry, check, order, run14, run16, carry_inputs, carry_outputs, inputs_of, outputs_of}
 use Rattle.file_work.specs.declared.stop.Limited.TheVariants as limited
 use Rattle.file_work.specs.declared.stop.Stop.{Stop}
 use Rattle.file_work.specs.declared.stop.Stop.TheVariants.{Usage, Program, Unfit, Refused, Limit}
 use Rattle.file_work.specs.Clauses.{ComesWhere, ComesFirst, EndsAsDue, OnlyThese, Fronts, AsDue}
 use Rattle.file_work.specs.Works.{Held, Due, Works, AllKept, Tells}
-use Rattle.run14_cmd.specs.Calls as ran
-use Rattle.run14_cmd.specs.Calls.{RanSo, Run14Statuses, Run14Kept, Run14Left, Run14Works}
-use Rattle.run14_cmd.specs.Run14 as ran_due
+use Rattle.run14_cmd.specs.Calls as ran14
+use Rattle.run14_cmd.specs.Calls.{Run14Statuses, Run14Kept, Run14Left, Run14Works}
+use Rattle.run14_cmd.specs.Run14 as due14
 use Rattle.run14_cmd.specs.Run14.{Run14Due}
+use Rattle.run16_cmd.specs.Calls as ran16
+use Rattle.run16_cmd.specs.Calls.{Run16Statuses, Run16Kept, Run16Left, Run16Works}
+use Rattle.run16_cmd.specs.Run16 as due16
+use Rattle.run16_cmd.specs.Run16.{Run16Due}
 use Rattle.p414_ast.specs.declared.syntax.Syntax14.{Syntax14}
 use Rattle.p414_reader.specs.Reading.{Reads14}
 use Rattle.program_commands.specs.Programs.{IsProgramStop, ReadsOnce}
@@ -107,7 +111,8 @@ abbrev pub Done : Command → Held → DeskView → SinkView → SinkView → Ty
 Done (carry f) files new before after = Carried f files new before after
 Done (check program) files new before after = Printed PrintsAccepted program files before after
 Done (order program) files new before after = Printed PrintsOrder program files before after
-Done (run14 f) files new before after = RanSo f files new before after
+Done (run14 f) files new before after = ran14.RanSo f files new before after
+Done (run16 f) files new before after = ran16.RanSo f files new before after
 
 -- The clauses `statuses` and `complete`: the cause of each status.
 
@@ -185,13 +190,15 @@ Statuses (carry f) old files status = CarryStatuses f old files status
 Statuses (check program) old files status = ProgramStatuses program old files status
 Statuses (order program) old files status = ProgramStatuses program old files status
 Statuses (run14 f) old files status = Run14Statuses f old files status
+Statuses (run16 f) old files status = Run16Statuses f old files status
 
 -- all input files of a command are taken
 abbrev pub AcceptsAll : Command → Held → Type 0
 AcceptsAll (carry f) files = Accepts f files
 AcceptsAll (check program) files = TakesText program files
 AcceptsAll (order program) files = TakesText program files
-AcceptsAll (run14 f) files = ran.Accepts f files
+AcceptsAll (run14 f) files = ran14.Accepts f files
+AcceptsAll (run16 f) files = ran16.Accepts f files
 
 -- The clauses `usage` and `fault`.
 
@@ -253,6 +260,7 @@ Left (carry f) files old new status = CarryLeft f files old new status
 Left (check program) files old new status = AsDue (CheckDue program files) old new status
 Left (order program) files old new status = AsDue (OrderDue program files) old new status
 Left (run14 f) files old new status = Run14Left f files old new status
+Left (run16 f) files old new status = Run16Left f files old new status
 
 -- the output files of a command that are kept
 abbrev pub Kept : Command → Held → DeskView → DeskView → ℕ → Type 0
@@ -260,6 +268,7 @@ Kept (carry f) files old new status = CarryKept f files old new status
 Kept (check program) files old new status = Unit {0}
 Kept (order program) files old new status = Unit {0}
 Kept (run14 f) files old new status = Run14Kept f files old new status
+Kept (run16 f) files old new status = Run16Kept f files old new status
 
 -- No file but the outputs changes. These are kept where the work stops before it writes; and where the inputs are told,
 -- they hold this.
@@ -276,13 +285,15 @@ DueOf (carry f) files d = CarryDue f files d
 DueOf (check program) files d = CheckDue program files d
 DueOf (order program) files d = OrderDue program files d
 DueOf (run14 f) files d = Run14Due f files d
+DueOf (run16 f) files d = Run16Due f files d
 
 -- how the work of a command ends by the files that it reads first; or, where it reads a program alone, what can stop it
 abbrev pub EndsInOrder : Command → DeskView → Result (List ℕ) Stop → Type 0
 EndsInOrder (carry f) old end = InOrder f old end
 EndsInOrder (check program) old end = IfErr end IsProgramStop
 EndsInOrder (order program) old end = IfErr end IsProgramStop
-EndsInOrder (run14 f) old end = ran_due.InOrder f old end
+EndsInOrder (run14 f) old end = due14.InOrder f old end
+EndsInOrder (run16 f) old end = due16.InOrder f old end
 
 -- How the work of any words ends: as it is due, or with a fault or want of memory. Where the desk tells only files that
 -- are read first, it ends as these say.
@@ -321,3 +332,4 @@ WorksFor (Some (carry f)) old new end = CarryWorks f old new end
 WorksFor (Some (check program)) old new end = WorksOnProgram PrintsAccepted program old new end
 WorksFor (Some (order program)) old new end = WorksOnProgram PrintsOrder program old new end
 WorksFor (Some (run14 f)) old new end = Run14Works f old new end
+WorksFor (Some (run16 f)) old new end = Run16Works f old new end

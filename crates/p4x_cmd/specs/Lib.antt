@@ -1,7 +1,8 @@
 -- What the clauses of `p4x` say. Read in this order.
 --
--- What a call comes to (`run14_cmd` says it of the command `run14`, `command_words` says which words are which command, `file_work` what a call says of any command,
--- `program_commands` what the file of a program comes to, and `p414_one_table` which programs are of the one-table form):
+-- What a call comes to (`run14_cmd` and `run16_cmd` say it of the commands `run14` and `run16`, `command_words` says which words
+-- are which command, `file_work` what a call says of any command, `program_commands` what the file of a program comes to, and
+-- `p414_one_table` which programs are of the one-table form):
 --   Calls      what each clause says: `Carried`, the cause of each status, the line, and what stands in the files
 --   Carry      what is due for the files that `carry` reads: what stops it, and the written text with this run's files
 --   Runs       the run over the capture (`run_stream` says what its files and its line are, and `command_inputs` what the

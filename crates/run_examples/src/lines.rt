@@ -45,6 +45,84 @@ parser start { extract(f); return ingress; }
 action act() { modify_field(standard_metadata.egress_spec, 3); #a }
 table t { actions { act; } default_action : act(); } control ingress { #c apply(t); } #e";
 
+/// What a P4_16 text begins with.
+const INCLUDES: &[u8] = b"#include <core.p4>
+#include <v1model.p4>
+";
+
+/// A header of four octets in three fields, sent on port 3, with marks for further texts.
+const FOUR16: &[u8] = b"header four_t { bit<16> x; bit<8> y; bit<8> z; }
+struct hs { four_t f; } struct ms { #m }
+parser P(packet_in p, out hs hdr, inout ms meta, inout standard_metadata_t sm) {
+  state start { p.extract(hdr.f); #p transition accept; } }
+control V(inout hs hdr, inout ms meta) { apply { #v } }
+control I(inout hs hdr, inout ms meta, inout standard_metadata_t sm) { #l
+  apply { sm.egress_spec = 9w3; #i } }
+control E(inout hs hdr, inout ms meta, inout standard_metadata_t sm) { apply { #e } }
+control C(inout hs hdr, inout ms meta) { apply { #u } }
+control D(packet_out p, in hs hdr) { apply { p.emit(hdr.f); } }
+V1Switch(P(), V(), I(), E(), C(), D()#w) main;
+";
+
+/// Two headers of one type and a stack of two, of which the first header is extracted, sent on port 3, with marks for further texts.
+const HEADERS16: &[u8] = b"header h_t { bit<8> x; bit<8> y; bit<16> z; }
+header v_t { bit<8> v; }
+struct hs { h_t h; h_t i; v_t[2] s; } struct ms { @field_list(1) bit<8> k; bit<8> l; #m }
+parser P(packet_in p, out hs hdr, inout ms meta, inout standard_metadata_t sm) {
+  state start { #c p.extract(hdr.h); transition accept; } }
+control V(inout hs hdr, inout ms meta) { apply { #v } }
+control I(inout hs hdr, inout ms meta, inout standard_metadata_t sm) { #l
+  apply { sm.egress_spec = 9w3; #i } }
+control E(inout hs hdr, inout ms meta, inout standard_metadata_t sm) { apply { #e } }
+control C(inout hs hdr, inout ms meta) { apply { #u } }
+control D(packet_out p, in hs hdr) { apply { p.emit(hdr.h); p.emit(hdr.i); p.emit(hdr.s); } }
+V1Switch(P(), V(), I(), E(), C(), D()) main;
+";
+
+/// Three fields of a packet that is sent on port 3.
+const PLAIN16: &[u8] = b"header h_t { bit<48> a; bit<48> b; bit<16> c; }
+struct hs { h_t h; } struct ms { }
+parser P(packet_in p, out hs hdr, inout ms meta, inout standard_metadata_t sm) {
+  state start { p.extract(hdr.h); transition accept; } }
+control V(inout hs hdr, inout ms meta) { apply { } }
+control I(inout hs hdr, inout ms meta, inout standard_metadata_t sm) { apply { sm.egress_spec = 9w3; } }
+control E(inout hs hdr, inout ms meta, inout standard_metadata_t sm) { apply { } }
+control C(inout hs hdr, inout ms meta) { apply { } }
+control D(packet_out p, in hs hdr) { apply { p.emit(hdr.h); } }
+V1Switch(P(), V(), I(), E(), C(), D()) main;
+";
+
+/// Packets of IPv4 are routed by the longest prefix, with their checksum, and all others dropped.
+const ROUTER16: &[u8] = b"header ethernet_t { bit<48> dst; bit<48> src; bit<16> kind; }
+header ipv4_t { bit<4> version; bit<4> ihl; bit<8> diffserv; bit<16> total; bit<16> identification; bit<3> flags;
+  bit<13> offset; bit<8> ttl; bit<8> protocol; bit<16> checksum; bit<32> src; bit<32> dst; }
+struct hs { ethernet_t ethernet; ipv4_t ipv4; } struct ms { }
+parser P(packet_in p, out hs hdr, inout ms meta, inout standard_metadata_t sm) {
+  state start { p.extract(hdr.ethernet);
+    transition select(hdr.ethernet.kind) { 16w0x0800 : parse_ipv4; default : accept; } }
+  state parse_ipv4 { p.extract(hdr.ipv4); transition accept; } }
+control V(inout hs hdr, inout ms meta) { apply {
+  verify_checksum(hdr.ipv4.isValid(), { hdr.ipv4.version, hdr.ipv4.ihl, hdr.ipv4.diffserv, hdr.ipv4.total,
+    hdr.ipv4.identification, hdr.ipv4.flags, hdr.ipv4.offset, hdr.ipv4.ttl, hdr.ipv4.protocol, hdr.ipv4.src,
+    hdr.ipv4.dst }, hdr.ipv4.checksum, HashAlgorithm.csum16); } }
+control I(inout hs hdr, inout ms meta, inout standard_metadata_t sm) {
+  direct_counter(CounterType.packets) routed;
+  action route(bit<9> port, bit<48> mac) { routed.count(); sm.egress_spec = port; hdr.ethernet.dst = mac;
+    hdr.ipv4.ttl = hdr.ipv4.ttl - 8w1; }
+  action nowhere() { mark_to_drop(sm); }
+  table routes { key = { hdr.ipv4.dst : lpm; } actions = { route; nowhere; } size = 1024; counters = routed;
+    default_action = nowhere(); }
+  apply { if (sm.checksum_error == 1w0 && hdr.ipv4.isValid() && hdr.ipv4.ttl > 8w1) { routes.apply(); }
+    else { mark_to_drop(sm); } } }
+control E(inout hs hdr, inout ms meta, inout standard_metadata_t sm) { apply { } }
+control C(inout hs hdr, inout ms meta) { apply {
+  update_checksum(hdr.ipv4.isValid(), { hdr.ipv4.version, hdr.ipv4.ihl, hdr.ipv4.diffserv, hdr.ipv4.total,
+    hdr.ipv4.identification, hdr.ipv4.flags, hdr.ipv4.offset, hdr.ipv4.ttl, hdr.ipv4.protocol, hdr.ipv4.src,
+    hdr.ipv4.dst }, hdr.ipv4.checksum, HashAlgorithm.csum16); } }
+control D(packet_out p, in hs hdr) { apply { p.emit(hdr.ethernet); p.emit(hdr.ipv4); } }
+V1Switch(P(), V(), I(), E(), C(), D()) main;
+";
+
 /// The text for a mark: the part that begins with it and `=`, between `~`.
 fn text_at(parts: &'static [u8], mark: u8) -> &'static [u8] {
     let mut left = parts;
@@ -60,6 +138,18 @@ fn text_at(parts: &'static [u8], mark: u8) -> &'static [u8] {
     b""
 }
 
+/// Puts a text behind a file, in which "`" stands for `|` and `$` for `~`.
+fn add_text(file: &mut Vec<u8>, text: &[u8]) -> Result<(), Fail> {
+    for octet in text {
+        file.push(match octet {
+            b'`' => b'|',
+            b'$' => b'~',
+            _ => *octet,
+        })?;
+    }
+    Ok(())
+}
+
 /// Puts a program behind a file, with the texts of its marks, each of which is a `#` and a letter. Where the text of a control is
 /// given, it stands in place of what follows its mark, up to the end of the control.
 fn add_marked(file: &mut Vec<u8>, program: &[u8], parts: &'static [u8]) -> Result<(), Fail> {
@@ -68,7 +158,7 @@ fn add_marked(file: &mut Vec<u8>, program: &[u8], parts: &'static [u8]) -> Resul
     for octet in program {
         if marked {
             let text = text_at(parts, *octet);
-            file.extend_from_slice(text)?;
+            add_text(file, text)?;
             skipped = *octet == b'c' && !text.is_empty();
             marked = false;
         } else if *octet == b'#' {
@@ -95,6 +185,23 @@ fn text_named(name: &[u8]) -> &'static [u8] {
         [b'p', ..] => NO_DEFAULT,
         _ => RESUBMIT,
     }
+}
+
+/// The P4_16 text of a cell.
+pub fn text16_of(alloc: Global, cell: &'static [u8]) -> Result<Vec<u8>, Fail> {
+    if let [b'\'', text @ ..] = cell {
+        return text_of(alloc, text);
+    }
+    let (name, parts) = cut(cell, b'~');
+    let mut file = Vec::from_slice(alloc, INCLUDES)?;
+    let program = match name {
+        [b'f', ..] => FOUR16,
+        [b'h', ..] => HEADERS16,
+        [b'r', ..] => ROUTER16,
+        _ => PLAIN16,
+    };
+    add_marked(&mut file, program, parts)?;
+    Ok(file)
 }
 
 /// The program of a cell.

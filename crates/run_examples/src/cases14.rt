@@ -1,12 +1,12 @@
-// The rows of the table.
+// The rows of `run14`.
 
-/// A row has nine cells: its name; the program; the entries; the ports, or `-` where no file of them is named; the packets, between blanks;
+/// A row has ten cells: its name; the program; the entries; the ports, or `-` where no file of them is named; the packets, between blanks;
 /// further words, or all words behind `=`; the status; the line; what is sent, and the report. The program is one of `eth` (a header of three
 /// fields, with the mark `#a` in the body of its action and `#e` at its end), `four` (a header of four octets, with the same marks and `#c` for
 /// its control), `router`, `labels`, `prefixes` and `again`, or a text behind `'`; behind it stand texts for its marks, each behind a `~`, as `a=..`.
 /// A packet is in hexadecimal digits; `!` and digits behind the packets are octets that follow them as they are, and `&` in front of a packet has
 /// it there 10,000 times. In texts `^` is a line feed. Where nothing is written the cells of what is sent and of the report are `-`.
-pub const CASES: &[u8] =
+static CASES: &[u8] =
     b"a route|router|table_add routes route 192.168.0.0/24 => 3 02:00:00:00:00:07^|-|020000000001020000000002080045000073000040004011b861c0a80001c0a800c7||0|ran 1 1 0^|020000000007020000000002080045000073000040003f11b961c0a80001c0a800c7|sent 3 34^in 1^out 1^cut 0^direct routed 0 1 0^
 a wrong checksum|router|table_add routes route 192.168.0.0/24 => 3 02:00:00:00:00:07^|-|020000000001020000000002080045000073000040004011b862c0a80001c0a800c7||0|ran 1 0 0^||in 1^out 0^cut 0^
 no route|router||-|020000000001020000000002080045000073000040004011b861c0a80001c0a800c7||0|ran 1 0 0^||in 1^out 0^cut 0^
@@ -51,3 +51,8 @@ a bound too great|eth||-||--passes 65537|2|usage^|-|-
 the greatest bound|again||-|12340000|--passes 65536|0|ran 1 1 0^|12340105|sent 3 4^in 1^out 1^cut 0^
 a text|eth||-||--text t|2|usage^|-|-
 an output twice|eth||-||--sent r|2|usage^|-|-";
+
+/// The rows of `run14`.
+pub fn cases14() -> &'static [u8] {
+    CASES
+}

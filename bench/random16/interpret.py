@@ -1,0 +1,755 @@
+# A plain interpreter of P4_16 programs of this project's profile, with entries, over packets: values are numbers and truth values, headers and
+# stacks are objects, and nothing is made ready. It follows docs/LANGUAGE16.md ("What a P4_16 program does with a packet"), docs/FABRIC.md and
+# the tables of docs/LANGUAGE14.md, and shares no code with the commands.
+import zlib
+
+from read import program_of
+
+ERRORS = ["NoError", "PacketTooShort", "StackOutOfBounds", "NoMatch"]
+DROP = 511
+STANDARD = {
+    "ingress_port": 9, "egress_spec": 9, "egress_port": 9, "instance_type": 32, "packet_length": 32, "checksum_error": 1, "parser_error": 2,
+}
+
+
+class Stopped(Exception):
+    """An error that stops the parser."""
+
+
+# What values stand in. Each holder has a width, or None for a truth value or an error.
+
+
+class Variable:
+    def __init__(self, width):
+        self.width = width
+        self.value = 0
+
+
+class Header:
+    def __init__(self, fields):
+        self.widths = dict(fields)
+        self.clear()
+
+    def clear(self):
+        self.valid = False
+        self.values = {name: 0 for name in self.widths}
+
+    def take(self, other):
+        self.valid, self.values = other.valid, dict(other.values)
+
+    def copy(self):
+        made = Header(self.widths.items())
+        made.take(self)
+        return made
+
+    def bits(self):
+        return "".join(format(self.values[name], "0%db" % width) for name, width in self.widths.items())
+
+
+class Stack:
+    def __init__(self, fields, size):
+        self.elements = [Header(fields) for _ in range(size)]
+        self.place = 0
+
+    def take(self, other):
+        self.elements, self.place = [header.copy() for header in other.elements], other.place
+
+    def copy(self):
+        made = Stack([], 0)
+        made.take(self)
+        return made
+
+    def move(self, count, up):
+        count = min(count, len(self.elements))
+        new = [Header(self.elements[0].widths.items()) for _ in range(count)]
+        kept = len(self.elements) - count
+        self.elements = new + self.elements[:kept] if up else self.elements[count:] + new
+
+
+class Field:
+    """A field of a header: of an invalid one it reads 0, and nothing is written."""
+
+    def __init__(self, header, name):
+        self.header, self.name, self.width = header, name, header.widths[name]
+
+    @property
+    def value(self):
+        return self.header.values[self.name] if self.header.valid else 0
+
+    @value.setter
+    def value(self, value):
+        if self.header.valid:
+            self.header.values[self.name] = value
+
+
+class Slice:
+    def __init__(self, of, high, low):
+        self.of, self.low, self.width = of, low, high - low + 1
+
+    @property
+    def value(self):
+        return self.of.value >> self.low & (1 << self.width) - 1
+
+    @value.setter
+    def value(self, value):
+        mask = (1 << self.width) - 1 << self.low
+        self.of.value = self.of.value & ~mask | value << self.low & mask
+
+
+# Sums over lists of bits.
+
+
+def octets_of(bits):
+    bits += "0" * (-len(bits) % 8)
+    return bytes(int(bits[at:at + 8], 2) for at in range(0, len(bits), 8))
+
+
+def csum16(bits):
+    bits += "0" * (-len(bits) % 16)
+    total = sum(int(bits[at:at + 16], 2) for at in range(0, len(bits), 16))
+    while total >> 16:
+        total = (total & 0xFFFF) + (total >> 16)
+    return ~total & 0xFFFF
+
+
+def crc16(bits):
+    rest = 0
+    for octet in octets_of(bits):
+        rest ^= octet
+        for _ in range(8):
+            rest = rest >> 1 ^ (0xA001 if rest & 1 else 0)
+    return rest
+
+
+SUMS = {
+    "csum16": csum16, "crc16": crc16, "crc32": lambda bits: zlib.crc32(octets_of(bits)), "identity": lambda bits: int(bits[-128:] or "0", 2),
+}
+
+
+# Entries files.
+
+
+def plain_number(word):
+    if word in ("true", "false"):
+        return int(word == "true")
+    if "." in word:
+        return int.from_bytes(map(int, word.split(".")), "big")
+    if ":" in word:
+        return int(word.replace(":", ""), 16)
+    return int(word, 0) if word[:2] in ("0x", "0b") else int(word)
+
+
+def key_of(word, kind):
+    marks = {"ternary": "&&&", "lpm": "/", "range": "->"}
+    return (kind, *map(plain_number, word.split(marks[kind]) if kind in marks else [word]))
+
+
+def is_ranked(keys):
+    return any(key[0] in ("ternary", "range") for key in keys)
+
+
+def matches(value, width, key):
+    kind = key[0]
+    if kind == "exact":
+        return value == key[1]
+    if kind == "ternary":
+        return (value ^ key[1]) & key[2] == 0
+    if kind == "lpm":
+        return (value ^ key[1]) >> width - key[2] == 0
+    return key[1] <= value <= key[2]
+
+
+class Machine:
+    def __init__(self, text, entries, bound):
+        self.program = program_of(text)
+        self.bound = bound
+        self.work = 0
+        blocks, parsers, controls = (self.program[part] for part in ("blocks", "parsers", "controls"))
+        self.parser = parsers[blocks[0]]
+        self.controls = [controls[name] for name in blocks[1:]]
+        _, headers, metadata, _ = self.parser[0]
+        self.headers = headers[1][1]
+        self.metadata = metadata[1][1]
+        self.sessions, self.colours, self.executed, self.tables = {}, {}, {}, {}
+        for made in self.program["objects"]:
+            made["cells"] = [[0, 0] if made["kind"] == "counter" else 0 for _ in range(made["size"])]
+        for control in controls.values():
+            for table in control["tables"].values():
+                table["entries"], table["put default"] = [], None
+                self.tables[table["plane"]] = (table, control)
+        for line in entries.split("\n"):
+            if line.split():
+                self.fill(line.split())
+
+    def fill(self, words):
+        """A line of the entries file."""
+        if words[0] == "mirroring_add":
+            self.sessions[plain_number(words[1])] = plain_number(words[2])
+        elif words[0] == "meter_colours":
+            self.colours.setdefault(words[1], []).extend(map(plain_number, words[2:]))
+        else:
+            table, control = self.tables[words[1]]
+            action = next(name for name in table["actions"] if name != "NoAction" and control["actions"][name]["plane"] == words[2])
+            if words[0] == "table_set_default":
+                table["put default"] = (action, list(map(plain_number, words[3:])))
+                return
+            arrow = words.index("=>", 3)
+            keys = [key_of(word, kind) for word, (_, kind) in zip(words[3:arrow], table["keys"])]
+            behind = list(map(plain_number, words[arrow + 1:]))
+            count = len(control["actions"][action]["parameters"])
+            priority = behind[count] if is_ranked(keys) else 0
+            table["entries"].append({"keys": keys, "action": action, "arguments": behind[:count], "priority": priority, "cell": [0, 0]})
+
+    # The frame of a packet
+
+    def new(self, kind):
+        if kind[0] == "bit":
+            return Variable(kind[1])
+        if kind[0] == "bool":
+            return Variable(None)
+        if kind[0] == "stack":
+            return Stack(self.program["headers"][kind[1]], kind[2])
+        if kind[1] in self.program["headers"]:
+            return Header(self.program["headers"][kind[1]])
+        return {name: self.new(of) for name, of, _ in self.program["structs"][kind[1]]}
+
+    def begin(self, kind, length, port, kept):
+        """The frame as a pass begins."""
+        self.packet_headers = self.new(("named", self.headers))
+        self.packet_metadata = self.new(("named", self.metadata))
+        self.standard = {name: Variable(width) for name, width in STANDARD.items()}
+        self.put_all(self.packet_metadata, kept)
+        self.standard["instance_type"].value = kind
+        self.standard["packet_length"].value = length % 2**32
+        self.standard["ingress_port"].value = port
+
+    def put_all(self, into, values):
+        for name, value in values.items():
+            if isinstance(value, dict):
+                self.put_all(into[name], value)
+            else:
+                into[name].value = value
+
+    def preserved(self, number):
+        """What a field list preserves of the metadata. A list of a member that is a struct is one of all its fields."""
+        return self.preserved_of(self.metadata, self.packet_metadata, number, False)
+
+    def preserved_of(self, struct, values, number, whole):
+        kept = {}
+        for name, kind, lists in self.program["structs"][struct]:
+            marked = whole or number in lists
+            if kind[0] == "named":
+                kept[name] = self.preserved_of(kind[1], values[name], number, marked)
+            else:
+                kept[name] = values[name].value if marked else 0
+        return kept
+
+    # Blocks
+
+    def enter(self, parameters, variables, block):
+        self.block, self.requests, self.hit = block, {}, None
+        self.packet = parameters[0][2]
+        parts = {"standard_metadata_t": self.standard, self.headers: self.packet_headers, self.metadata: self.packet_metadata}
+        self.names = {name: parts.get(kind[1]) for _, kind, name in parameters}
+        for _, kind, name, _ in variables:
+            self.names[name] = self.new(kind)
+        for _, kind, name, value in variables:
+            if value is not None:
+                self.tick()
+                self.put(self.names[name], self.value_for(value, kind))
+
+    def tick(self):
+        self.work = (self.work + 1) % 2**64
+
+    def parse(self, octets):
+        """Runs the parser; whether nothing stopped it."""
+        self.unparsed = "".join(format(octet, "08b") for octet in octets)
+        parameters, variables, states = self.parser
+        try:
+            self.enter(parameters, variables, None)
+            state = "start"
+            while state not in ("accept", "reject"):
+                outer = dict(self.names)
+                statements, transition = states[state]
+                for statement in statements:
+                    self.run(statement)
+                self.tick()
+                state = self.lead(transition)
+                self.names = outer
+            return True
+        except Stopped as stopped:
+            self.standard["parser_error"].value = ERRORS.index(stopped.args[0])
+            return False
+
+    def lead(self, transition):
+        if transition[0] == "go":
+            return transition[1]
+        keys = [self.bits(key) for key in transition[1]]
+        for keyset, state in transition[2]:
+            if all(self.is_in(value, width, simple) for (value, width), simple in zip(keys, keyset)):
+                return state
+        raise Stopped("NoMatch")
+
+    def is_in(self, value, width, simple):
+        if simple[0] == "any":
+            return True
+        first, *second = (self.bits(part, width)[0] for part in simple[1:])
+        if simple[0] == "mask":
+            return (value ^ first) & second[0] == 0
+        if simple[0] == "range":
+            return first <= value <= second[0]
+        return value == first
+
+    def control(self, number):
+        control = self.controls[number]
+        self.enter(control["parameters"], control["variables"], control)
+        self.run(control["apply"])
+        return self.requests
+
+    # Statements
+
+    def run(self, statement):
+        kind = statement[0]
+        if kind == "block":
+            outer = dict(self.names)
+            for inner in statement[1]:
+                self.run(inner)
+            self.names = outer
+        elif kind == "variable":
+            _, of, name, value = statement
+            made = self.new(of)
+            if value is not None:
+                self.tick()
+                self.put(made, self.value_for(value, of))
+            self.names[name] = made
+        elif kind != "empty":
+            self.tick()
+            getattr(self, "run_" + kind)(*statement[1:])
+
+    def run_assign(self, target, value):
+        place = self.place(target)
+        if isinstance(place, Variable) and place.width is None:
+            self.put(place, self.truth(value))
+        elif isinstance(place, (Header, Stack, dict)):
+            self.put(place, self.place(value))
+        else:
+            self.put(place, self.bits(value, place.width)[0])
+
+    def run_if(self, condition, yes, no):
+        outer = dict(self.names)
+        self.run(yes if self.truth(condition) else no)
+        self.names = outer
+
+    def run_switch(self, table, cases):
+        _, ran = self.apply(table)
+        named = [body for label, body in cases if label == ran]
+        others = [body for label, body in cases if label == "default"]
+        for body in (named or others)[:1]:
+            self.run(body)
+
+    def put(self, place, value):
+        """Puts a value of the kind of the place there: a number is cut."""
+        if isinstance(place, (Header, Stack)):
+            place.take(value.copy())
+        elif isinstance(place, dict):
+            for name in place:
+                self.put(place[name], value[name] if isinstance(value[name], (dict, Header, Stack)) else value[name].value)
+        else:
+            place.value = value if isinstance(place, Variable) and place.width is None else value % (1 << place.width)
+
+    def value_for(self, expression, kind):
+        if kind[0] == "bit":
+            return self.bits(expression, kind[1])[0]
+        return self.truth(expression) if kind[0] == "bool" else self.place(expression).copy()
+
+    # Expressions
+
+    def place(self, expression):
+        """What an l-value means, or a header, a stack or a struct that an expression is."""
+        kind = expression[0]
+        if kind == "name":
+            return self.names[expression[1]]
+        if kind == "choice":
+            return self.place(expression[2] if self.truth(expression[1]) else expression[3])
+        of = self.place(expression[1])
+        if kind == "element":
+            return of.elements[expression[2]]
+        if kind == "slice":
+            return Slice(of, *expression[2:])
+        if isinstance(of, Stack):
+            place = of.place - (expression[2] == "last")
+            if not 0 <= place < len(of.elements):
+                raise Stopped("StackOutOfBounds")
+            return of.elements[place]
+        return Field(of, expression[2]) if isinstance(of, Header) else of[expression[2]]
+
+    def is_place(self, expression):
+        while expression[0] == "slice":
+            expression = expression[1]
+        return expression[0] in ("name", "member", "element")
+
+    def is_truth(self, expression):
+        """Whether an expression is a truth value."""
+        kind = expression[0]
+        if kind == "choice":
+            return self.is_truth(expression[2])
+        if kind == "name":
+            found = self.names.get(expression[1])
+            return isinstance(found, Variable) and found.width is None
+        if kind == "called":
+            return expression[1][2] == "isValid"
+        if kind == "member":
+            return expression[2] in ("hit", "miss") and expression[1][0] == "called"
+        operators = ("==", "!=", "<", "<=", ">", ">=", "&&", "||", "!")
+        return kind == "truth" or kind == "cast" and expression[1][0] == "bool" or kind in ("operator", "before") and expression[1] in operators
+
+    def error_of(self, expression):
+        """The number of an error, or None."""
+        if expression[0] != "member":
+            return None
+        if expression[1] == ("name", "error"):
+            return ERRORS.index(expression[2])
+        return self.place(expression).value if expression[2] == "parser_error" else None
+
+    def truth(self, expression):
+        kind = expression[0]
+        if kind == "truth":
+            return expression[1]
+        if kind == "before":
+            return not self.truth(expression[2])
+        if kind == "cast":
+            return self.truth(expression[2]) if self.is_truth(expression[2]) else self.bits(expression[2], 1)[0] == 1
+        if kind == "choice":
+            return self.truth(expression[2] if self.truth(expression[1]) else expression[3])
+        if kind == "called":
+            return self.place(expression[1][1]).valid
+        if kind == "member" and expression[1][0] == "called":
+            hit, _ = self.apply(expression[1][1][1][1])
+            return hit == (expression[2] == "hit")
+        if kind != "operator":
+            return bool(self.place(expression).value)
+        _, operator, left, right = expression
+        if operator == "&&":
+            return self.truth(left) and self.truth(right)
+        if operator == "||":
+            return self.truth(left) or self.truth(right)
+        a, b = self.compared(left, right)
+        return {"==": a == b, "!=": a != b, "<": a < b, "<=": a <= b, ">": a > b, ">=": a >= b}[operator]
+
+    def compared(self, left, right):
+        if self.error_of(left) is not None:
+            return self.error_of(left), self.error_of(right)
+        if self.is_truth(left):
+            return self.truth(left), self.truth(right)
+        a, width = self.bits(left)
+        return a, self.bits(right, width)[0]
+
+    def bits(self, expression, width=None):
+        """The number that an expression is, with its width; a number without a width has that of its place."""
+        kind = expression[0]
+        if kind == "number":
+            width = expression[1] or width
+            return expression[2] % (1 << width), width
+        if kind == "before":
+            value, width = self.bits(expression[2], width)
+            return (~value if expression[1] == "~" else -value) % (1 << width), width
+        if kind == "cast":
+            width = expression[1][1]
+            if self.is_truth(expression[2]):
+                return int(self.truth(expression[2])), width
+            return self.bits(expression[2], width)[0] % (1 << width), width
+        if kind == "choice":
+            return self.bits(expression[2] if self.truth(expression[1]) else expression[3], width)
+        if kind == "lookahead":
+            width = expression[1]
+            if len(self.unparsed) < width:
+                raise Stopped("PacketTooShort")
+            return int(self.unparsed[:width], 2), width
+        if kind == "operator":
+            return self.operated(*expression[1:], width)
+        if kind == "slice" and not self.is_place(expression):
+            value, _ = self.bits(expression[1])
+            count = expression[2] - expression[3] + 1
+            return value >> expression[3] & (1 << count) - 1, count
+        place = self.place(expression)
+        return place.value, place.width
+
+    def operated(self, operator, left, right, width):
+        a, width = self.bits(left, None if operator == "++" else width)
+        if operator == "++":
+            b, behind = self.bits(right)
+            return a << behind | b, width + behind
+        if operator in ("<<", ">>"):
+            b, _ = self.bits(right, 32)
+            if b >= width:
+                return 0, width
+            return (a << b) % (1 << width) if operator == "<<" else a >> b, width
+        b, _ = self.bits(right, width)
+        most = (1 << width) - 1
+        results = {
+            "+": a + b & most, "-": a - b & most, "*": a * b & most, "|+|": min(a + b, most), "|-|": max(a - b, 0),
+            "&": a & b, "|": a | b, "^": a ^ b,
+        }
+        return results[operator], width
+
+    def list_bits(self, items):
+        return "".join(format(value, "0%db" % width) for value, width in map(self.bits, items[1]) if width)
+
+    # Calls
+
+    def run_call(self, expression):
+        _, callee, arguments = expression
+        if callee[0] == "name":
+            if self.block and callee[1] in self.block["actions"]:
+                self.act_given(callee[1], arguments)
+            else:
+                self.extern(callee[1], arguments)
+            return
+        of, method = callee[1:]
+        if of == ("name", self.packet):
+            self.extract(arguments[0]) if method == "extract" else self.emit(arguments[0])
+        elif of[0] == "name" and of[1] not in self.names:
+            if method == "apply":
+                self.apply(of[1])
+            else:
+                self.call_object(self.block["objects"][of[1]], method, arguments)
+        else:
+            self.call_header(self.place(of), method, arguments)
+
+    def call_header(self, of, method, arguments):
+        if method in ("push_front", "pop_front"):
+            of.move(arguments[0][2], method == "push_front")
+        elif method == "setInvalid":
+            of.clear()
+        elif not of.valid:
+            of.clear()
+            of.valid = True
+
+    def act(self, name, values):
+        """Runs an action with the values of its parameters, and gives these as they are left."""
+        action = self.block["actions"][name]
+        own = {}
+        for (_, kind, parameter), value in zip(action["parameters"], values):
+            own[parameter] = self.new(kind)
+            if value is not None:
+                self.put(own[parameter], value)
+        outer = self.names
+        self.names = {**outer, **own}
+        self.run(action["body"])
+        self.names = outer
+        return [own[parameter] for _, _, parameter in action["parameters"]]
+
+    def act_given(self, name, arguments):
+        parameters = self.block["actions"][name]["parameters"]
+        places, values = [], []
+        for (direction, kind, _), argument in zip(parameters, arguments):
+            places.append(self.place(argument) if direction in ("out", "inout") else None)
+            values.append(None if direction == "out" else self.value_for(argument, kind))
+        for place, left in zip(places, self.act(name, values)):
+            if place is not None:
+                self.put(place, left if isinstance(left, (Header, Stack)) else left.value)
+
+    def apply(self, name):
+        """Applies a table: whether an entry was hit, and which action ran."""
+        table = self.block["tables"][name]
+        keys = [(int(self.truth(key)), 1) if self.is_truth(key) else self.bits(key) for key, _ in table["keys"]]
+        fitting = [entry for entry in table["entries"] if all(matches(*key, asked) for key, asked in zip(keys, entry["keys"]))]
+        outer = self.hit
+        if fitting:
+            best = min(fitting, key=lambda entry: self.rank(entry))
+            self.hit = (table, best)
+            action, arguments = best["action"], best["arguments"]
+        else:
+            self.hit = None
+            action, arguments = self.default_of(table)
+        if action:
+            self.act(action, arguments)
+        self.hit = outer
+        return bool(fitting), action
+
+    def rank(self, entry):
+        if is_ranked(entry["keys"]):
+            return entry["priority"]
+        return -sum(key[2] for key in entry["keys"] if key[0] == "lpm")
+
+    def default_of(self, table):
+        if table["put default"]:
+            return table["put default"]
+        if not table["default"] or table["default"][0] == "NoAction":
+            return None, []
+        name, arguments = table["default"]
+        parameters = self.block["actions"][name]["parameters"]
+        return name, [self.value_for(argument, kind) for argument, (_, kind, _) in zip(arguments, parameters)]
+
+    def count(self, counter, cell):
+        if counter["counts"] in ("packets", "packets_and_bytes"):
+            cell[0] = (cell[0] + 1) % 2**64
+        if counter["counts"] in ("bytes", "packets_and_bytes"):
+            cell[1] = (cell[1] + self.standard["packet_length"].value) % 2**64
+
+    def call_object(self, made, method, arguments):
+        kind, cells = made["kind"], made["cells"]
+        if kind == "direct_counter":
+            if self.hit and self.hit[0]["counter"] == made["name"]:
+                self.count(made, self.hit[1]["cell"])
+        elif kind == "counter":
+            index, _ = self.bits(arguments[0], 32)
+            if index < len(cells):
+                self.count(made, cells[index])
+        elif kind == "meter":
+            index, _ = self.bits(arguments[0], 32)
+            self.put(self.place(arguments[1]), self.colour(made) if index < len(cells) else 0)
+        elif method == "write":
+            index, _ = self.bits(arguments[0], 32)
+            value, _ = self.bits(arguments[1], made["width"])
+            if index < len(cells):
+                cells[index] = value % (1 << made["width"])
+        elif method == "read":
+            place = self.place(arguments[0])
+            index, _ = self.bits(arguments[1], 32)
+            self.put(place, cells[index] if index < len(cells) else 0)
+
+    def colour(self, meter):
+        turn = self.executed.get(meter["name"], 0)
+        self.executed[meter["name"]] = turn + 1
+        return (self.colours.get(meter["plane"], []) + [0] * (turn + 1))[turn]
+
+    def extern(self, name, arguments):
+        if name == "mark_to_drop":
+            self.place(arguments[0])["egress_spec"].value = DROP
+        elif name == "hash":
+            target, sum_of, base, items, most = arguments
+            place = self.place(target)
+            start, _ = self.bits(base, place.width)
+            result = SUMS[sum_of[2]](self.list_bits(items))
+            count, _ = self.bits(most)
+            self.put(place, start + (result % count if count else 0))
+        elif "checksum" in name:
+            self.checksum(name, *arguments)
+        elif name == "clone_preserving_field_list":
+            kind, session, number = arguments
+            self.requests[kind[2]] = (self.bits(session, 32)[0], number[2])
+        else:
+            self.requests[name.split("_")[0]] = arguments[0][2]
+
+    def checksum(self, name, condition, items, field, sum_of):
+        holds = self.truth(condition)
+        result = SUMS[sum_of[2]](self.list_bits(items) + (self.unparsed if name.endswith("_with_payload") else ""))
+        if name.startswith("update"):
+            place = self.place(field)
+            if holds:
+                self.put(place, result)
+            return
+        value, width = self.bits(field)
+        if holds and result % (1 << width) != value:
+            self.standard["checksum_error"].value = 1
+
+    def extract(self, target):
+        header = self.place(target)
+        count = sum(header.widths.values())
+        if len(self.unparsed) < count:
+            raise Stopped("PacketTooShort")
+        bits, self.unparsed = self.unparsed[:count], self.unparsed[count:]
+        header.valid = True
+        for name, width in header.widths.items():
+            header.values[name], bits = int(bits[:width], 2), bits[width:]
+        if target[0] == "member" and target[2] == "next" and isinstance(self.place(target[1]), Stack):
+            self.place(target[1]).place += 1
+
+    def emit(self, what):
+        found = self.place(what)
+        for header in found.elements if isinstance(found, Stack) else [found]:
+            if header.valid:
+                self.emitted += header.bits()
+
+    # Passes
+
+    def serve(self, octets, port):
+        """What comes of a packet that comes in: the packets that are sent, each with its port, and how many items the bound cuts."""
+        queue = [{"kind": 0, "octets": octets, "port": port, "kept": {}}]
+        sent = []
+        passes = 0
+        while queue and passes < self.bound:
+            passes += 1
+            self.one_pass(queue.pop(0), queue, sent)
+        return sent, len(queue)
+
+    def one_pass(self, item, queue, sent):
+        kind, octets, port = item["kind"], item["octets"], item["port"]
+        if kind == 2:
+            self.begin(kind, 0, port, item["kept"])
+            self.standard["packet_length"].value = item["length"]
+            self.packet_headers, self.unparsed = item["headers"], item["unparsed"]
+            self.leave(item, item["to"], queue, sent)
+            return
+        self.begin(kind, len(octets), port, item["kept"])
+        parsed = self.parse(octets)
+        if kind == 1:
+            self.leave(item, item["to"], queue, sent)
+            return
+        if parsed:
+            self.control(0)
+        requests = self.control(1)
+        session, number = requests.get("I2E", (None, None))
+        if session in self.sessions:
+            queue.append({"kind": 1, "octets": octets, "port": port, "kept": self.preserved(number), "to": self.sessions[session]})
+        if "resubmit" in requests:
+            queue.append({"kind": 6, "octets": octets, "port": port, "kept": self.preserved(requests["resubmit"])})
+        elif self.standard["egress_spec"].value != DROP:
+            self.leave(item, self.standard["egress_spec"].value, queue, sent)
+
+    def leave(self, item, port, queue, sent):
+        """Egress, and what follows it."""
+        self.standard["egress_spec"].value = 0
+        self.standard["egress_port"].value = port
+        self.standard["instance_type"].value = item["kind"]
+        requests = self.control(2)
+        session, number = requests.get("E2E", (None, None))
+        if session in self.sessions:
+            queue.append(self.clone(item, self.sessions[session], number))
+        if self.standard["egress_spec"].value == DROP:
+            return
+        again = self.preserved(requests["recirculate"]) if "recirculate" in requests else None
+        self.control(3)
+        self.emitted = ""
+        self.control(4)
+        octets = octets_of(self.emitted + self.unparsed)
+        if again is None:
+            sent.append((port, octets))
+        else:
+            queue.append({"kind": 4, "octets": octets, "port": item["port"], "kept": again})
+
+    def clone(self, item, port, number):
+        """A clone made behind egress, which carries the headers as they are."""
+        return {
+            "kind": 2, "octets": b"", "port": item["port"], "kept": self.preserved(number), "to": port,
+            "headers": {name: part.copy() for name, part in self.packet_headers.items()}, "unparsed": self.unparsed,
+            "length": self.standard["packet_length"].value,
+        }
+
+    def report(self, packets, ports):
+        """The packets that are sent, and the report of the run, where each packet comes in on its port."""
+        sent, cut = [], 0
+        for octets, port in zip(packets, ports):
+            some, more = self.serve(octets, port)
+            sent += some
+            cut += more
+        lines = ["sent %d %d" % (port, len(octets)) for port, octets in sent]
+        lines += ["in %d" % len(packets), "out %d" % len(sent), "cut %d" % cut]
+        for made in sorted(self.program["objects"], key=lambda made: made["plane"].encode()):
+            lines += self.cells_of(made)
+        return sent, "".join(line + "\n" for line in lines + ["work %d" % self.work])
+
+    def cells_of(self, made):
+        """The lines of the cells that aren't 0."""
+        if made["kind"] == "meter":
+            return []
+        words = {"counter": "counter", "direct_counter": "direct", "register": "register"}
+        cells = [cell if isinstance(cell, list) else [cell] for cell in self.entry_cells(made) or made["cells"]]
+        head = "%s %s" % (words[made["kind"]], made["plane"])
+        return ["%s %d %s" % (head, place, " ".join(map(str, cell))) for place, cell in enumerate(cells) if any(cell)]
+
+    def entry_cells(self, made):
+        """The cells of the entries that a direct counter counts."""
+        tables = [table for table, control in self.tables.values() if control["objects"].get(table["counter"]) is made]
+        return [entry["cell"] for table in tables for entry in table["entries"]]

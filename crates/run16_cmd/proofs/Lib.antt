@@ -1,0 +1,11 @@
+pub mod Blaming
+pub mod Causes
+pub mod Judging
+pub mod Left
+pub mod Named
+pub mod Order
+pub mod Packets
+pub mod Phases
+pub mod Ranks
+pub mod Running
+pub mod Statuses

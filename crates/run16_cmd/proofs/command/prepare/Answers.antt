@@ -1,0 +1,93 @@
+use Rattle.std.proofs.Common.{inr, refl, [], option_to_list, ◌∙◌}
+use Rattle.std.proofs.lemmas.Result.{err_from_is_err_and}
+use Rattle.p4x_io.proofs.Desks.{moves_on}
+use Rattle.file_work.specs.declared.stop.Stop.TheVariants.{Memory}
+use Rattle.file_work.proofs.Phases.{tells_on, reads_since, blames_as}
+use Rattle.command_words.specs.Views.{run16_files_of}
+use Rattle.run16_cmd.proofs.Order.{order_loose, order_program, order_entries, order_ports, order_begun}
+use Rattle.run16_cmd.proofs.Phases.{stops_at_program, stops_at_entries, stops_at_ports, fills_as, stops_as}
+use Rattle.run16_cmd.proofs.command.prepare.Goals as goal
+
+pub returns-in_err-program-clause-stops : goal.returns-in_err-program-clause-stops
+returns-in_err-program-clause-stops g c = λ files told.
+    let p = err_from_is_err_and c.from_residual.result c.from_residual.ensures.1 in
+    let n = c.args.names.now in
+    rw (p.1, p.2) (stops_at_program (run16_files_of n) files _ (c.in_err-program.ensures.gives (files n.text.now) told.0))
+
+pub returns-in_err-program-clause-order : goal.returns-in_err-program-clause-order
+returns-in_err-program-clause-order g c =
+    let p = err_from_is_err_and c.from_residual.result c.from_residual.ensures.1 in
+    rw (p.1, p.2) (order_program _ (run16_files_of c.args.names.now) _ _ c.in_err-program.ensures.gives)
+
+pub returns-in_err-known-clause-order : goal.returns-in_err-known-clause-order
+returns-in_err-known-clause-order g c =
+    let p = err_from_is_err_and c.from_residual-in_err-known.result c.from_residual-in_err-known.ensures.1 in
+    rw (p.1, p.2) (order_loose _ (run16_files_of c.args.names.now) _ Memory (inr refl))
+
+pub returns-in_err-entries-clause-stops : goal.returns-in_err-entries-clause-stops
+returns-in_err-entries-clause-stops g c = λ files told.
+    let p = err_from_is_err_and c.from_residual-in_err-entries.result c.from_residual-in_err-entries.ensures.1 in
+    let n = c.args.names.now in
+    let first = c.in_ok-program.ensures.moves in
+    rw (p.1, p.2) (stops_at_entries (run16_files_of n) files c.in_ok-program.program _ (c.in_ok-program.ensures.gives (files n.text.now) told.0).0
+    (stops_as _ c.in_ok-program.program (files n.entries.now) _ c.in_ok-known.ensures.signature (c.in_err-entries.ensures.gives (files n.entries.now) (first.others n.entries.now tt ∙ told.1.0))))
+
+pub returns-in_err-entries-clause-order : goal.returns-in_err-entries-clause-order
+returns-in_err-entries-clause-order g c =
+    let p = err_from_is_err_and c.from_residual-in_err-entries.result c.from_residual-in_err-entries.ensures.1 in
+    let n = c.args.names.now in
+    let first = c.in_ok-program.ensures.moves in
+    rw (p.1, p.2) (order_entries _ (run16_files_of n) _ c.in_ok-program.program c.in_ok-program.ensures.gives _ c.in_err-entries.ensures.only
+    (λ files told. stops_as _ c.in_ok-program.program (files n.entries.now) _ c.in_ok-known.ensures.signature (c.in_err-entries.ensures.gives (files n.entries.now) (first.others n.entries.now tt ∙ told))))
+
+pub returns-in_err-ports-clause-stops : goal.returns-in_err-ports-clause-stops
+returns-in_err-ports-clause-stops g c = λ files told.
+    let p = err_from_is_err_and c.from_residual-in_err-ports.result c.from_residual-in_err-ports.ensures.1 in
+    let n = c.args.names.now in
+    let first = c.in_ok-program.ensures.moves in
+    let moves = moves_on [] _ _ _ first c.in_ok-entries.ensures.moves in
+    let fills = fills_as _ c.in_ok-program.program (files n.entries.now) _ c.in_ok-known.ensures.signature (c.in_ok-entries.ensures.gives (files n.entries.now) (first.others n.entries.now tt ∙ told.1.0)) in
+    rw (p.1, p.2) (stops_at_ports (run16_files_of n) files c.in_ok-program.program c.in_ok-entries.entries _ ((c.in_ok-program.ensures.gives (files n.text.now) told.0).0, fills)
+    (c.in_err-ports.ensures.gives files (tells_on (option_to_list (run16_files_of n).ports) _ _ files moves told.1.1.1)))
+
+pub returns-in_err-ports-clause-cause : goal.returns-in_err-ports-clause-cause
+returns-in_err-ports-clause-cause g c =
+    let p = err_from_is_err_and c.from_residual-in_err-ports.result c.from_residual-in_err-ports.ensures.1 in
+    let moves = moves_on [] _ _ _ c.in_ok-program.ensures.moves c.in_ok-entries.ensures.moves in
+    rw (p.1, p.2) (blames_as _ _ _ (λ rose. inr (inr (inr (reads_since [] (option_to_list (run16_files_of c.args.names.now).ports) _ _ _ moves rose)))) c.in_err-ports.ensures.cause)
+
+pub returns-in_err-ports-clause-order : goal.returns-in_err-ports-clause-order
+returns-in_err-ports-clause-order g c =
+    let p = err_from_is_err_and c.from_residual-in_err-ports.result c.from_residual-in_err-ports.ensures.1 in
+    let n = c.args.names.now in
+    let first = c.in_ok-program.ensures.moves in
+    let moves = moves_on [] _ _ _ first c.in_ok-entries.ensures.moves in
+    rw (p.1, p.2) (order_ports _ (run16_files_of n) _ c.in_ok-program.program c.in_ok-program.ensures.gives c.in_ok-entries.entries
+    (λ files told. fills_as _ c.in_ok-program.program (files n.entries.now) _ c.in_ok-known.ensures.signature (c.in_ok-entries.ensures.gives (files n.entries.now) (first.others n.entries.now tt ∙ told)))
+    _ c.in_err-ports.ensures.only
+    (λ files told. c.in_err-ports.ensures.gives files (tells_on (option_to_list (run16_files_of n).ports) _ _ files moves told)))
+
+pub returns-clause-moves : goal.returns-clause-moves
+returns-clause-moves g c = moves_on [] _ _ _ c.in_ok-program.ensures.moves (moves_on [] _ _ _ c.in_ok-entries.ensures.moves c.in_ok-ports.ensures.moves)
+
+pub returns-clause-begins : goal.returns-clause-begins
+returns-clause-begins g c = λ files told.
+    let n = c.args.names.now in
+    let first = c.in_ok-program.ensures.moves in
+    let moves = moves_on [] _ _ _ first c.in_ok-entries.ensures.moves in
+    let fills = fills_as _ c.in_ok-program.program (files n.entries.now) _ c.in_ok-known.ensures.signature (c.in_ok-entries.ensures.gives (files n.entries.now) (first.others n.entries.now tt ∙ told.1.0)) in
+    (((c.in_ok-program.ensures.gives (files n.text.now) told.0).0, fills), c.in_ok-ports.ensures.gives files (tells_on (option_to_list (run16_files_of n).ports) _ _ files moves told.1.1.1))
+
+pub returns-clause-fills : goal.returns-clause-fills
+returns-clause-fills g c = λ file told.
+    fills_as _ c.in_ok-program.program file _ c.in_ok-known.ensures.signature
+    (c.in_ok-entries.ensures.gives file (c.in_ok-program.ensures.moves.others c.args.names.now.entries.now tt ∙ told))
+
+pub returns-clause-order : goal.returns-clause-order
+returns-clause-order g c =
+    let n = c.args.names.now in
+    let first = c.in_ok-program.ensures.moves in
+    let moves = moves_on [] _ _ _ first c.in_ok-entries.ensures.moves in
+    order_begun _ (run16_files_of n) _ c.in_ok-program.program c.in_ok-program.ensures.gives c.in_ok-entries.entries
+    (λ files told. fills_as _ c.in_ok-program.program (files n.entries.now) _ c.in_ok-known.ensures.signature (c.in_ok-entries.ensures.gives (files n.entries.now) (first.others n.entries.now tt ∙ told)))
+    _ _ (λ files told. c.in_ok-ports.ensures.gives files (tells_on (option_to_list (run16_files_of n).ports) _ _ files moves told))
