@@ -3,4 +3,5 @@ mod Leading
 mod Placing
 mod Entering
 mod Beginning
+mod Opening
 mod Looping

@@ -18,8 +18,9 @@ use Rattle.v1_block_run.specs.declared.tasks.Task.{Task}
 use Rattle.v1_block_run.specs.declared.tasks.Task.TheVariants as task
 use Rattle.v1_block_run.specs.declared.block.ReadyBlock.{ReadyBlock}
 use Rattle.v1_block_run.specs.Blocks.{count_of, seen_block}
-use Rattle.v1_block_run.specs.Tasks.{AreThere, body_steps, calls_at, finish, load, steps, world_at}
-use Rattle.v1_block_run.specs.Steps.{Acts, Leads, arranged, begun, is_counted, ticked_run}
+use Rattle.v1_block_run.specs.Tasks.{AreThere, body_steps, calls_at, finish, load, steps, task_done, world_at}
+use Rattle.v1_block_run.specs.Steps.{Acts, Leads, Opens, arranged, begun, is_counted, ticked_run}
+use Rattle.v1_block_run.proofs.Opening.{was_opened}
 
 -- a statement by its node
 
@@ -128,12 +129,17 @@ module _ (runs : ℕ → Moment → Applied) (b : ReadyBlock) (at : Level) (plac
 -- a task over octets of which so many are parsed
 
 module _ (runs : ℕ → Moment → Applied) (b : ReadyBlock) (octets left : List ℕ) (parsed : ℕ) (f new : Cells) (s t : Contents) (r q : Run) (before after : List Task) (is : left ≡ drop parsed octets) where
-  pub runs_task : (first : Task) (taken : ℕ) → Leads runs b (first ∷ before) after (moment f s left r) (moment new t (drop taken left) q) 0 → Leads runs b (first ∷ before) after (moment f s (drop parsed octets) r) (moment new t (drop (parsed + taken) octets) q) 0
+  runs_task : (first : Task) (taken : ℕ) → Leads runs b (first ∷ before) after (moment f s left r) (moment new t (drop taken left) q) 0 → Leads runs b (first ∷ before) after (moment f s (drop parsed octets) r) (moment new t (drop (parsed + taken) octets) q) 0
   runs_task first taken leads =
       let end : drop taken left ≡ drop (parsed + taken) octets = ap (drop taken) is ∙ drop-drop taken parsed octets in
       let at_end : Leads runs b (first ∷ before) after (moment f s left r) (moment new t (drop (parsed + taken) octets) q) 0 =
       subst (λ (u : List ℕ). Leads runs b (first ∷ before) after (moment f s left r) (moment new t u q) 0) end leads in
       subst (λ (u : List ℕ). Leads runs b (first ∷ before) after (moment f s u r) (moment new t (drop (parsed + taken) octets) q) 0) is at_end
+
+  pub runs_opened : (at : Level) (ran : Option ℕ) (place one taken : ℕ) (mid : List Task) → Opens b at ran place before one mid → Leads runs b (task.Run at one ran ∷ mid) after (moment f s left r) (moment new t (drop taken left) q) 0 → Leads runs b (task.Run at place ran ∷ before) after (moment f s (drop parsed octets) r) (moment new t (drop (parsed + taken) octets) q) 0
+  runs_opened at ran place one taken mid opened leads =
+      runs_task (task.Run at place ran) taken
+      (was_opened b at ran place before runs one mid after (moment f s left r) (moment new t (drop taken left) q) opened leads)
 
 module _ (runs : ℕ → Moment → Applied) (b : ReadyBlock) (octets left : List ℕ) (parsed : ℕ) (f new : Cells) (s : Contents) (r : Run) (before : List Task) (is : left ≡ drop parsed octets) where
   pub returns_task : (place : ℕ) → AreThere (count_of b) before → Comes (ground_of b.code) (going_on (given_back (outgoing_at (trees_of b.code) place)) (moment f s left r)) (moment new s left r) → Leads runs b (task.Return place ∷ before) before (moment f s (drop parsed octets) r) (moment new s (drop parsed octets) r) 0
@@ -153,35 +159,47 @@ module _ (runs : ℕ → Moment → Applied) (b : ReadyBlock) (due : Moment) whe
   pub begins : (tasks : List Task) (now : Moment) → AreThere (count_of b) tasks → IsOver (ground_of b.code) now → Running runs b tasks (finish runs b tasks now) now
   begins tasks now there over = record { over = over; there = there; same = refl }
 
-  pub first_there : (first : Task) (tasks rest : List Task) (now : Moment) → tasks ≡ first ∷ rest → Running runs b tasks due now → AreThere (count_of b) (first ∷ rest)
-  first_there first tasks rest now is so = subst (AreThere (count_of b)) is so.there
-
-  pub goes : (first : Task) (tasks rest after : List Task) (now next : Moment) → tasks ≡ first ∷ rest → Leads runs b (first ∷ rest) after now next 0 → Running runs b tasks due now → Running runs b after due next
-  goes first tasks rest after now next is leads so = record {
+  pub goes : (first one : Task) (rest after left : List Task) (now next : Moment) → Leads runs b (first ∷ rest) after now next 0 → after ≡ one ∷ left → Running runs b (first ∷ rest) due now → Running runs b (one ∷ left) due next
+  goes first one rest after left now next leads is so = record {
     over = leads.over;
-    there = leads.there;
-    same = leads.same ∙ ap (λ (l : List Task). finish runs b l now) (sym is) ∙ so.same;
+    there = subst (AreThere (count_of b)) is leads.there;
+    same = ap (λ (l : List Task). finish runs b l next) (sym is) ∙ leads.same ∙ so.same;
   }
 
-  pub fewer : (first : Task) (tasks rest after : List Task) (now next : Moment) → tasks ≡ first ∷ rest → Leads runs b (first ∷ rest) after now next 0 → load b after < load b tasks
-  fewer first tasks rest after now next is leads =
-      let more : load b tasks ≡ load b (first ∷ rest) = ap (load b) is in
-      omega (arith, more, leads.fewer)
+  pub fewer : (first one : Task) (rest after left : List Task) (now next : Moment) → Leads runs b (first ∷ rest) after now next 0 → after ≡ one ∷ left → load b (one ∷ left) < load b (first ∷ rest)
+  fewer first one rest after left now next leads is =
+      let same : load b after ≡ load b (one ∷ left) = ap (load b) is in
+      omega (arith, same, leads.fewer)
 
-  pub ends : (tasks : List Task) (now : Moment) → tasks ≡ [] → Running runs b tasks due now → Comes (ground_of b.code) due now
-  ends tasks now none so = record { over = so.over; comes = sym so.same ∙ ap (λ (l : List Task). finish runs b l now) none }
+  pub ends : (first : Task) (rest after : List Task) (now next : Moment) → Leads runs b (first ∷ rest) after now next 0 → after ≡ [] → Running runs b (first ∷ rest) due now → Comes (ground_of b.code) due next
+  ends first rest after now next leads none so = record {
+    over = leads.over;
+    comes = sym (ap (λ (l : List Task). finish runs b l next) (sym none) ∙ leads.same ∙ so.same);
+  }
+
+-- a task with none behind it
+
+module _ (b : ReadyBlock) (tasks : List Task) (none : tasks ≡ []) where
+  pub none_there : AreThere (count_of b) tasks
+  none_there = subst (AreThere (count_of b)) (sym none) tt
+
+  alone_came : (t : Task) (runs : ℕ → Moment → Applied) (old now : Moment) → Comes (ground_of b.code) (finish runs b (t ∷ tasks) old) now → Comes (ground_of b.code) (task_done runs b t old) now
+  alone_came t runs old now comes = subst (λ (l : List Task). Comes (ground_of b.code) (finish runs b (t ∷ l) old) now) none comes
+
+  pub alone_ran : (at : Level) (place : ℕ) (runs : ℕ → Moment → Applied) (old now : Moment) → Comes (ground_of b.code) (finish runs b (task.Run at place None ∷ tasks) old) now → Comes (ground_of b.code) (run (world_at runs (seen_block b) at) None (statement_at (trees_of b.code) place) old) now
+  alone_ran at place runs old now comes = alone_came (task.Run at place None) runs old now comes
 
 -- an action by itself
 
 module _ (b : ReadyBlock) (at : Level) (action : ℕ) where
-  pub one_there : (t : Task) (tasks : List Task) → Acts b at action (Some t) → tasks ≡ t ∷ [] → AreThere (count_of b) tasks
-  one_there t tasks acts is = subst (AreThere (count_of b)) (sym is) (acts.there, tt)
+  pub one_there : (t : Task) (tasks : List Task) → Acts b at action (Some t) → tasks ≡ [] → AreThere (count_of b) (t ∷ tasks)
+  one_there t tasks acts none = (acts.there, none_there b tasks none)
 
   pub nothing_acted : (m : Moment) → Acts b at action None → IsOver (ground_of b.code) m → Comes (ground_of b.code) (acted (seen_block b) (calls_at (seen_block b) at) action m) m
   nothing_acted m acts over = record { over = over; comes = sym (acts.same (λ table n. no_table_applies table n) m) }
 
-  pub has_acted : (runs : ℕ → Moment → Applied) (t : Task) (tasks : List Task) (old now : Moment) → Acts b at action (Some t) → tasks ≡ t ∷ [] → Comes (ground_of b.code) (finish runs b tasks old) now → Comes (ground_of b.code) (acted (seen_block b) (calls_at (seen_block b) at) action old) now
-  has_acted runs t tasks old now acts is comes = record {
+  pub has_acted : (runs : ℕ → Moment → Applied) (t : Task) (tasks : List Task) (old now : Moment) → Acts b at action (Some t) → tasks ≡ [] → Comes (ground_of b.code) (finish runs b (t ∷ tasks) old) now → Comes (ground_of b.code) (acted (seen_block b) (calls_at (seen_block b) at) action old) now
+  has_acted runs t tasks old now acts none comes = record {
     over = comes.over;
-    comes = sym (acts.same runs old) ∙ ap (λ (l : List Task). finish runs b l old) (sym is) ∙ comes.comes;
+    comes = sym (acts.same runs old) ∙ (alone_came b tasks none t runs old now comes).comes;
   }

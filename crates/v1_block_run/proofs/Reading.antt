@@ -8,9 +8,19 @@ use Rattle.v1_ready_blocks.specs.declared.nodes.StatementNode.TheVariants as sta
 use Rattle.v1_ready_blocks.specs.declared.nodes.Node.{Node}
 use Rattle.v1_ready_blocks.specs.declared.nodes.Node.TheVariants as node
 use Rattle.v1_ready_blocks.specs.Nodes.{Tree, Ground, IsNode, IsStatement, at, tree_of, as_statement, statement_at, statement_of}
+use Rattle.v1_ready_blocks.specs.Statements.{nothing, sequence}
 
 pub is_statement : (es : List Ready) (ts : List Tree) (place : ℕ) (n : Node) (of : StatementNode) → at ts place ≡ tree_of es ts n → n ≡ node.Statement of → statement_at ts place ≡ statement_of ts of
 is_statement es ts place n of tree is = ap as_statement (tree ∙ ap (tree_of es ts) is)
+
+pub is_nothing : (es : List Ready) (ts : List Tree) (place : ℕ) (n : Node) → at ts place ≡ tree_of es ts n → n ≡ node.Statement statement_node.Nothing → statement_at ts place ≡ nothing
+is_nothing es ts place n tree is = is_statement es ts place n statement_node.Nothing tree is
+
+pub is_sequence : (es : List Ready) (ts : List Tree) (place : ℕ) (n : Node) (a b : ℕ) → at ts place ≡ tree_of es ts n → n ≡ node.Statement (statement_node.Sequence a b) → statement_at ts place ≡ sequence (statement_at ts a) (statement_at ts b)
+is_sequence es ts place n a b tree is = is_statement es ts place n (statement_node.Sequence a b) tree is
+
+pub fits_sequence : (g : Ground) (place : ℕ) (n : Node) (a b : ℕ) → IsNode g place n → n ≡ node.Statement (statement_node.Sequence a b) → (a < place) × (b < place)
+fits_sequence g place n a b fits is = subst (IsNode g place) is fits
 
 -- what stands before a place stands before those behind it
 module _ (l : Layout) (shapes : List Shape) (place count : ℕ) (lt : place < count) where

@@ -1,5 +1,5 @@
 -- What a node of a statement does, and what a step comes to.
-use Rattle.std.specs.Prelude.{◌≡◌, ℕ, ◌+◌, ◌<◌, ◌%◌, ◌^◌, Bool, true, false, if◌then◌else◌, List, Option, Some, None, IfSome}
+use Rattle.std.specs.Prelude.{◌≡◌, ℕ, ◌+◌, ◌<◌, ◌%◌, ◌^◌, Bool, true, false, if◌then◌else◌, List, ◌∷◌, Option, Some, None, IfSome}
 use Rattle.v1_sem.specs.Values.{is_true}
 use Rattle.v1_ready_blocks.specs.declared.nodes.StatementNode.{StatementNode}
 use Rattle.v1_ready_blocks.specs.declared.nodes.StatementNode.TheVariants as node
@@ -13,6 +13,7 @@ use Rattle.v1_ready_externs.specs.declared.run.Run.{Run}
 use Rattle.v1_ready_steps.specs.Steps.{IsOver, ground_of, trees_of}
 use Rattle.v1_block_run.specs.declared.tasks.Level.{Level}
 use Rattle.v1_block_run.specs.declared.tasks.Task.{Task}
+use Rattle.v1_block_run.specs.declared.tasks.Task.TheVariants as task
 use Rattle.v1_block_run.specs.declared.block.ReadyBlock.{ReadyBlock}
 use Rattle.v1_block_run.specs.Blocks.{seen_block, count_of}
 use Rattle.v1_block_run.specs.Tasks.{AreThere, IsThere, body_steps, calls_at, finish, load, task_done, task_steps}
@@ -25,6 +26,16 @@ is_counted (node.Start r) = false
 is_counted (node.Labelled action a b) = false
 is_counted (node.Otherwise a) = false
 is_counted _ = true
+
+-- one that comes often
+abbrev pub is_often : StatementNode → Bool
+is_often (node.Assign to slice a) = true
+is_often (node.Extract header) = true
+is_often (node.Emit a) = true
+is_often (node.Execute what a) = true
+is_often (node.Apply table) = true
+is_often (node.Branch c a b) = true
+is_often _ = false
 
 -- what one does that doesn't count
 abbrev pub arranged : World → Option ℕ → List Tree → StatementNode → Moment → Moment
@@ -70,6 +81,14 @@ pub record Leads (runs : ℕ → Moment → Applied) (b : ReadyBlock) (before af
   pub there : AreThere (count_of b) after
   pub same : finish runs b after now ≡ finish runs b before due
   pub fewer : load b after < most + load b before
+
+-- The statements at a place are the first one of them, and the others behind it.
+pub record Opens (b : ReadyBlock) (at : Level) (ran : Option ℕ) (place : ℕ) (before : List Task) (first : ℕ) (after : List Task) : Type 0 where
+  pub here : first < count_of b
+  pub there : AreThere (count_of b) after
+  pub same : (runs : ℕ → Moment → Applied) (m : Moment) →
+      finish runs b (task.Run at first ran ∷ after) m ≡ finish runs b (task.Run at place ran ∷ before) m
+  pub few : load b (task.Run at first ran ∷ after) < 1 + load b (task.Run at place ran ∷ before)
 
 -- calls
 

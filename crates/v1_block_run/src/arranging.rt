@@ -67,6 +67,7 @@ fn start_at(
 
 /// A statement that doesn't count: what it is made of is to be done in its place, where this action ran, if it is a list of cases.
 /// The one error is want of memory.
+#[inline(never)]
 #[tactic(auto, using(crate::proofs::Placing::both_lead, crate::proofs::Placing::case_leads, crate::proofs::Placing::otherwise_leads, crate::proofs::Leading::comes_leads, crate::proofs::Leading::nothing_leads))]
 pub fn arrange<T: Tables>(
     block: &ReadyBlock<'_>,

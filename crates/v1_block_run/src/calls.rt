@@ -109,6 +109,7 @@ pub fn call<T: Tables>(
 }
 
 /// Copies parameters back to their arguments, unless an error stopped the run.
+#[inline(never)]
 #[tactic(auto, using(crate::proofs::Entering::kept_back, crate::proofs::Entering::went_back, crate::proofs::Entering::frame_over))]
 pub fn hand_back(
     block: &ReadyBlock<'_>,

@@ -1,5 +1,5 @@
 // Statements that count, once they are counted (P4_16 1.2, "Statements", "Conditional statement", "Switch statement").
-ghost use Rattle.std.specs.Prelude.{◌≡◌, ◌+◌, ◌<◌, ◌≤◌, drop, if◌then◌else◌, length, None, IfOk, OnOk};
+ghost use Rattle.std.specs.Prelude.{◌≡◌, ◌+◌, ◌<◌, ◌≤◌, false, drop, if◌then◌else◌, length, None, IfOk, OnOk};
 ghost use Rattle.v1_sem.specs.Values.{is_true};
 ghost use Rattle.v1_ready_expressions.specs.Scalars.{seen_scalar};
 ghost use Rattle.v1_ready_blocks.specs.Nodes.{IsStatement, statement_at, statement_of, test_at};
@@ -7,7 +7,7 @@ ghost use Rattle.v1_ready_externs.specs.Seen.{moment};
 ghost use Rattle.v1_ready_steps.specs.Steps.{IsOver, ground_of, trees_of};
 ghost use Rattle.v1_block_run.specs.Blocks.{IsRunnable, count_of, seen_block};
 ghost use Rattle.v1_block_run.specs.Tasks.{AreThere, body_steps, calls_at, steps, world_at};
-ghost use Rattle.v1_block_run.specs.Steps.{Leads, begun, branched, switched};
+ghost use Rattle.v1_block_run.specs.Steps.{Leads, begun, branched, is_often, switched};
 
 use crate::block::ReadyBlock;
 use crate::calls::call;
@@ -103,6 +103,66 @@ fn switch<T: Tables>(
     Ok(())
 }
 
+/// The same as `begin`, for a statement that comes seldom.
+#[inline(never)]
+#[tactic(auto, using(crate::proofs::Leading::comes_leads, crate::proofs::Leading::nothing_leads))]
+fn begin_seldom<T: Tables>(
+    block: &ReadyBlock<'_>,
+    at: &AtLevel<'_, T>,
+    node: StatementNode,
+    tasks: &mut Stack<Task>,
+    frame: &mut Frame<'_>,
+    store: &mut Store,
+    unparsed: &[u8],
+    run: &mut Run<'_>,
+) -> Result<(), OutOfMemory>
+    requires seldom { is_often node ≡ false }
+    requires node { IsStatement (ground_of block.now.code).layout (ground_of block.now.code).shapes (count_of block.now) node }
+    requires runnable { IsRunnable block.now }
+    requires tables { T.base at.now.tables.now ≡ ground_of block.now.code }
+    requires there { AreThere (count_of block.now) tasks.old }
+    requires over { IsOver (ground_of block.now.code) (moment frame.old store.old unparsed.now run.old) }
+    ensures { OnOk result (Leads (T.applies at.now.tables.now) block.now tasks.old tasks.new
+        (begun (world_at (T.applies at.now.tables.now) (seen_block block.now) at.now.level) (trees_of block.now.code) node (moment frame.old store.old unparsed.now run.old))
+        (moment frame.new store.new unparsed.now run.new)
+        (steps (body_steps (seen_block block.now) (calls_at (seen_block block.now) at.now.level)) (statement_of (trees_of block.now.code) node))) }
+{
+    let code = &block.code;
+    match node {
+        StatementNode::AssignParts(to, a) => {
+            assign_parts(code, at, to, a, frame, store, unparsed, run)?;
+            Ok(())
+        }
+        StatementNode::SetValid(header, on) => {
+            set_header(at, header, on, frame, store, unparsed, run);
+            Ok(())
+        }
+        StatementNode::PushFront(stack, count) => {
+            push_elements(at, stack, count, frame, store, unparsed, run);
+            Ok(())
+        }
+        StatementNode::PopFront(stack, count) => {
+            pop_elements(at, stack, count, frame, store, unparsed, run);
+            Ok(())
+        }
+        StatementNode::LetGo(a) => {
+            let_go(code, at, a, frame, store, unparsed, run)?;
+            Ok(())
+        }
+        StatementNode::Call(action, apart, a, b) => {
+            call(
+                block, at, action, apart, a, b, tasks, frame, store, unparsed, run,
+            )?;
+            Ok(())
+        }
+        StatementNode::Switch(table, a) => {
+            switch(block, at, table, a, tasks, frame, store, unparsed, run)?;
+            Ok(())
+        }
+        _ => Ok(()),
+    }
+}
+
 /// A statement that counts: it is run, or what it is made of is to be done. It gives how many octets it took from the front of those
 /// that aren't parsed. The one error is want of memory, after which frame, store and run are not used again.
 #[tactic(auto, using(crate::proofs::Leading::comes_leads, crate::proofs::Leading::nothing_leads))]
@@ -133,22 +193,6 @@ pub fn begin<T: Tables>(
             assign(code, at, to, slice, a, frame, store, unparsed, run)?;
             Ok(0)
         }
-        StatementNode::AssignParts(to, a) => {
-            assign_parts(code, at, to, a, frame, store, unparsed, run)?;
-            Ok(0)
-        }
-        StatementNode::SetValid(header, on) => {
-            set_header(at, header, on, frame, store, unparsed, run);
-            Ok(0)
-        }
-        StatementNode::PushFront(stack, count) => {
-            push_elements(at, stack, count, frame, store, unparsed, run);
-            Ok(0)
-        }
-        StatementNode::PopFront(stack, count) => {
-            pop_elements(at, stack, count, frame, store, unparsed, run);
-            Ok(0)
-        }
         StatementNode::Extract(header) => {
             Ok(extract_header(at, header, frame, store, unparsed, run))
         }
@@ -164,24 +208,13 @@ pub fn begin<T: Tables>(
             apply(at, table, frame, store, unparsed, run)?;
             Ok(0)
         }
-        StatementNode::LetGo(a) => {
-            let_go(code, at, a, frame, store, unparsed, run)?;
-            Ok(0)
-        }
-        StatementNode::Call(action, apart, a, b) => {
-            call(
-                block, at, action, apart, a, b, tasks, frame, store, unparsed, run,
-            )?;
-            Ok(0)
-        }
         StatementNode::Branch(c, a, b) => {
             branch(block, at, c, a, b, tasks, frame, store, unparsed, run)?;
             Ok(0)
         }
-        StatementNode::Switch(table, a) => {
-            switch(block, at, table, a, tasks, frame, store, unparsed, run)?;
+        _ => {
+            begin_seldom(block, at, node, tasks, frame, store, unparsed, run)?;
             Ok(0)
         }
-        _ => Ok(0),
     }
 }

@@ -7,6 +7,7 @@ mod block;
 mod calls;
 mod counting;
 mod levels;
+mod lists;
 mod nodes;
 mod run;
 mod tasks;

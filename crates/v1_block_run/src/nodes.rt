@@ -1,7 +1,7 @@
 // The nodes of statements, by their places.
-ghost use Rattle.std.specs.Prelude.{◌≡◌, ◌<◌, IfSome, MatchOption, length};
+ghost use Rattle.std.specs.Prelude.{◌≡◌, ◌<◌, true, IfSome, MatchOption, length};
 ghost use Rattle.v1_ready_blocks.specs.Nodes.{IsStatement, statement_at, statement_of};
-ghost use Rattle.v1_ready_blocks.specs.Statements.{nothing};
+ghost use Rattle.v1_ready_blocks.specs.Statements.{nothing, sequence};
 ghost use Rattle.v1_ready_steps.specs.Steps.{ground_of, trees_of};
 ghost use Rattle.v1_block_run.specs.Steps.{is_counted};
 
@@ -17,6 +17,31 @@ pub fn statement_node(code: &Code<'_>, place: usize) -> Option<StatementNode>
 {
     match code.statements.node(place) {
         Node::Statement(node) => Some(node),
+        _ => None,
+    }
+}
+
+/// Whether no statement stands at a place.
+#[tactic(auto, using(crate::proofs::Reading::is_nothing))]
+pub fn is_nothing(code: &Code<'_>, place: usize) -> bool
+    requires { place < length code.now.statements.nodes }
+    ensures { result ≡ true → statement_at (trees_of code.now) place ≡ nothing }
+{
+    match code.statements.node(place) {
+        Node::Statement(StatementNode::Nothing) => true,
+        _ => false,
+    }
+}
+
+/// The parts of statements one behind the other; None where another node stands.
+#[tactic(auto, using(crate::proofs::Reading::is_sequence, crate::proofs::Reading::fits_sequence))]
+pub fn sequence_parts(code: &Code<'_>, place: usize) -> Option<(usize, usize)>
+    requires { place < length code.now.statements.nodes }
+    ensures tree { IfSome result (λ parts. statement_at (trees_of code.now) place ≡ sequence (statement_at (trees_of code.now) parts.0) (statement_at (trees_of code.now) parts.1)) }
+    ensures before { IfSome result (λ parts. (parts.0 < place) × (parts.1 < place)) }
+{
+    match code.statements.node(place) {
+        Node::Statement(StatementNode::Sequence(first, last)) => Some((first, last)),
         _ => None,
     }
 }

@@ -15,7 +15,8 @@ use crate::block::ReadyBlock;
 use crate::calls::{body_task, hand_back};
 use crate::counting::begin;
 use crate::levels::AtLevel;
-use crate::nodes::{is_counted, statement_node};
+use crate::lists::first_of;
+use crate::nodes::{is_counted, is_nothing, statement_node};
 use crate::tasks::{Level, Task};
 use p4x_bits::OutOfMemory;
 use state_store::Store;
@@ -80,7 +81,7 @@ fn behind(octets: &[u8], parsed: usize) -> &[u8]
 
 /// A task is done, or others take its place; so many octets are parsed, and it gives how many are then. The one error is want of
 /// memory, after which frame, store and run are not used again.
-#[tactic(auto, using(crate::proofs::Looping::runs_task, crate::proofs::Looping::returns_task))]
+#[tactic(auto, using(crate::proofs::Looping::runs_opened, crate::proofs::Looping::returns_task))]
 fn run_task<T: Tables>(
     block: &ReadyBlock<'_>,
     tables: &T,
@@ -103,8 +104,9 @@ fn run_task<T: Tables>(
     let unparsed = behind(octets, parsed);
     match next {
         Task::Run(level, place, ran) => {
+            let first = first_of(block, level, place, ran, tasks)?;
             let at = AtLevel { level, tables };
-            let taken = run_statement(block, &at, place, ran, tasks, frame, store, unparsed, run)?;
+            let taken = run_statement(block, &at, first, ran, tasks, frame, store, unparsed, run)?;
             Ok(parsed + taken)
         }
         Task::Return(place) => {
@@ -114,40 +116,46 @@ fn run_task<T: Tables>(
     }
 }
 
-/// Does all that is still to be done, where so many octets are parsed, and gives how many are then. The one error is want of memory,
-/// after which tasks, frame, store and run are not used again.
-#[tactic(auto, using(crate::proofs::Looping::begins, crate::proofs::Looping::first_there, crate::proofs::Looping::goes, crate::proofs::Looping::fewer, crate::proofs::Looping::ends))]
+/// Does this, and then all that is still to be done, where so many octets are parsed, and gives how many are then. The one error is
+/// want of memory, after which tasks, frame, store and run are not used again.
+#[tactic(auto, using(crate::proofs::Looping::begins, crate::proofs::Looping::goes, crate::proofs::Looping::fewer, crate::proofs::Looping::ends))]
 fn run_tasks<T: Tables>(
     block: &ReadyBlock<'_>,
     tables: &T,
+    first: Task,
     tasks: &mut Stack<Task>,
     frame: &mut Frame<'_>,
     store: &mut Store,
     octets: &[u8],
-    first: usize,
+    begun: usize,
     run: &mut Run<'_>,
 ) -> Result<usize, OutOfMemory>
-    requires first { first ≤ length octets.now }
+    requires begun { begun ≤ length octets.now }
     requires runnable { IsRunnable block.now }
     requires tables { T.base tables.now ≡ ground_of block.now.code }
-    requires there { AreThere (count_of block.now) tasks.old }
-    requires over { IsOver (ground_of block.now.code) (moment frame.old store.old (drop first octets.now) run.old) }
-    ensures comes { IfOk result (λ end. Comes (ground_of block.now.code) (finish (T.applies tables.now) block.now tasks.old (moment frame.old store.old (drop first octets.now) run.old)) (moment frame.new store.new (drop end octets.now) run.new)) }
+    requires there { AreThere (count_of block.now) (first ∷ tasks.old) }
+    requires over { IsOver (ground_of block.now.code) (moment frame.old store.old (drop begun octets.now) run.old) }
+    ensures comes { IfOk result (λ end. Comes (ground_of block.now.code) (finish (T.applies tables.now) block.now (first ∷ tasks.old) (moment frame.old store.old (drop begun octets.now) run.old)) (moment frame.new store.new (drop end octets.now) run.new)) }
     ensures within { IfOk result (λ end. end ≤ length octets.now) }
 {
-    let mut parsed = first;
-    while let Some(next) = tasks.pop() {
+    let mut next = first;
+    let mut parsed = begun;
+    'tasks: loop {
         parsed = run_task(
             block, tables, next, tasks, frame, store, octets, parsed, run,
         )?;
+        match tasks.pop() {
+            Some(task) => next = task,
+            None => return Ok(parsed),
+        }
     }
-    Ok(parsed)
 }
 
 /// Runs the statements at a place of a block, where tables do this when the block applies them: in the block itself, in an action, or
 /// in a parser, where no calls nest. So many octets of a packet are parsed, and it gives how many are then. The room of `tasks` stays
 /// from one run to the next; where something was left in it, that counts as want of memory. The one error is want of memory, after
 /// which tasks, frame, store and run are not used again.
+#[tactic(auto, using(crate::proofs::Opening::nothing_came, crate::proofs::Looping::none_there, crate::proofs::Looping::alone_ran))]
 pub fn run_statements<T: Tables>(
     block: &ReadyBlock<'_>,
     tables: &T,
@@ -168,11 +176,16 @@ pub fn run_statements<T: Tables>(
     ensures comes { IfOk result (λ end. Comes (ground_of block.now.code) (left_by (world_at (T.applies tables.now) (seen_block block.now) level) None (statement_at (trees_of block.now.code) place) (moment frame.old store.old (drop parsed octets.now) run.old)) (moment frame.new store.new (drop end octets.now) run.new)) }
     ensures within { IfOk result (λ end. end ≤ length octets.now) }
 {
+    if is_nothing(&block.code, place) {
+        return Ok(parsed);
+    }
     if let Some(_) = tasks.pop() {
         return Err(OutOfMemory);
     }
-    tasks.push(Task::Run(level, place, None))?;
-    let end = run_tasks(block, tables, tasks, frame, store, octets, parsed, run)?;
+    let first = Task::Run(level, place, None);
+    let end = run_tasks(
+        block, tables, first, tasks, frame, store, octets, parsed, run,
+    )?;
     Ok(end)
 }
 
@@ -205,7 +218,8 @@ pub fn run_action(
     let none = NoTables {
         statements: &block.code.statements,
     };
-    tasks.push(body)?;
-    let end = run_tasks(block, &none, tasks, frame, store, octets, parsed, run)?;
+    let end = run_tasks(
+        block, &none, body, tasks, frame, store, octets, parsed, run,
+    )?;
     Ok(end)
 }

@@ -22,9 +22,11 @@ twice : (c : Code) (f : Cells) (u : List ℕ) (places : List ℕ) → map (key_a
 twice c f u [] = refl
 twice c f u (place ∷ places) = ap (λ (rest : List ℕ). key_at c f u place ∷ rest) (twice c f u places)
 
-pub entry_found : (fill : Fill) (b : ReadyBlock) (t : ReadyTable) (f : Cells) (s : Contents) (u keys : List ℕ) (r : Run) (entry : Option ℕ) → keys ≡ map (key_at b.code f u) t.keys → entry ≡ best (slice_index_or fill.tables t.number no_table) keys → entry ≡ found fill (moment f s u r) (seen_table b t)
-entry_found fill b t f s u keys r entry are is =
-    is ∙ ap (best (slice_index_or fill.tables t.number no_table)) (are ∙ twice b.code f u t.keys)
+pub entry_found : (fill : Fill) (b : ReadyBlock) (t : ReadyTable) (f : Cells) (s : Contents) (u keys places : List ℕ) (r : Run) (entry : Option ℕ) → places ≡ t.keys → keys ≡ map (key_at b.code f u) places → entry ≡ best (slice_index_or fill.tables t.number no_table) keys → entry ≡ found fill (moment f s u r) (seen_table b t)
+entry_found fill b t f s u keys places r entry same are is =
+    is
+    ∙ ap (best (slice_index_or fill.tables t.number no_table))
+    (are ∙ ap (map (key_at b.code f u)) same ∙ twice b.code f u t.keys)
 
 pub keys_there : (b : ReadyBlock) (t : ReadyTable) → HasKeys (length b.code.expressions.nodes) t → All (λ place. place < length b.code.expressions.nodes) t.keys
 keys_there b t has = has.keys

@@ -12,10 +12,11 @@ ghost use Rattle.v1_block_tables.specs.Parts.{CanApply, HasKeys};
 
 use crate::binding::bind;
 use crate::calls::Call;
-use crate::keys::key_of;
+use crate::keys::fill_key;
 use crate::parts::FilledBlock;
 use crate::spare::{Spare, exchange};
 use fabric::Event;
+use match_core::Key;
 use p4x_bits::OutOfMemory;
 use state_store::Store;
 use std::alloc::Global;
@@ -85,8 +86,9 @@ impl<'b, 'l> FilledBlock<'b, 'l> {
         requires over { IsOver (ground_of self.now.block.now.code) (moment frame.now store.now unparsed.now run.now) }
         ensures { IfOk result (λ entry. entry ≡ found self.now.fill.now (moment frame.now store.now unparsed.now run.now) (seen_table self.now.block.now table.now)) }
     {
-        let key = key_of(
-            alloc,
+        let mut key = Key::new(alloc);
+        fill_key(
+            &mut key,
             &self.block.code,
             table.keys.as_slice(),
             frame,

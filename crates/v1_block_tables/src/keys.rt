@@ -1,10 +1,9 @@
 // The keys of tables (P4_16 1.2, "Match-action unit invocation").
-ghost use Rattle.std.specs.Prelude.{◌≡◌, ◌<◌, length, map, All, IfOk};
+ghost use Rattle.std.specs.Prelude.{◌≡◌, ◌<◌, [], length, map, All, OnOk};
 ghost use Rattle.v1_block_tables.specs.Parts.{key_at};
 
 use match_core::Key;
 use p4x_bits::OutOfMemory;
-use std::alloc::Global;
 use v1_frames::Frame;
 use v1_ready_deeds::number_of;
 use v1_ready_steps::Code;
@@ -21,21 +20,21 @@ fn key_number(code: &Code<'_>, place: usize, frame: &Frame<'_>, unparsed: &[u8])
     }
 }
 
-/// The numbers of keys in order. Up to eight take no memory; want of it is the one error.
-pub fn key_of(
-    alloc: Global,
+/// Puts the numbers of keys in order into a key without values. Up to eight take no memory; want of it is the one error.
+pub fn fill_key(
+    key: &mut Key,
     code: &Code<'_>,
     places: &[usize],
     frame: &Frame<'_>,
     unparsed: &[u8],
-) -> Result<Key, OutOfMemory>
+) -> Result<(), OutOfMemory>
+    requires empty { key.old ≡ [] }
     requires places { All (λ place. place < length code.now.expressions.nodes) places.now }
     requires layout { frame.now.layout ≡ code.now.expressions.layout }
-    ensures { IfOk result (λ key. key ≡ map (key_at code.now frame.now unparsed.now) places.now) }
+    ensures { OnOk result (key.new ≡ map (key_at code.now frame.now unparsed.now) places.now) }
 {
-    let mut key = Key::new(alloc);
     for place in places {
         key.push(key_number(code, *place, frame, unparsed))?;
     }
-    Ok(key)
+    Ok(())
 }

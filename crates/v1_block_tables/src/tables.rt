@@ -22,7 +22,7 @@ pub struct BlockTables<'b, 'l> {
     alloc: Global,
     /// The block and the tables.
     pub of: FilledBlock<'b, 'l>,
-    spare: Cell<Option<Spare>>,
+    spare: Cell<Option<Box<Spare>>>,
     ghost can: { CanApply of.block.now },
 }
 
@@ -39,11 +39,11 @@ impl<'b, 'l> BlockTables<'b, 'l> {
         }
     }
 
-    /// What an application works with.
-    fn take(&self) -> Spare {
+    /// What an application works with. The one error is want of memory.
+    fn take(&self) -> Result<Box<Spare>, OutOfMemory> {
         match self.spare.replace(None) {
-            Some(spare) => spare,
-            None => Spare::new(self.alloc),
+            Some(spare) => Ok(spare),
+            None => Ok(Box::new(self.alloc, Spare::new(self.alloc))?),
         }
     }
 }
@@ -69,10 +69,10 @@ impl<'b, 'l> Tables for BlockTables<'b, 'l> {
         let entry = self
             .of
             .found(self.alloc, found, frame, store, unparsed, run)?;
-        let mut spare = self.take();
+        let mut spare = self.take()?;
         let told = self
             .of
-            .apply_found(found, entry, &mut spare, frame, store, unparsed, run)?;
+            .apply_found(found, entry, &mut *spare, frame, store, unparsed, run)?;
         self.spare.set(Some(spare));
         Ok(told)
     }
