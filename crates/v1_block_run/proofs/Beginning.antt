@@ -9,7 +9,7 @@ use Rattle.v1_ready_expressions.specs.declared.scalar.Scalar.{Scalar}
 use Rattle.v1_ready_expressions.specs.Scalars.{seen_scalar}
 use Rattle.v1_ready_blocks.specs.Moments.{Moment, raised}
 use Rattle.v1_ready_blocks.specs.Nodes.{statement_at, test_at}
-use Rattle.v1_ready_blocks.specs.Statements.{run}
+use Rattle.v1_ready_blocks.specs.Statements.{Statement, nothing, run}
 use Rattle.v1_ready_blocks.specs.Tests.{Applied, Valued, test_value, with_test}
 use Rattle.v1_ready_externs.specs.declared.run.Run.{Run}
 use Rattle.v1_ready_externs.specs.Seen.{moment, seen_hit}
@@ -28,6 +28,13 @@ stopped_is : (f : Cells) (w : Cells) (s : Contents) (u : List ℕ) (emitted : Li
     m (Option.Some (first_error stopped e)) ≡ raised e (m stopped)
 stopped_is f w s u emitted work None hit e = refl
 stopped_is f w s u emitted work (Option.Some earlier) hit e = refl
+
+place_by : (holds : Bool) (x y count : ℕ) → x < count → y < count → cond holds x y < count
+place_by true x y count to_x to_y = to_x
+place_by false x y count to_x to_y = to_y
+
+pub place_there : (v : Scalar) (x y place count : ℕ) → x < count → y < count → place ≡ cond (is_true (seen_scalar v)) x y → place < count
+place_there v x y place count to_x to_y is = subst (λ (p : ℕ). p < count) (sym is) (place_by (is_true (seen_scalar v)) x y count to_x to_y)
 
 module _ (runs : ℕ → Moment → Applied) (b : ReadyBlock) (at : Level) (before : List Task) (there : AreThere (count_of b) before) where
   abbrev size : ℕ → ℕ
@@ -59,6 +66,20 @@ module _ (runs : ℕ → Moment → Applied) (b : ReadyBlock) (at : Level) (befo
       chosen_by (is_true (seen_scalar v)) x y after (branched_at c x y old) now to_x to_y gives.over
       (ap (λ (g : Valued). with_test g (λ u n. cond (is_true u) (run_at None x n) (run_at None y n))) gives.gives)
       (tasks ∙ ap (λ (p : ℕ). task.Run at p None ∷ before) is)
+
+  pub branch_nothing : (c x y place : ℕ) (v : Scalar) (old now : Moment) → x < count_of b → y < count_of b → Gives (ground_of b.code) (test_value (applies_at at runs) (test_at (trees_of b.code) c) old) now (Ok v) → place ≡ cond (is_true (seen_scalar v)) x y → statement_at (trees_of b.code) place ≡ nothing → Leads runs b before before (branched_at c x y old) now (1 + size x + size y)
+  branch_nothing c x y place v old now to_x to_y gives is none =
+      let leads : Leads runs b before (task.Run at place None ∷ before) (branched_at c x y old) now (1 + size x + size y) =
+      branch_leads c x y place v (task.Run at place None ∷ before) old now to_x to_y gives is refl in
+      record {
+        over = leads.over;
+        there = there;
+        same =
+            sym
+            (ap (λ (s : Statement). finish runs b before (run (world_at runs (seen_block b) at) None s now)) none)
+            ∙ leads.same;
+        fewer = omega (arith, leads.fewer);
+      }
 
   pub branch_failed : (c x y : ℕ) (error : ParserError) (old : Moment) (f : Cells) (s : Contents) (u : List ℕ) (r new : Run) → Gives (ground_of b.code) (test_value (applies_at at runs) (test_at (trees_of b.code) c) old) (moment f s u r) (Err error) → new ≡ stopped_by error r → Leads runs b before before (branched_at c x y old) (moment f s u new) (1 + size x + size y)
   branch_failed c x y error old f s u r new gives stops = record {

@@ -12,6 +12,7 @@ ghost use Rattle.v1_block_run.specs.Steps.{Leads, begun, branched, is_often, swi
 use crate::block::ReadyBlock;
 use crate::calls::call;
 use crate::levels::AtLevel;
+use crate::nodes::is_nothing;
 use crate::tasks::Task;
 use p4x_bits::OutOfMemory;
 use state_store::Store;
@@ -35,7 +36,7 @@ fn place_by(value: Scalar, positive: usize, negative: usize) -> usize
 
 /// A condition is evaluated, and then the statements are to be done that it chooses; an error stops the run. The one error is want
 /// of memory, after which frame, store and run are not used again.
-#[tactic(auto, using(crate::proofs::Beginning::branch_leads, crate::proofs::Beginning::branch_failed))]
+#[tactic(auto, using(crate::proofs::Beginning::branch_leads, crate::proofs::Beginning::branch_nothing, crate::proofs::Beginning::place_there, crate::proofs::Beginning::branch_failed))]
 fn branch<T: Tables>(
     block: &ReadyBlock<'_>,
     at: &AtLevel<'_, T>,
@@ -64,6 +65,9 @@ fn branch<T: Tables>(
     match test(&block.code, at, condition, frame, store, unparsed, run)? {
         Ok(value) => {
             let next = place_by(value, positive, negative);
+            if is_nothing(&block.code, next) {
+                return Ok(());
+            }
             tasks.push(Task::Run(at.level, next, None))?;
             Ok(())
         }
