@@ -1,4 +1,4 @@
-use Rattle.std.proofs.Common.{◌≡◌, ◌⊎◌, inl, inr, ◌∷◌, rules, arith, ap, length, sym, ◌∙◌}
+use Rattle.std.proofs.Common.{◌≡◌, inl, inr, ◌∷◌, rules, arith, ap, length, sym, ◌∙◌}
 use Rattle.fabric.specs.Fabric.{pass}
 use Rattle.fabric.specs.internal.Progress.{IsOwnJob}
 use Rattle.fabric.proofs.OwnJobs.{all_append}
