@@ -3,3 +3,4 @@ pub mod OwnJobs
 pub mod SameRuns
 pub mod Tracing
 pub mod Joining
+mod Serving

@@ -56,6 +56,12 @@ run_goes_on {S} {J} is_own step left s0 s1 job q0 before after some first leaves
     ∙ ap (send_first sent) (sym (run_some step s0 left job before.queue some))
     ∙ ap (λ q. send_first sent (run step left s0 q)) (sym first)
 
+-- the pass of one job that waits alone, where nothing was sent
+pub run_begins : {S J : Type 0} (is_own : J → Type 0) (step : S → J → PassEnd S J) (left : ℕ) (s0 s1 : S) (job : J) (before after : Progress J) → 0 < left → before ≡ record { queue = []; sent = [] } → Leaves is_own (step s0 job) s1 before after → send_first after.sent (run step (left - 1) s1 after.queue) ≡ run step left s0 (job ∷ [])
+run_begins is_own step left s0 s1 job before after some first leaves =
+    let begun = rw first at leaves in
+    run_goes_on is_own step left s0 s1 job (job ∷ []) (record { queue = []; sent = [] }) after some refl begun
+
 -- the end of the loop
 pub run_ends : {S J : Type 0} (step : S → J → PassEnd S J) (left : ℕ) (state : S) (queue : List J) (sent : List Out) → (left ≡ 0) ⊎ (queue ≡ []) → send_first sent (run step left state queue) ≡ record { state = state; sent = sent; cut = length queue }
 run_ends {S} {J} step left state queue sent (inl none) =

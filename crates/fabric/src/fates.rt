@@ -5,7 +5,9 @@ ghost use Rattle.fabric.specs.declared.items.Job.TheVariants.{Ordinary};
 ghost use Rattle.fabric.specs.Numbers.{IsBound};
 ghost use Rattle.fabric.specs.Fabric.{port_of, clone_of, ingress_clones, egress_clones, resubmitted, after_egress, after_ingress, pass, fabric};
 ghost use Rattle.fabric.specs.Owned.{IsOwnItem, IsOwnIngressNext};
-ghost use Rattle.fabric.specs.internal.Progress.{IsOwnJob, Leaves};
+ghost use Rattle.fabric.specs.Queue.{run, send_first};
+ghost use Rattle.fabric.specs.internal.Progress.{IsOwnJob, Leaves, left_at};
+ghost use Rattle.std.specs.List.{AllByRecursion};
 
 use crate::calls::Passes;
 use crate::items::{EgressNext, IngressNext, Item, Job};
@@ -211,11 +213,61 @@ fn make_pass<P: Passes>(
     }
 }
 
+/// The passes of what waits, and of what these passes queue, at most `most` of them. What still waits then stays in the queue.
+#[inline(never)]
+fn make_passes<P: Passes>(
+    alloc: Global,
+    passes: &mut P,
+    progress: &mut Progress<Job<P::Kept, P::Held>>,
+    sessions: &[Session],
+    from: u16,
+    most: u32,
+) -> Result<(), OutOfMemory>
+    requires sessions { AreSessions sessions.now }
+    requires from { IsPort from }
+    requires jobs { AllByRecursion (IsOwnJob (P.own (P.setting passes.old))) progress.old.queue }
+    ensures setting { OnOk result (P.setting passes.new ≡ P.setting passes.old) }
+    ensures runs { OnOk result (send_first progress.old.sent (run (pass (P.machine (P.setting passes.old)) sessions.now from) most (P.state passes.old) progress.old.queue) ≡ left_at (P.state passes.new) progress.new) }
+{
+    let mut left = most;
+    while left > 0 {
+        match progress.queue.pop() {
+            None => break,
+            Some(job) => {
+                left -= 1;
+                make_pass(alloc, passes, progress, sessions, from, job)?;
+            }
+        }
+    }
+    Ok(())
+}
+
+/// The passes of what waits, as [`make_passes`] makes them; most often nothing does.
+fn make_rest<P: Passes>(
+    alloc: Global,
+    passes: &mut P,
+    progress: &mut Progress<Job<P::Kept, P::Held>>,
+    sessions: &[Session],
+    from: u16,
+    most: u32,
+) -> Result<(), OutOfMemory>
+    requires sessions { AreSessions sessions.now }
+    requires from { IsPort from }
+    requires jobs { AllByRecursion (IsOwnJob (P.own (P.setting passes.old))) progress.old.queue }
+    ensures setting { OnOk result (P.setting passes.new ≡ P.setting passes.old) }
+    ensures runs { OnOk result (send_first progress.old.sent (run (pass (P.machine (P.setting passes.old)) sessions.now from) most (P.state passes.old) progress.old.queue) ≡ left_at (P.state passes.new) progress.new) }
+{
+    if progress.queue.is_empty() {
+        return Ok(());
+    }
+    make_passes(alloc, passes, progress, sessions, from, most)
+}
+
 /// What becomes of a packet that comes in: its passes, and those of all that comes of it, at most `bound` of them. What
 /// still waits then is cut.
 ///
 /// The octets of the arrival are copied once; from there on they are moved, and copied only where a clone and a
-/// resubmitted packet both need them. No memory is taken for the queue while one item waits at a time.
+/// resubmitted packet both need them. The first pass is made without the queue.
 ///
 /// # Errors
 /// It fails for want of memory alone, and then the passes are not used again.
@@ -244,17 +296,8 @@ pub fn serve<P: Passes>(
         queue: Queue::new(alloc),
         sent: Rows::new(alloc),
     };
-    progress.queue.push(Job::Ordinary(came))?;
-    let mut left = bound;
-    while left > 0 {
-        match progress.queue.pop() {
-            None => break,
-            Some(job) => {
-                left -= 1;
-                make_pass(alloc, passes, &mut progress, sessions, from, job)?;
-            }
-        }
-    }
+    make_ingress(alloc, passes, &mut progress, sessions, from, came)?;
+    make_rest(alloc, passes, &mut progress, sessions, from, bound - 1)?;
     let cut = progress.queue.count();
     Ok(Fate {
         sent: progress.sent,

@@ -1,5 +1,5 @@
 // The items that wait, in order.
-ghost use Rattle.std.specs.Prelude.{◌≡◌, ◌%◌, ◌^◌, List, [], ◌∷◌, ◌++◌, length, option_to_list, MatchOption, OnOk};
+ghost use Rattle.std.specs.Prelude.{◌≡◌, true, ◌%◌, ◌^◌, List, [], ◌∷◌, ◌++◌, length, MatchOption, OnOk};
 
 use p4x_bits::OutOfMemory;
 use std::alloc::Global;
@@ -7,20 +7,17 @@ use std::collections::VecDeque;
 use std::marker::Model;
 
 /// Items that wait, the first that was put there first. Contracts see the list of them.
-///
-/// An item that waits alone stands apart, so that no memory is taken for a queue of one.
 #[derive(Drop)]
 pub struct Queue<J: Drop> {
-    apart: Option<J>,
-    rest: VecDeque<J>,
+    waiting: VecDeque<J>,
 }
 
 impl<J: Drop> Model for Queue<J> {
-    ghost use Rattle.std.specs.Prelude.{List, ◌++◌, option_to_list};
+    ghost use Rattle.std.specs.Prelude.{List};
 
     ghost Value = { List J };
 
-    ghost view = { λ queue. option_to_list queue.apart ++ queue.rest.items };
+    ghost view = { λ queue. queue.waiting.items };
 }
 
 impl<J: Drop> Queue<J> {
@@ -29,20 +26,15 @@ impl<J: Drop> Queue<J> {
         ensures { result ≡ [] }
     {
         Queue {
-            apart: None,
-            rest: VecDeque::new(alloc),
+            waiting: VecDeque::new(alloc),
         }
     }
 
-    /// Puts an item behind all that wait. It takes no memory where nothing waits.
+    /// Puts an item behind all that wait. The one error is want of memory.
     pub fn push(&mut self, item: J) -> Result<(), OutOfMemory>
         ensures { OnOk result (self.new ≡ self.old ++ item ∷ []) }
     {
-        if self.apart.is_none() && self.rest.is_empty() {
-            self.apart = Some(item);
-        } else {
-            self.rest.push_back(item)?;
-        }
+        self.waiting.push_back(item)?;
         Ok(())
     }
 
@@ -50,21 +42,20 @@ impl<J: Drop> Queue<J> {
     pub fn pop(&mut self) -> Option<J>
         ensures { MatchOption result ((self.old ≡ []) × (self.new ≡ [])) (λ item. self.old ≡ item ∷ self.new) }
     {
-        match self.apart.take() {
-            Some(item) => Some(item),
-            None => self.rest.pop_front(),
-        }
+        self.waiting.pop_front()
+    }
+
+    /// Whether nothing waits.
+    pub fn is_empty(&self) -> bool
+        ensures { result ≡ true → self.now ≡ [] }
+    {
+        self.waiting.is_empty()
     }
 
     /// How many wait, modulo 2^64.
     pub fn count(&self) -> u64
         ensures { result ≡ length self.now % 2 ^ 64 }
     {
-        let rest = self.rest.len() as u64;
-        if self.apart.is_some() {
-            rest.wrapping_add(1)
-        } else {
-            rest
-        }
+        self.waiting.len() as u64
     }
 }

@@ -1,11 +1,11 @@
 -- What a pass does to the queue and to what was sent.
-use Rattle.std.specs.Prelude.{◌≡◌, ◌++◌}
+use Rattle.std.specs.Prelude.{◌≡◌, ◌++◌, length}
 use Rattle.std.specs.List.{AllByRecursion}
 use Rattle.state_store.specs.Ports.{IsPort}
 use Rattle.fabric.specs.declared.items.Job.{Job}
 use Rattle.fabric.specs.declared.items.Job.TheVariants.{Ordinary, IngressClone, EgressClone}
 use Rattle.fabric.specs.declared.fates.Progress.{Progress}
-use Rattle.fabric.specs.Queue.{PassEnd}
+use Rattle.fabric.specs.Queue.{PassEnd, Run}
 use Rattle.fabric.specs.Owned.{Own, IsOwnItem}
 
 -- what waits has a port and carries what is the runner's own
@@ -21,3 +21,7 @@ pub record Leaves {S J : Type 0} (is_own : J → Type 0) (ended : PassEnd S J) (
   pub queued : after.queue ≡ before.queue ++ ended.queued
   pub sent : after.sent ≡ before.sent ++ ended.sent
   pub owned : AllByRecursion is_own ended.queued
+
+-- what a run left that ends here: what still waits is cut
+abbrev pub left_at : {S J : Type 0} → S → Progress J → Run S
+left_at state progress = record { state = state; sent = progress.sent; cut = length progress.queue }
