@@ -1,5 +1,5 @@
 // Frames.
-ghost use Rattle.std.specs.Prelude.{◌≡◌, ℕ, ◌<◌, ◌≤◌, ◌^◌, if◌then◌else◌, not, false, length, replicate, slice_index, slice_index_or, IfOk, IsOk, OnOk, OnErr};
+ghost use Rattle.std.specs.Prelude.{◌≡◌, ℕ, ◌<◌, ◌≤◌, ◌^◌, if◌then◌else◌, not, false, length, replicate, slice_index, slice_index_or, true, IfOk, IsOk, OnOk, OnErr};
 ghost use Rattle.v1_sem.specs.Numbers.{is_same_truth};
 ghost use Rattle.v1_frames.specs.Cells.{Cells, owner_valid, is_live, slot_value, with_slot, header_valid, with_validity, stack_place, stack_size, with_stack_place, request_of, with_request, without_requests, with_event, without_events, new_cells, cleared_numbers, AreWhole};
 
@@ -16,7 +16,7 @@ use std::marker::Model;
 /// applications are this project's own).
 ///
 /// A field of an invalid header reads 0, and a write to it does nothing. The layout is lent: many frames have one. Only
-/// `of_layout`, `renewed`, `push_event` and `copy` take memory.
+/// `of_layout`, `push_event` and `copy` take memory.
 #[derive(Drop)]
 pub struct Frame<'l> {
     layout: &'l FrameLayout,
@@ -64,34 +64,25 @@ fn is_live(valids: &[bool], owner: Option<u32>) -> bool
     }
 }
 
-/// So many numbers that are 0, in this memory or in more.
-fn zero_numbers(room: Vec<u128>, count: usize) -> Result<Vec<u128>, OutOfMemory>
+/// So many numbers that are 0.
+fn zero_numbers(alloc: Global, count: usize) -> Result<Vec<u128>, OutOfMemory>
     ensures { IfOk result (λ numbers. numbers.items ≡ replicate count 0) }
 {
-    let mut numbers = room;
-    numbers.clear();
-    numbers.resize(count, 0)?;
-    Ok(numbers)
+    Ok(vec![in alloc; 0u128; count]?)
 }
 
-/// So many marks of headers that aren't valid, in this memory or in more.
-fn no_marks(room: Vec<bool>, count: usize) -> Result<Vec<bool>, OutOfMemory>
+/// So many marks of headers that aren't valid.
+fn no_marks(alloc: Global, count: usize) -> Result<Vec<bool>, OutOfMemory>
     ensures { IfOk result (λ marks. marks.items ≡ replicate count false) }
 {
-    let mut marks = room;
-    marks.clear();
-    marks.resize(count, false)?;
-    Ok(marks)
+    Ok(vec![in alloc; false; count]?)
 }
 
-/// So many places of stacks, all 0, in this memory or in more.
-fn first_places(room: Vec<u32>, count: usize) -> Result<Vec<u32>, OutOfMemory>
+/// So many places of stacks, all 0.
+fn first_places(alloc: Global, count: usize) -> Result<Vec<u32>, OutOfMemory>
     ensures { IfOk result (λ places. places.items ≡ replicate count 0) }
 {
-    let mut places = room;
-    places.clear();
-    places.resize(count, 0)?;
-    Ok(places)
+    Ok(vec![in alloc; 0u32; count]?)
 }
 
 /// Makes the numbers in the slots of a header 0.
@@ -123,9 +114,9 @@ impl<'l> Frame<'l> {
     pub fn of_layout(alloc: Global, layout: &'l FrameLayout) -> Result<Self, OutOfMemory>
         ensures { IfOk result (λ frame. frame ≡ new_cells layout.now) }
     {
-        let numbers = zero_numbers(Vec::new(alloc), layout.slots())?;
-        let valids = no_marks(Vec::new(alloc), layout.headers())?;
-        let places = first_places(Vec::new(alloc), layout.stacks())?;
+        let numbers = zero_numbers(alloc, layout.slots())?;
+        let valids = no_marks(alloc, layout.headers())?;
+        let places = first_places(alloc, layout.stacks())?;
         Ok(Frame {
             layout,
             numbers,
@@ -163,25 +154,25 @@ impl<'l> Frame<'l> {
         let _ = &self.layout;
     }
 
-    /// What `of_layout` gives of a layout, made in the memory of this frame. More is taken only where it had less room. The one error
-    /// is want of memory.
-    #[tactic(auto, using(crate::proofs::Frames::whole_first))]
-    pub fn renewed(self, layout: &'l FrameLayout) -> Result<Self, OutOfMemory>
-        ensures { IfOk result (λ frame. frame ≡ new_cells layout.now) }
+    /// Makes it what `of_layout` gives of a layout, where that has as many slots, headers and stacks; else nothing changes. It tells
+    /// whether it did. It takes no memory.
+    pub fn renew(&mut self, layout: &'l FrameLayout) -> bool
+        ensures made { result ≡ true → self.new ≡ new_cells layout.now }
+        ensures kept { result ≡ false → self.new ≡ self.old }
     {
-        let numbers = zero_numbers(self.numbers, layout.slots())?;
-        let valids = no_marks(self.valids, layout.headers())?;
-        let places = first_places(self.places, layout.stacks())?;
-        let mut events = self.events;
-        events.clear();
-        Ok(Frame {
-            layout,
-            numbers,
-            valids,
-            places,
-            requests: NO_REQUESTS,
-            events,
-        })
+        if self.numbers.len() != layout.slots()
+            || self.valids.len() != layout.headers()
+            || self.places.len() != layout.stacks()
+        {
+            return false;
+        }
+        self.layout = layout;
+        self.numbers.fill(0);
+        self.valids.fill(false);
+        self.places.fill(0);
+        self.requests = NO_REQUESTS;
+        self.events.clear();
+        true
     }
 
     /// The number in a slot; 0 in that of a field of an invalid header.
