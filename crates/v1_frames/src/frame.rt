@@ -1,13 +1,12 @@
 // Frames.
-ghost use Rattle.std.specs.Prelude.{◌≡◌, ℕ, ◌<◌, ◌≤◌, ◌^◌, if◌then◌else◌, not, false, length, replicate, slice_index, slice_index_or, IfOk, IsOk, OnOk, OnErr};
+ghost use Rattle.std.specs.Prelude.{◌≡◌, ℕ, ◌<◌, ◌≤◌, ◌^◌, if◌then◌else◌, not, false, length, replicate, slice_index, slice_index_or, true, IfOk, IsOk, OnOk, OnErr};
 ghost use Rattle.v1_sem.specs.Numbers.{is_same_truth};
-ghost use Rattle.v1_frames.specs.Cells.{Cells, owner_valid, is_live, slot_value, with_slot, header_valid, with_validity, stack_place, stack_size, with_stack_place, request_of, with_request, without_requests, with_event, without_events, new_cells, AreWhole};
+ghost use Rattle.v1_frames.specs.Cells.{Cells, owner_valid, is_live, slot_value, with_slot, header_valid, with_validity, stack_place, stack_size, with_stack_place, request_of, with_request, without_requests, with_event, without_events, new_cells, cleared_numbers, AreWhole};
 
-use crate::layout::FrameLayout;
+use crate::layout::{FrameLayout, HeaderSlots};
 use crate::requests::{Requests, get as request_of, with as with_request};
 use fabric::{Event, RequestKind};
 use p4x_bits::OutOfMemory;
-use packed_numbers::{Marks, PackedNumbers};
 use std::alloc::Global;
 use std::marker::Model;
 
@@ -21,22 +20,22 @@ use std::marker::Model;
 #[derive(Drop)]
 pub struct Frame<'l> {
     layout: &'l FrameLayout,
-    numbers: PackedNumbers<'l>,
-    valids: Marks,
+    numbers: Vec<u128>,
+    valids: Vec<bool>,
     places: Vec<u32>,
     requests: Requests,
     events: Vec<Event>,
 }
 
 impl<'l> Model for Frame<'l> {
-    ghost use Rattle.v1_frames.specs.Cells.{Cells};
-    ghost use Rattle.v1_frames.specs.internal.Parts.{cells_with, AreCells};
+    ghost use Rattle.v1_frames.specs.Cells.{Cells, AreWhole};
+    ghost use Rattle.v1_frames.specs.internal.Parts.{cells_with};
 
     ghost Value = { Cells };
 
-    ghost view = { λ f. cells_with f.layout.now f.numbers.numbers f.valids f.places.items f.requests f.events.items };
+    ghost view = { λ f. cells_with f.layout.now f.numbers.items f.valids.items f.places.items f.requests f.events.items };
 
-    ghost invariant = { λ f. AreCells f.layout.now f.numbers f.valids f.places.items };
+    ghost invariant = { λ f. AreWhole (cells_with f.layout.now f.numbers.items f.valids.items f.places.items f.requests f.events.items) };
 }
 
 /// No request of any kind.
@@ -56,20 +55,47 @@ fn differ(a: bool, b: bool) -> bool
 
 /// Whether the header of a slot is valid, where it has one; a number of no header counts as invalid.
 #[tactic(auto, using(crate::proofs::Frames::past_marks))]
-fn is_live(valids: &Marks, owner: Option<u32>) -> bool
+fn is_live(valids: &[bool], owner: Option<u32>) -> bool
     ensures { result ≡ owner_valid valids.now owner }
 {
     match owner {
-        Some(header) => (header as usize) < valids.len() && valids.get(header as usize),
+        Some(header) => (header as usize) < valids.len() && valids[header as usize],
         None => true,
     }
 }
 
+/// So many numbers that are 0.
+fn zero_numbers(alloc: Global, count: usize) -> Result<Vec<u128>, OutOfMemory>
+    ensures { IfOk result (λ numbers. numbers.items ≡ replicate count 0) }
+{
+    Ok(vec![in alloc; 0u128; count]?)
+}
+
+/// So many marks of headers that aren't valid.
+fn no_marks(alloc: Global, count: usize) -> Result<Vec<bool>, OutOfMemory>
+    ensures { IfOk result (λ marks. marks.items ≡ replicate count false) }
+{
+    Ok(vec![in alloc; false; count]?)
+}
+
 /// So many places of stacks, all 0.
-fn no_places(alloc: Global, count: usize) -> Result<Vec<u32>, OutOfMemory>
+fn first_places(alloc: Global, count: usize) -> Result<Vec<u32>, OutOfMemory>
     ensures { IfOk result (λ places. places.items ≡ replicate count 0) }
 {
     Ok(vec![in alloc; 0u32; count]?)
+}
+
+/// Makes the numbers in the slots of a header 0.
+#[tactic(auto, using(crate::proofs::Frames::nothing_cleared, crate::proofs::Frames::one_cleared_more, crate::proofs::Frames::zero_put))]
+fn clear(numbers: &mut [u128], slots: HeaderSlots)
+    requires order { slots.from ≤ slots.to }
+    requires within { slots.to ≤ length numbers.old }
+    ensures cleared { numbers.new ≡ cleared_numbers slots numbers.old }
+    ensures less { (i : ℕ) → slice_index numbers.new i ≤ slice_index numbers.old i }
+{
+    for slot in slots.from..slots.to {
+        numbers[slot] = 0;
+    }
 }
 
 /// What is set is what is got, and every other slot stays; a field of an invalid header reads 0, and a write to it changes
@@ -84,12 +110,13 @@ pub fn what_is_set_is_got()
 impl<'l> Frame<'l> {
     /// A frame with these parts in which all slots are 0, all headers are invalid, all stacks are at place 0, nothing is
     /// requested and no table was applied. The one error is want of memory.
+    #[tactic(auto, using(crate::proofs::Frames::whole_first))]
     pub fn of_layout(alloc: Global, layout: &'l FrameLayout) -> Result<Self, OutOfMemory>
         ensures { IfOk result (λ frame. frame ≡ new_cells layout.now) }
     {
-        let numbers = PackedNumbers::zeros(alloc, layout.widths())?;
-        let valids = Marks::none(alloc, layout.headers())?;
-        let places = no_places(alloc, layout.stacks())?;
+        let numbers = zero_numbers(alloc, layout.slots())?;
+        let valids = no_marks(alloc, layout.headers())?;
+        let places = first_places(alloc, layout.stacks())?;
         Ok(Frame {
             layout,
             numbers,
@@ -104,8 +131,8 @@ impl<'l> Frame<'l> {
     pub fn copy(&self, alloc: Global) -> Result<Self, OutOfMemory>
         ensures { IfOk result (λ frame. frame ≡ self.now) }
     {
-        let numbers = self.numbers.copy(alloc)?;
-        let valids = self.valids.copy(alloc)?;
+        let numbers = Vec::from_slice(alloc, &self.numbers)?;
+        let valids = Vec::from_slice(alloc, &self.valids)?;
         let places = Vec::from_slice(alloc, &self.places)?;
         let events = Vec::from_slice(alloc, &self.events)?;
         Ok(Frame {
@@ -124,7 +151,28 @@ impl<'l> Frame<'l> {
     pub fn is_whole(&self)
         ensures { AreWhole self.now }
     {
-        self.numbers.are_whole();
+        let _ = &self.layout;
+    }
+
+    /// Makes it what `of_layout` gives of a layout, where that has as many slots, headers and stacks; else nothing changes. It tells
+    /// whether it did. It takes no memory.
+    pub fn renew(&mut self, layout: &'l FrameLayout) -> bool
+        ensures made { result ≡ true → self.new ≡ new_cells layout.now }
+        ensures kept { result ≡ false → self.new ≡ self.old }
+    {
+        if self.numbers.len() != layout.slots()
+            || self.valids.len() != layout.headers()
+            || self.places.len() != layout.stacks()
+        {
+            return false;
+        }
+        self.layout = layout;
+        self.numbers.fill(0);
+        self.valids.fill(false);
+        self.places.fill(0);
+        self.requests = NO_REQUESTS;
+        self.events.clear();
+        true
     }
 
     /// The number in a slot; 0 in that of a field of an invalid header.
@@ -134,7 +182,7 @@ impl<'l> Frame<'l> {
         ensures fits { result < 2 ^ slice_index self.now.layout.widths slot }
     {
         if is_live(&self.valids, self.layout.owner(slot)) {
-            self.numbers.get(slot as usize)
+            self.numbers[slot as usize]
         } else {
             0
         }
@@ -147,7 +195,7 @@ impl<'l> Frame<'l> {
         ensures { self.new ≡ with_slot self.old slot value }
     {
         if is_live(&self.valids, self.layout.owner(slot)) {
-            self.numbers.put(slot as usize, value);
+            self.numbers[slot as usize] = value;
         }
     }
 
@@ -165,7 +213,7 @@ impl<'l> Frame<'l> {
         requires { header < length self.now.layout.headers }
         ensures { result ≡ header_valid self.now header }
     {
-        self.valids.get(header as usize)
+        self.valids[header as usize]
     }
 
     /// Makes a header valid or invalid. Where that changes its validity, its fields become 0, and else nothing changes.
@@ -174,10 +222,9 @@ impl<'l> Frame<'l> {
         requires { header < length self.old.layout.headers }
         ensures { self.new ≡ with_validity self.old header on }
     {
-        if differ(self.valids.get(header as usize), on) {
-            let slots = self.layout.header(header);
-            self.numbers.clear(slots.from, slots.to);
-            self.valids.put(header as usize, on);
+        if differ(self.valids[header as usize], on) {
+            clear(&mut self.numbers, self.layout.header(header));
+            self.valids[header as usize] = on;
         }
     }
 

@@ -4,7 +4,6 @@ ghost use Rattle.v1_frames.specs.Layouts.{no_slots, no_parts, with_lone_slot, wi
 
 use name_numbers::narrow;
 use p4x_bits::OutOfMemory;
-use packed_numbers::Widths;
 use std::alloc::Global;
 use std::marker::Model;
 
@@ -22,7 +21,7 @@ pub struct HeaderSlots {
 /// layout isn't used again.
 #[derive(Drop)]
 pub struct FrameLayout {
-    widths: Widths,
+    widths: Vec<u8>,
     owners: Vec<Option<u32>>,
     headers: Vec<HeaderSlots>,
     sizes: Vec<u32>,
@@ -34,9 +33,9 @@ impl Model for FrameLayout {
 
     ghost Value = { Layout };
 
-    ghost view = { λ l. layout_with l.widths l.owners.items l.headers.items l.sizes.items };
+    ghost view = { λ l. layout_with l.widths.items l.owners.items l.headers.items l.sizes.items };
 
-    ghost invariant = { λ l. AreParts l.widths l.owners.items l.headers.items };
+    ghost invariant = { λ l. AreParts l.widths.items l.owners.items l.headers.items };
 }
 
 impl FrameLayout {
@@ -45,7 +44,7 @@ impl FrameLayout {
         ensures { result ≡ no_parts }
     {
         FrameLayout {
-            widths: Widths::new(alloc),
+            widths: Vec::new(alloc),
             owners: Vec::new(alloc),
             headers: Vec::new(alloc),
             sizes: Vec::new(alloc),
@@ -59,20 +58,13 @@ impl FrameLayout {
         self.widths.len()
     }
 
-    /// The bits of each slot, and where it lies among the octets of a frame.
-    pub(crate) fn widths(&self) -> &Widths
-        ensures { result.now ≡ self.now.widths }
-    {
-        &self.widths
-    }
-
     /// The bits of a slot.
     pub fn width(&self, slot: u32) -> u8
         requires { slot < length self.now.widths }
         ensures is { result ≡ slice_index self.now.widths slot }
         ensures fits { result ≤ 128 }
     {
-        self.widths.get(slot as usize).width
+        self.widths[slot as usize]
     }
 
     /// The header of which a slot is a field, where it is one.

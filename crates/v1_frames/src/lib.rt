@@ -1,5 +1,5 @@
-//! The frame of a packet under a P4_16 program, packed: numbers, truth values and errors lie side by side in one run of
-//! octets, each header has one bit for its validity, and parts are named by their numbers. The layout is lent. All memory is taken by
+//! The frame of a packet under a P4_16 program, packed: its numbers, truth values and errors stand in one run, in cells of 128 bits,
+//! each header has a mark for its validity, and parts are named by their numbers. The layout is lent. All memory is taken by
 //! `Frame::of_layout`, but for copies and events, so that reading and writing take none.
 #![tactic(auto)]
 

@@ -1,9 +1,8 @@
 -- A layout and a frame by their parts.
-use Rattle.std.specs.Prelude.{◌≡◌, ℕ, ◌≤◌, Bool, List, length, slice_index, Option, All}
+use Rattle.std.specs.Prelude.{ℕ, ◌≤◌, Bool, List, length, Option, All}
 use Rattle.fabric.specs.declared.items.Event.{Event}
 use Rattle.fabric.specs.declared.items.RequestKind.{RequestKind}
 use Rattle.fabric.specs.declared.items.RequestKind.TheVariants.{CloneI2E, CloneE2E, Resubmit, Recirculate}
-use Rattle.packed_numbers.specs.Packing.{Packed}
 use Rattle.v1_sem.specs.Frames.{Request}
 use Rattle.v1_frames.specs.declared.layout.HeaderSlots.{HeaderSlots}
 use Rattle.v1_frames.specs.declared.requests.Requests.{Requests}
@@ -44,14 +43,8 @@ pub record AreWithin (count : ℕ) (s : HeaderSlots) : Type 0 where
   pub order : s.from ≤ s.to
   pub within : s.to ≤ count
 
--- each slot has an owner or none
+-- no slot has more than 128 bits, and each has an owner or none
 pub record AreParts (widths : List ℕ) (owners : List (Option ℕ)) (headers : List HeaderSlots) : Type 0 where
+  pub narrow : All (λ width. width ≤ 128) widths
   pub owned : length widths ≤ length owners
   pub slots : All (AreWithin (length widths)) headers
-
--- the numbers have the widths of the slots, each header has a mark, and each stack a place, at most its size
-pub record AreCells (layout : Layout) (numbers : Packed) (valids : List Bool) (places : List ℕ) : Type 0 where
-  pub widths : numbers.widths ≡ layout.widths
-  pub marked : length valids ≡ length layout.headers
-  pub placed : length places ≡ length layout.sizes
-  pub within : (i : ℕ) → slice_index places i ≤ slice_index layout.sizes i

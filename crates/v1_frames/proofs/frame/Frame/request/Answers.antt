@@ -6,5 +6,5 @@ use Rattle.v1_frames.proofs.frame.Frame.request.Goals as goal
 pub returns : goal.returns
 returns c =
     c.get.ensures
-    ∙ request_is c.self.inside.layout.now c.self.inside.numbers.numbers c.self.inside.valids c.self.inside.places.items c.self.inside.requests c.self.inside.events.items c.args.kind
+    ∙ request_is c.self.inside.layout.now c.self.inside.numbers.items c.self.inside.valids.items c.self.inside.places.items c.self.inside.requests c.self.inside.events.items c.args.kind
     ∙ ap (λ (x : Cells). request_of x c.args.kind) c.self.view_is

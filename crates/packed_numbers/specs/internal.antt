@@ -1,2 +1,0 @@
--- How the numbers are kept.
-pub mod Placed
