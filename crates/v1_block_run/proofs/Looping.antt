@@ -136,10 +136,11 @@ module _ (runs : ℕ → Moment → Applied) (b : ReadyBlock) (octets left : Lis
       subst (λ (u : List ℕ). Leads runs b (first ∷ before) after (moment f s left r) (moment new t u q) 0) end leads in
       subst (λ (u : List ℕ). Leads runs b (first ∷ before) after (moment f s u r) (moment new t (drop (parsed + taken) octets) q) 0) is at_end
 
-  pub runs_opened : (at : Level) (ran : Option ℕ) (place one taken : ℕ) (mid : List Task) → Opens b at ran place before one mid → Leads runs b (task.Run at one ran ∷ mid) after (moment f s left r) (moment new t (drop taken left) q) 0 → Leads runs b (task.Run at place ran ∷ before) after (moment f s (drop parsed octets) r) (moment new t (drop (parsed + taken) octets) q) 0
-  runs_opened at ran place one taken mid opened leads =
-      runs_task (task.Run at place ran) taken
-      (was_opened b at ran place before runs one mid after (moment f s left r) (moment new t (drop taken left) q) opened leads)
+  pub runs_opened : (next : Task) (at : Level) (ran : Option ℕ) (place one taken : ℕ) (mid : List Task) → next ≡ task.Run at place ran → Opens b at ran place before one mid → Leads runs b (task.Run at one ran ∷ mid) after (moment f s left r) (moment new t (drop taken left) q) 0 → Leads runs b (next ∷ before) after (moment f s (drop parsed octets) r) (moment new t (drop (parsed + taken) octets) q) 0
+  runs_opened next at ran place one taken mid same opened leads =
+      subst (λ (k : Task). Leads runs b (k ∷ before) after (moment f s (drop parsed octets) r) (moment new t (drop (parsed + taken) octets) q) 0) (sym same)
+      (runs_task (task.Run at place ran) taken
+      (was_opened b at ran place before runs one mid after (moment f s left r) (moment new t (drop taken left) q) opened leads))
 
 module _ (runs : ℕ → Moment → Applied) (b : ReadyBlock) (octets left : List ℕ) (parsed : ℕ) (f new : Cells) (s : Contents) (r : Run) (before : List Task) (is : left ≡ drop parsed octets) where
   pub returns_task : (place : ℕ) → AreThere (count_of b) before → Comes (ground_of b.code) (going_on (given_back (outgoing_at (trees_of b.code) place)) (moment f s left r)) (moment new s left r) → Leads runs b (task.Return place ∷ before) before (moment f s (drop parsed octets) r) (moment new s (drop parsed octets) r) 0

@@ -12,7 +12,7 @@ use work_stack::Stack;
 
 /// The same as `first_of`, for statements one behind the other.
 #[inline(never)]
-#[tactic(auto, using(crate::proofs::Opening::opens, crate::proofs::Opening::opens_first, crate::proofs::Opening::opens_last, crate::proofs::Opening::part_there))]
+#[tactic(auto, using(crate::proofs::Opening::opens, crate::proofs::Opening::part_there))]
 fn first_within(
     block: &ReadyBlock<'_>,
     level: Level,

@@ -81,7 +81,7 @@ fn behind(octets: &[u8], parsed: usize) -> &[u8]
 
 /// A task is done, or others take its place; so many octets are parsed, and it gives how many are then. The one error is want of
 /// memory, after which frame, store and run are not used again.
-#[tactic(auto, using(crate::proofs::Looping::runs_opened, crate::proofs::Looping::returns_task))]
+#[tactic(auto, using(crate::proofs::Looping::returns_task))]
 fn run_task<T: Tables>(
     block: &ReadyBlock<'_>,
     tables: &T,
