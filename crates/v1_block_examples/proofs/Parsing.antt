@@ -17,7 +17,7 @@ use Rattle.v1_ready_states.specs.declared.states.ReadyParser.{ReadyParser}
 use Rattle.v1_ready_states.specs.declared.states.ReadyState.{ReadyState}
 use Rattle.v1_ready_steps.specs.declared.code.Code.{Code}
 use Rattle.v1_ready_steps.specs.Steps.{expressions_in, ground_of, trees_of}
-use Rattle.v1_parse_run.specs.Made.{FitsParser, FitsState, HoldsErrors}
+use Rattle.v1_parse_run.specs.Made.{FitsState, HoldsErrors}
 use Rattle.v1_parse_run.specs.declared.machine.ParserMachine.{ParserMachine}
 use Rattle.v1_parse_run.specs.Working.{Works}
 use Rattle.v1_parse_run.specs.Made as made

@@ -33,7 +33,7 @@ use Rattle.v1_parser_laws.specs.Shown.{Shows}
 use Rattle.v1_parser_laws.specs.Laws.{ParseShows}
 use Rattle.v1_control_run.specs.declared.prepared.Prepared.{Prepared}
 use Rattle.v1_control_run.specs.declared.runners.Runners.{Runners}
-use Rattle.v1_control_run.specs.Prepared.{DoesControl, DoesParser, IsGroundOf, IsPrepared, objects_of, setting_of}
+use Rattle.v1_control_run.specs.Prepared.{DoesControl, IsGroundOf, IsPrepared, objects_of, setting_of}
 use Rattle.v1_control_run.specs.internal.Runs.{AreRunners, CanBegin, HasEnded, IsReady, RunsBlock, begun_run, filled_of}
 use Rattle.v1_control_run.proofs.Fixed.{begins_so, fixed, fixed_silently}
 

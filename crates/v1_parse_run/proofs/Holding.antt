@@ -1,5 +1,5 @@
 -- What a parser does on a packet keeps its machine at work, and makes the moment that is due.
-use Rattle.std.proofs.Common.{◌≡◌, ℕ, ◌<◌, ◌≤◌, List, Bool, length, drop, Option, Some, None, refl, sym, ap, subst, ◌∙◌, arith}
+use Rattle.std.proofs.Common.{◌≡◌, ℕ, ◌<◌, ◌≤◌, List, Bool, length, Option, Some, None, refl, sym, ap, subst, ◌∙◌, arith}
 use Rattle.node_lists.proofs.Growth as growth
 use Rattle.state_store.specs.State.{Contents}
 use Rattle.v1_sem.specs.declared.parser_error.ParserError.{ParserError}
@@ -12,15 +12,15 @@ use Rattle.v1_ready_selects.specs.declared.rows.ReadyTransition.{ReadyTransition
 use Rattle.v1_ready_selects.specs.Selects.{FitsTransition, Transition, lead}
 use Rattle.v1_ready_blocks.specs.declared.places.Range.{Range}
 use Rattle.v1_ready_blocks.specs.Blocks.{parser_run}
-use Rattle.v1_ready_blocks.specs.Moments.{Moment, raised, ticked}
-use Rattle.v1_ready_blocks.specs.Nodes.{Ground, IsRange, statement_at, tree_of}
+use Rattle.v1_ready_blocks.specs.Moments.{Moment, raised}
+use Rattle.v1_ready_blocks.specs.Nodes.{IsRange, statement_at, tree_of}
 use Rattle.v1_ready_blocks.specs.Places.{emptied}
 use Rattle.v1_ready_blocks.specs.Statements.{run}
 use Rattle.v1_ready_blocks.specs.Tests.{no_table_applies}
 use Rattle.v1_ready_externs.specs.declared.run.Run.{Run}
 use Rattle.v1_ready_externs.specs.Seen.{moment, seen_hit}
 use Rattle.v1_ready_states.specs.States.{with_headers_empty}
-use Rattle.v1_ready_steps.specs.Steps.{Comes, IsOver, expressions_in, first_error, ground_of, stopped_by, trees_of}
+use Rattle.v1_ready_steps.specs.Steps.{Comes, expressions_in, first_error, ground_of, stopped_by, trees_of}
 use Rattle.v1_parse_run.specs.Made.{HoldsErrors}
 use Rattle.v1_block_run.specs.declared.tasks.Level.TheVariants as level
 use Rattle.v1_block_run.specs.declared.block.ReadyBlock.{ReadyBlock}

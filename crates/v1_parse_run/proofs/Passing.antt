@@ -18,7 +18,7 @@ use Rattle.v1_ready_externs.specs.Seen.{moment}
 use Rattle.v1_ready_states.specs.declared.states.ReadyState.{ReadyState}
 use Rattle.v1_ready_states.specs.declared.states.ReadyParser.{ReadyParser}
 use Rattle.v1_ready_states.specs.Rows.{state_of}
-use Rattle.v1_ready_states.specs.States.{State, Parser, Onward, finished, passed, in_state, parse_from, parse_ended, ready_parse, run_states, to_led, with_headers_empty}
+use Rattle.v1_ready_states.specs.States.{State, Parser, finished, passed, in_state, parse_from, parse_ended, ready_parse, run_states, to_led, with_headers_empty}
 use Rattle.v1_ready_steps.specs.Steps.{ground_of, stopped_by}
 use Rattle.v1_parse_run.specs.Made.{Made, made_parser, made_states, shown_onward}
 use Rattle.v1_block_run.specs.declared.block.ReadyBlock.{ReadyBlock}

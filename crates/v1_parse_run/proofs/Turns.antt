@@ -1,7 +1,7 @@
 -- Turns of the loop over states.
-use Rattle.std.proofs.Common.{◌≡◌, ℕ, suc, ◌+◌, ◌-◌, ◌<◌, Bool, true, false, cond, List, slice_get, Option, Some, None, refl, sym, ap, ◌∙◌, arith}
+use Rattle.std.proofs.Common.{◌≡◌, ℕ, suc, ◌+◌, ◌-◌, ◌<◌, Bool, true, false, cond, List, slice_get, Option, Some, None, sym, ap, ◌∙◌, arith}
 use Rattle.v1_ready_blocks.specs.Moments.{Moment, is_stopped}
-use Rattle.v1_ready_states.specs.States.{State, Onward, onward, finished, from_state, followed, parse_from}
+use Rattle.v1_ready_states.specs.States.{State, from_state, followed, parse_from}
 use Rattle.v1_parse_run.specs.Made.{shown_onward}
 
 module _ (rows : List State) (most i number : ℕ) (m : Moment) (due : Moment) (lt : i < most) (so : parse_from rows (most - i) number m ≡ due) where

@@ -200,6 +200,15 @@ pub fn parse_ready(
     empty(frame, parser.headers);
     let most = most_states(behind(octets, machine.parsed), states);
     run_body(code, octets, parser.variables, frame, store, machine)?;
-    run_states(code, octets, states, parser.first, most, frame, store, machine)?;
+    run_states(
+        code,
+        octets,
+        states,
+        parser.first,
+        most,
+        frame,
+        store,
+        machine,
+    )?;
     Ok(end(frame, &mut machine.run, parser.error))
 }
