@@ -1,7 +1,10 @@
 -- A reader that is fed a further piece.
-use Rattle.std.proofs.Common.{◌≡◌, ℕ, zero, suc, ◌+◌, ◌<◌, ◌≤◌, Bool, true, false, nat_lt, List, [], ◌∷◌, ◌++◌, length, drop, slice_get, Option, None, Some, Result, Ok, Err, refl, sym, ap, subst, ◌∙◌, arith, length-append}
+use Rattle.std.proofs.Common.{◌≡◌, ℕ, zero, suc, ◌+◌, ◌-◌, ◌<◌, ◌≤◌, Bool, true, false, nat_lt, List, [], ◌∷◌, ◌++◌, length, take, drop, slice_get, Option, None, Some, Result, Ok, Err, refl, sym, ap, subst, ◌∙◌, arith, zero-add, length-append, length-drop}
 use Rattle.std.proofs.lemmas.Bool.Decides.{nat_tests}
-use Rattle.std.proofs.lemmas.List.{drop-append-le, drop-drop}
+use Rattle.std.specs.List.{copy_within}
+use Rattle.std.proofs.Math.Seq.{paste}
+use Rattle.std.proofs.lemmas.List.{drop-append-le, drop-drop, take_all}
+use Rattle.std.proofs.lemmas.List.Edits.{take-paste}
 use Rattle.p4x_fault.specs.declared.Fault.{Fault}
 use Rattle.pcap_io.specs.declared.head.Head.{Head}
 use Rattle.pcap_io.specs.declared.records.Record.{Record}
@@ -136,3 +139,14 @@ reading_left xs = by_size (nat_lt (length xs) 24) refl
 
 pub left_read : (xs : List ℕ) (taken : ℕ) (reader : Reading) → HasRead xs taken reader → length reader.left < 16 + longest_record
 left_read xs taken reader read = let Q : Reading → Type 0 = λ r. length r.left < 16 + longest_record in subst Q (sym read.holds) (reading_left xs)
+
+-- what stands behind a place, copied to the front
+
+pub moved_down : (xs : List ℕ) (size left : ℕ) → size ≤ length xs → left + size ≡ length xs → take left (copy_within xs size (length xs) 0) ≡ drop size xs
+moved_down xs size left within is =
+    let long : left ≡ length (drop size xs) = omega (arith, is, length-drop size xs) in
+    let many : length xs - size ≡ left = omega (arith, is) in
+    ap (λ (n : ℕ). take left (paste xs 0 (drop size xs) n)) many
+    ∙ ap (λ (n : ℕ). take n (paste xs 0 (drop size xs) left)) (sym (zero-add left))
+    ∙ take-paste xs 0 (drop size xs) left (omega arith) (omega (arith, long))
+    ∙ take_all left (drop size xs) (omega (arith, long))

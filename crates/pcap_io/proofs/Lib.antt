@@ -6,3 +6,4 @@ pub mod Feeding
 pub mod Arriving
 pub mod Written
 pub mod Numbered
+pub mod Drawing

@@ -30,6 +30,15 @@ fed_by None reader piece = behind reader.records (read_on reader.head (reader.le
 abbrev pub fed : Reading → List ℕ → Reading
 fed reader piece = fed_by reader.fault reader piece
 
+-- what the octets are read as that a reader with this fault, or without one, has left, behind the records that it has
+abbrev pub rest_by : Option Fault → Reading → Reading
+rest_by (Some fault) reader = reader
+rest_by None reader = behind reader.records (read_on reader.head reader.left)
+
+-- the same of a reader that makes its records one by one: what it is to have given once nothing is left to read
+abbrev pub rest_of : Reading → Reading
+rest_of reader = rest_by reader.fault reader
+
 -- what a call answers that takes no memory
 abbrev pub answer : Option Fault → Result (Unit {0}) CaptureFault
 answer None = Ok tt

@@ -2,7 +2,7 @@
 //!
 //! A capture is a file of recorded packets in the libpcap file format, pcap-savefile(5), in either order
 //! of octets, with microseconds or nanoseconds. It is read whole by `read_capture`, or in pieces by
-//! `CaptureReader`. A refusal names the first rule that the file breaks:
+//! `CaptureReader`, which holds the records that weren't taken, or by `RecordReader`, which makes each as it is asked for it. A refusal names the first rule that the file breaks:
 //!
 //! - K1: it has fewer than 24 octets.
 //! - K2: it has another magic number.
@@ -16,6 +16,7 @@
 
 mod arrivals;
 mod capture;
+mod drawn;
 mod faults;
 mod head;
 mod headers;
@@ -27,6 +28,7 @@ mod records;
 
 pub use arrivals::arrive;
 pub use capture::{Capture, read_capture};
+pub use drawn::RecordReader;
 pub use faults::{CaptureFault, PortFault};
 pub use headers::{file_header, record_header};
 pub use ports::{Ports, read_ports};

@@ -49,7 +49,7 @@ fn read_records(
 }
 
 /// How far octets are read that begin with no whole record at a place.
-fn progress_at(head: Head, octets: &[u8], place: usize) -> Progress
+pub(crate) fn progress_at(head: Head, octets: &[u8], place: usize) -> Progress
     requires { place ≤ length octets.now }
     ensures read { (records : List Record)
         → behind records (ending head (drop place octets.now)) ≡ held result records octets.now }

@@ -157,12 +157,15 @@ impl CaptureReader {
     }
 }
 
-/// Takes octets off the front.
-fn drop_front(octets: &mut Vec<u8>, size: usize)
+/// Takes octets off the front. What is left is less than a record where this is called, so it is what is copied.
+#[tactic(auto, using(crate::proofs::Feeding::moved_down))]
+pub(crate) fn drop_front(octets: &mut Vec<u8>, size: usize)
     requires { size ≤ length octets.old.items }
     ensures { octets.new.items ≡ drop size octets.old.items }
 {
-    octets.drain(..size);
+    let left = octets.len() - size;
+    octets.copy_within(size.., 0);
+    octets.truncate(left);
 }
 
 /// What a call answers where there is a fault, and where there is none.

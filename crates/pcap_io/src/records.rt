@@ -9,7 +9,7 @@ use std::alloc::Global;
 use std::collections::VecDeque;
 
 /// How many octets a record header has.
-const RECORD_HEADER: usize = 16;
+pub(crate) const RECORD_HEADER: usize = 16;
 
 /// The greatest captured length of a record. (This project's own.)
 pub const LONGEST_RECORD: u32 = 65_535;
@@ -35,7 +35,7 @@ pub(crate) fn is_too_long(order: Order, octets: &[u8]) -> bool
 
 /// The captured octets of the record that the octets begin with, or None where that isn't whole.
 #[tactic(auto, unfolding(crate::specs::Captures::is_whole))]
-fn first_captured(order: Order, octets: &[u8]) -> Option<&[u8]>
+pub(crate) fn first_captured(order: Order, octets: &[u8]) -> Option<&[u8]>
     ensures whole { IfSome result (λ captured. is_whole order octets.now ≡ true) }
     ensures captured { IfSome result (λ captured.
         captured.now ≡ take (captured_length order octets.now) (drop 16 octets.now)) }

@@ -67,3 +67,11 @@ ran_one {C = C} outcome one old a ports outs cut work store new a_is ports_are o
     ∙ ap (λ (s : C). viewed (with_outs a o.sent (with_arrival o.cut old.held)) s work) store_is
     ∙ ap (λ (n : ℕ). viewed (with_outs a o.sent (with_arrival o.cut old.held)) o.store n) work_is
     ∙ ap (λ (b : Arrival). with_outcome b (outcome old.store b) old) a_is
+
+-- A line of the report is put behind those that are there in two parts: its word, and its numbers with the line feed.
+pub line_is : (report worded whole word numbers port size : List ℕ) → numbers ≡ port ++ 32 ∷ (size ++ 10 ∷ []) → worded ≡ report ++ word → whole ≡ worded ++ numbers
+    → whole ≡ report ++ ((word ++ port) ++ (32 ∷ size) ++ 10 ∷ [])
+line_is report worded whole word numbers port size is one two =
+    two ∙ ap (λ (l : List ℕ). l ++ numbers) one ∙ ap (λ (l : List ℕ). (report ++ word) ++ l) is
+    ∙ append_assoc report word (port ++ 32 ∷ (size ++ 10 ∷ []))
+    ∙ ap (λ (l : List ℕ). report ++ l) (sym (append_assoc word port (32 ∷ (size ++ 10 ∷ []))) ∙ sym (append_assoc (word ++ port) (32 ∷ size) (10 ∷ [])))

@@ -1,15 +1,16 @@
 -- Runs over captures that come in pieces.
-use Rattle.std.proofs.Common.{◌≡◌, ℕ, zero, suc, Bool, true, false, nat_lt, All, List, [], ◌∷◌, ◌++◌, length, drop, slice_get, Option, Some, None, Result, Ok, Err, refl, sym, ◌∙◌, ap, subst, arith, append_assoc}
+use Rattle.std.proofs.Common.{◌≡◌, ◌<◌, ℕ, Bool, true, false, nat_lt, All, List, [], ◌∷◌, ◌++◌, length, drop, Option, Some, None, Result, Ok, Err, refl, sym, ◌∙◌, ap, subst, arith, append_assoc}
 use Rattle.std.specs.List.{flat_map}
 use Rattle.std.proofs.lemmas.List.{append-nil}
+use Rattle.std.proofs.lemmas.List.Elements.{All-cons}
 use Rattle.std.proofs.lemmas.Bool.Decides.{nat_tests}
 use Rattle.p4x_fault.specs.declared.Fault.{Fault as Refusal}
 use Rattle.fabric.specs.declared.packets.Arrival.{Arrival}
 use Rattle.fabric.specs.declared.packets.Out.{Out}
 use Rattle.pcap_io.specs.declared.head.Head.{Head}
 use Rattle.pcap_io.specs.declared.records.Record.{Record}
-use Rattle.pcap_io.specs.Captures.{Reading, reading_of, records_in, head_of, opened, IsRecord, arrival_of}
-use Rattle.pcap_io.specs.Reader.{fed, fed_by, read_on, taken_from}
+use Rattle.pcap_io.specs.Captures.{Reading, reading_of, records_in, head_of, opened, behind, IsRecord, arrival_of}
+use Rattle.pcap_io.specs.Reader.{fed, fed_by, read_on, rest_of}
 use Rattle.pcap_io.specs.Sent.{file_header_of}
 use Rattle.pcap_io.proofs.Feeding.{fed_more}
 use Rattle.pcap_io.proofs.Growing.{records_head}
@@ -141,40 +142,37 @@ module _ {C : Type 0} (outcome : C → Arrival → Outcome C) (store : C) (ports
 
 -- What a loop over the records of a reader keeps.
 
-first_in : (records : List Record) (one : Record) → Some one ≡ slice_get records 0 → records ≡ one ∷ drop 1 records
-first_in [] one is = absurd (cc)
-first_in (x ∷ records) one is = let same : x ≡ one = cc in ap (λ (y : Record). y ∷ records) same
-
-pub turn_ran : {C : Type 0} → (outcome : C → Arrival → Outcome C) (old new : Reading) (one : Record) (v w : View C) → Some one ≡ slice_get old.records 0 → new ≡ taken_from 1 old → w ≡ after_one outcome one v
-    → after_all outcome new.records w ≡ after_all outcome old.records v
+pub turn_ran : {C : Type 0} → (outcome : C → Arrival → Outcome C) (old new : Reading) (one : Record) (v w : View C) → rest_of old ≡ behind (one ∷ []) (rest_of new) → w ≡ after_one outcome one v
+    → after_all outcome (rest_of new).records w ≡ after_all outcome (rest_of old).records v
 unfolding after_all
-turn_ran outcome old new one v w first rest ran =
-    ap (λ (r : Reading). after_all outcome r.records w) rest
-    ∙ ap (after_all outcome (drop 1 old.records)) ran
-    ∙ ap (λ (l : List Record). after_all outcome l v) (sym (first_in old.records one first))
+turn_ran outcome old new one v w taken ran =
+    ap (after_all outcome (rest_of new).records) ran ∙ sym (ap (λ (r : Reading). after_all outcome r.records v) taken)
 
-pub turn_rest : (old new : Reading) → new ≡ taken_from 1 old → drained new ≡ drained old
-turn_rest old new rest = ap drained rest
+pub turn_rest : (old new : Reading) (one : Record) → rest_of old ≡ behind (one ∷ []) (rest_of new) → drained (rest_of new) ≡ drained (rest_of old)
+turn_rest old new one taken = sym (ap drained taken)
 
-known_before : (records : List Record) (one : Record) → Some one ≡ slice_get records 0 → IsRecord one → All IsRecord (drop 1 records) → All IsRecord records
-known_before [] one first is rest = absurd (cc)
-known_before (x ∷ records) one first is rest = by_place
-  where
-    same : one ≡ x
-    same = cc first
+pub turn_known : (old new : Reading) (one : Record) → rest_of old ≡ behind (one ∷ []) (rest_of new) → IsRecord one → All IsRecord (rest_of new).records → All IsRecord (rest_of old).records
+turn_known old new one taken is known = subst (λ (r : Reading). All IsRecord r.records) (sym taken) (All-cons IsRecord one (rest_of new).records is known)
 
-    by_place : All IsRecord (x ∷ records)
-    by_place zero d inside = subst IsRecord same is
-    by_place (suc k) d inside = rest k d (omega arith)
-
-pub turn_known : (old new : Reading) (one : Record) → Some one ≡ slice_get old.records 0 → new ≡ taken_from 1 old → IsRecord one → All IsRecord new.records → All IsRecord old.records
-turn_known old new one first rest is known = known_before old.records one first is (subst (λ (r : Reading). All IsRecord r.records) rest known)
+pub turn_falls : (old new : Reading) (one : Record) → rest_of old ≡ behind (one ∷ []) (rest_of new) → length (rest_of new).records < length (rest_of old).records
+turn_falls old new one taken = omega (arith, ap (λ (r : Reading). length r.records) taken)
 
 -- no record is left
-pub none_left : {C : Type 0} → (outcome : C → Arrival → Outcome C) (reader : Reading) (v : View C) → None ≡ slice_get reader.records 0 → after_all outcome reader.records v ≡ v
+pub none_left : {C : Type 0} → (outcome : C → Arrival → Outcome C) (old new : Reading) (v : View C) → rest_of old ≡ new → new.records ≡ [] → after_all outcome (rest_of old).records v ≡ v
 unfolding after_all
-none_left outcome reader v none = ap (λ (l : List Record). after_all outcome l v) (no_first reader.records none)
-  where
-    no_first : (records : List Record) → None ≡ slice_get records 0 → records ≡ []
-    no_first [] is = refl
-    no_first (x ∷ records) is = absurd (cc)
+none_left outcome old new v left none = ap (λ (l : List Record). after_all outcome l v) (ap (λ (r : Reading). r.records) left ∙ none)
+
+pub left_known : (old new : Reading) → rest_of old ≡ new → new.records ≡ [] → All IsRecord (rest_of old).records
+left_known old new left none =
+    let P : List Record → Type 0 = λ l. All IsRecord l in
+    subst P (sym (ap (λ (r : Reading). r.records) left ∙ none)) (λ k d inside. absurd (omega arith))
+
+pub left_drained : (first old new : Reading) → drained (rest_of old) ≡ drained (rest_of first) → rest_of old ≡ new → new.records ≡ [] → new ≡ drained (rest_of first)
+left_drained first old new rest left none =
+    ap (λ (l : List Record). let r : Reading = record new { records = l } in r) none ∙ ap drained (sym left) ∙ rest
+
+-- what a further piece comes to, by what the reader holds once it was fed
+pub fed_ran : {C : Type 0} → (outcome : C → Arrival → Outcome C) (read : Reading) (whole : Reading) (head : Option Head) (v w x : View C)
+    → rest_of read ≡ whole → head ≡ whole.head → w ≡ begun head v → x ≡ after_all outcome (rest_of read).records w → x ≡ after_all outcome whole.records (begun whole.head v)
+fed_ran outcome read whole head v w x is head_is begins ran =
+    ran ∙ ap (λ (r : Reading). after_all outcome r.records w) is ∙ ap (after_all outcome whole.records) begins ∙ ap (λ (h : Option Head). after_all outcome whole.records (begun h v)) head_is

@@ -16,7 +16,7 @@ use crate::runner::Runner;
 use crate::stream::{Stream, end_part};
 use file_work::{Limited, Stop};
 use p4x_io::{Desk, PIECE, append_all, has_octet};
-use pcap_io::{CaptureFault, CaptureReader};
+use pcap_io::{CaptureFault, RecordReader};
 use std::alloc::Global;
 
 /// The most octets of a capture.
@@ -52,7 +52,7 @@ fn flush<D: Desk>(desk: &mut D, names: &RunNames<'_>, stream: &mut Stream<'_>) -
         ⊎ Rose ((D.view desk.old).writes names.now.report.now) ((D.view desk.new).writes names.now.report.now)) }
 {
     append_all(desk, names.sent, &stream.sent)?;
-    append_all(desk, names.report, stream.report.as_bytes())?;
+    append_all(desk, names.report, &stream.report)?;
     stream.sent.clear();
     stream.report.clear();
     Ok(())
@@ -64,7 +64,7 @@ fn run_piece<D: Desk, R: Runner>(
     names: &RunNames<'_>,
     runner: &mut R,
     piece: &[u8],
-    reader: &mut CaptureReader,
+    reader: &mut RecordReader,
     stream: &mut Stream<'_>,
 ) -> Result<(), Stop>
     requires ports { All IsPort stream.old.ports.now }
@@ -93,7 +93,7 @@ fn run_pieces<D: Desk, R: Runner>(
     desk: &mut D,
     names: &RunNames<'_>,
     runner: &mut R,
-    reader: &mut CaptureReader,
+    reader: &mut RecordReader,
     stream: &mut Stream<'_>,
 ) -> Result<(), Stop>
     requires ports { All IsPort stream.old.ports.now }
@@ -126,7 +126,7 @@ fn run_pieces<D: Desk, R: Runner>(
 }
 
 // The rule that a capture breaks at its end, which is its refusal.
-fn end_capture(reader: &CaptureReader) -> Result<(), Stop>
+fn end_capture(reader: &RecordReader) -> Result<(), Stop>
     ensures ends { OnOk result (refusal_in reader.now ≡ None) }
     ensures refused { IfErr result (λ e. (fault : Refusal) × (refusal_in reader.now ≡ Some fault) × (e ≡ Stop.Refused fault)) }
 {
@@ -186,7 +186,7 @@ pub fn run_capture<D: Desk, R: Runner>(
     if has_octet(desk, names.capture, CAPTURE_LIMIT)? {
         return Err(Stop::Limit(Limited::Capture));
     }
-    let mut reader = CaptureReader::new(alloc);
+    let mut reader = RecordReader::new(alloc);
     let mut stream = Stream::new(alloc, ports);
     run_pieces(desk, names, runner, &mut reader, &mut stream)?;
     end_capture(&reader)?;

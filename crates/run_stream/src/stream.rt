@@ -1,22 +1,25 @@
 // The run over a capture that is read in pieces.
-ghost use Rattle.std.specs.Prelude.{◌≡◌, ◌∷◌, [], ◌≤◌, string_bytes, All, IfOk, OnOk};
+ghost use Rattle.std.specs.Prelude.{◌≡◌, ◌+◌, ◌≤◌, ◌∷◌, ◌++◌, [], length, drop, codes, All, IfOk, OnOk};
+ghost use Rattle.std.specs.Fmt.{decimal};
 ghost use Rattle.state_store.specs.Ports.{IsPort};
 ghost use Rattle.pcap_io.specs.Captures.{IsRecord};
-ghost use Rattle.pcap_io.specs.Reader.{fed, taken_from};
+ghost use Rattle.pcap_io.specs.Reader.{fed, rest_of};
 ghost use Rattle.run_stream.specs.Reports.{count_lines, end_part};
 ghost use Rattle.run_stream.specs.internal.Streams.{held_of, view_of, empty, headed_by, begun, with_out, with_outs, after_one, after_all, drained};
 
 use crate::counts::Counts;
 use crate::runner::Runner;
 use fabric::{Arrival, Out};
+use itoa::write_digits;
 use p4x_bits::{Octets, OutOfMemory};
 use p4x_fault::Fault;
-use pcap_io::{CaptureFault, CaptureReader, Record, arrive, file_header, record_header};
+use pcap_io::{Record, RecordReader, arrive, file_header, record_header};
 use std::alloc::Global;
 
 /// A run that goes on, with what it hasn't appended yet to the sent file and the report.
 #[derive(Drop)]
 pub struct Stream<'a> {
+    alloc: Global,
     /// The ports of the packets that are still to come.
     pub ports: &'a [u128],
     /// Whether the file header of the sent file was written.
@@ -26,7 +29,7 @@ pub struct Stream<'a> {
     /// What isn't appended yet to the sent file.
     pub sent: Vec<u8>,
     /// The lines that aren't appended yet to the report.
-    pub report: String,
+    pub report: Vec<u8>,
 }
 
 impl<'a> Stream<'a> {
@@ -35,6 +38,7 @@ impl<'a> Stream<'a> {
         ensures { held_of result ≡ empty ports.now }
     {
         Stream {
+            alloc,
             ports,
             headed: false,
             counts: Counts {
@@ -43,12 +47,12 @@ impl<'a> Stream<'a> {
                 cut: 0,
             },
             sent: Vec::new(alloc),
-            report: String::new(alloc),
+            report: Vec::new(alloc),
         }
     }
 
     // Writes the file header as soon as that of the capture is known.
-    fn begin(&mut self, reader: &CaptureReader) -> Result<(), OutOfMemory>
+    fn begin(&mut self, reader: &RecordReader) -> Result<(), OutOfMemory>
         ensures begun { OnOk result (held_of self.new ≡ headed_by reader.now.head (held_of self.old)) }
         ensures ports { self.new.ports.now ≡ self.old.ports.now }
     {
@@ -74,7 +78,7 @@ impl<'a> Stream<'a> {
         let header = record_header(arrival.seconds, arrival.fraction, length);
         self.sent.extend_from_slice(&header)?;
         self.sent.extend_from_slice(octets)?;
-        writeln!(self.report, "sent {port} {size}")?;
+        put_line(&mut self.report, port, size)?;
         Ok(())
     }
 
@@ -90,8 +94,8 @@ impl<'a> Stream<'a> {
         Ok(())
     }
 
-    // A packet comes in on the next port and is run.
-    fn run<R: Runner>(&mut self, runner: &mut R, one: Record) -> Result<(), OutOfMemory>
+    // A packet comes in on the next port and is run. Its octets are handed back, for the memory that they have.
+    fn run<R: Runner>(&mut self, runner: &mut R, one: Record) -> Result<Octets, OutOfMemory>
         requires known { IsRecord one }
         requires ports { All IsPort self.old.ports.now }
         ensures setting { OnOk result (R.setting runner.new ≡ R.setting runner.old) }
@@ -104,24 +108,25 @@ impl<'a> Stream<'a> {
         self.counts.arrivals = self.counts.arrivals.wrapping_add(1);
         self.counts.cut = self.counts.cut.wrapping_add(fate.cut);
         self.send_all(&arrival, fate.sent.as_slice())?;
-        Ok(())
+        Ok(arrival.octets)
     }
 
-    // The packets of all records that the reader has come in.
+    // The packets of all whole records come in that the reader has octets of.
     fn run_all<R: Runner>(
         &mut self,
         runner: &mut R,
-        reader: &mut CaptureReader,
+        reader: &mut RecordReader,
     ) -> Result<(), OutOfMemory>
         requires ports { All IsPort self.old.ports.now }
         ensures setting { OnOk result (R.setting runner.new ≡ R.setting runner.old) }
-        ensures ran { OnOk result (view_of self.new (R.store runner.new) (R.done runner.new) ≡ after_all (R.outcome (R.setting runner.old)) reader.old.records (view_of self.old (R.store runner.old) (R.done runner.old))) }
-        ensures taken { OnOk result (reader.new ≡ drained reader.old) }
-        ensures known { OnOk result (All IsRecord reader.old.records) }
+        ensures ran { OnOk result (view_of self.new (R.store runner.new) (R.done runner.new) ≡ after_all (R.outcome (R.setting runner.old)) (rest_of reader.old).records (view_of self.old (R.store runner.old) (R.done runner.old))) }
+        ensures taken { OnOk result (reader.new ≡ drained (rest_of reader.old)) }
+        ensures known { OnOk result (All IsRecord (rest_of reader.old).records) }
         ensures ports { All IsPort self.new.ports.now }
     {
-        'records: while let Some(one) = reader.next() {
-            self.run(runner, one)?;
+        let mut spare = Octets::new(self.alloc);
+        'records: while let Some(one) = reader.next(spare)? {
+            spare = self.run(runner, one)?;
         }
         Ok(())
     }
@@ -131,7 +136,7 @@ impl<'a> Stream<'a> {
     pub(crate) fn feed<R: Runner>(
         &mut self,
         runner: &mut R,
-        reader: &mut CaptureReader,
+        reader: &mut RecordReader,
         piece: &[u8],
     ) -> Result<Option<Fault>, OutOfMemory>
         requires ports { All IsPort self.old.ports.now }
@@ -142,23 +147,44 @@ impl<'a> Stream<'a> {
         ensures refused { IfOk result (λ refused. refused ≡ (fed reader.old piece.now).fault) }
         ensures ports { All IsPort self.new.ports.now }
     {
-        let refused = feed_piece(reader, piece)?;
+        reader.feed(piece)?;
         self.begin(reader)?;
         self.run_all(runner, reader)?;
-        Ok(refused)
+        Ok(reader.fault())
     }
 }
 
-// Feeds a piece to the reader, and gives the rule that the capture breaks.
-fn feed_piece(reader: &mut CaptureReader, piece: &[u8]) -> Result<Option<Fault>, OutOfMemory>
-    ensures fed { OnOk result (reader.new ≡ fed reader.old piece.now) }
-    ensures refused { IfOk result (λ refused. refused ≡ (fed reader.old piece.now).fault) }
+// Puts an octet in front of what stands from a place on, and gives its place.
+fn put_octet(octet: u8, line: &mut [u8], end: usize) -> usize
+    requires { (1 ≤ end) × (end ≤ length line.old) }
+    ensures start { result + 1 ≡ end }
+    ensures written { drop result line.new ≡ octet ∷ drop end line.old }
 {
-    match reader.feed(piece) {
-        Ok(()) => Ok(None),
-        Err(CaptureFault::Refused(fault)) => Ok(Some(fault)),
-        Err(CaptureFault::Memory) => Err(OutOfMemory),
-    }
+    line[end - 1] = octet;
+    end - 1
+}
+
+// Writes the two numbers of a line and its line feed at the end of a buffer, and gives where they begin.
+fn put_numbers(port: u16, size: u64, line: &mut [u8; 27]) -> usize
+    ensures within { result ≤ 27 }
+    ensures written { drop result line.new ≡ decimal port ++ 32 ∷ (decimal size ++ 10 ∷ []) }
+{
+    let end = put_octet(b'\n', line, 27);
+    let end = write_digits(size, line, end);
+    let end = put_octet(b' ', line, end);
+    write_digits(u64::from(port), line, end)
+}
+
+// Puts the line of a packet that leaves last.
+#[tactic(auto, using(crate::proofs::Sending::line_is))]
+fn put_line(report: &mut Vec<u8>, port: u16, size: usize) -> Result<(), OutOfMemory>
+    ensures { OnOk result (report.new.items ≡ report.old.items ++ ((codes "sent " ++ decimal port) ++ (32 ∷ decimal size) ++ 10 ∷ [])) }
+{
+    let mut numbers = [0u8; 27];
+    let start = put_numbers(port, size as u64, &mut numbers);
+    report.extend_from_slice(b"sent ")?;
+    report.extend_from_slice(&numbers[start..])?;
+    Ok(())
 }
 
 /// The lines of how many packets came in and left, with which the end part of the report begins.

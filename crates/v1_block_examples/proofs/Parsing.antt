@@ -1,9 +1,11 @@
 -- A parser that is prepared by hand.
 use Rattle.std.proofs.Common.{◌≡◌, ℕ, zero, suc, ◌+◌, ◌^◌, ◌<◌, ◌≤◌, List, [], ◌∷◌, length, drop, All, refl, sym, ap, subst, ◌∙◌, arith}
 use Rattle.node_lists.proofs.Growth as growth
+use Rattle.state_store.specs.State.{Contents}
 use Rattle.v1_sem.specs.declared.parser_error.ParserError.{ParserError}
 use Rattle.v1_sem.specs.declared.parser_error.ParserError.TheVariants.{NoError, PacketTooShort, StackOutOfBounds, NoMatch}
 use Rattle.v1_sem.specs.Frames.{error_number}
+use Rattle.v1_frames.specs.Cells.{Cells}
 use Rattle.v1_frames.specs.Layouts.{Layout}
 use Rattle.v1_ready_expressions.specs.Nodes.{ready_of}
 use Rattle.v1_ready_blocks.specs.declared.places.Range.{Range}
@@ -15,10 +17,11 @@ use Rattle.v1_ready_states.specs.declared.states.ReadyParser.{ReadyParser}
 use Rattle.v1_ready_states.specs.declared.states.ReadyState.{ReadyState}
 use Rattle.v1_ready_steps.specs.declared.code.Code.{Code}
 use Rattle.v1_ready_steps.specs.Steps.{expressions_in, ground_of, trees_of}
-use Rattle.v1_parse_run.specs.Made.{FitsParser, FitsState, HoldsErrors}
-use Rattle.v1_parse_machine.specs.declared.machine.ParserMachine.{ParserMachine}
-use Rattle.v1_parse_machine.specs.Working.{Works, made_of}
+use Rattle.v1_parse_run.specs.Made.{FitsState, HoldsErrors}
+use Rattle.v1_parse_run.specs.declared.machine.ParserMachine.{ParserMachine}
+use Rattle.v1_parse_run.specs.Working.{Works}
 use Rattle.v1_parse_run.specs.Made as made
+use Rattle.v1_block_run.specs.declared.block.ReadyBlock.{ReadyBlock}
 use Rattle.v1_block_run.specs.Blocks.{IsRunnable}
 use Rattle.v1_block_examples.specs.Growing.{FitsCode, IsSmall, Knows, OnKey, Puts, made_by}
 use Rattle.v1_block_examples.specs.Layouts.{small}
@@ -71,19 +74,15 @@ parser_fits a b c d r key nothing s knows first last on headers error variables 
       };
     }
 
-pub fits_machine : (m : ParserMachine) (r : ReadyParser) → FitsCode m.code.now.code r → FitsParser (made_of m) r
-fits_machine m r is = is.fits m.octets.now
-
-pub works_small : (m : ParserMachine) → IsRunnable m.code.now → IsSmall m.code.now.code → m.frame.layout ≡ small → m.run.waiting.layout ≡ small → m.store.shapes ≡ [] → m.parsed ≡ 0 → Works m
-works_small m runnable is frame waiting shapes none = record {
+pub works_small : (b : ReadyBlock) (f : Cells) (s : Contents) (octets : List ℕ) (m : ParserMachine) → IsRunnable b → IsSmall b.code → f.layout ≡ small → m.run.waiting.layout ≡ small → s.shapes ≡ [] → m.parsed ≡ 0 → Works b f s octets m
+works_small b f s octets m runnable is frame waiting shapes none = record {
   runnable = runnable;
   over = record { cells = frame ∙ sym is.layout; waiting = waiting ∙ sym is.layout; shapes = shapes ∙ sym is.shapes };
   within = omega (arith, none);
 }
 
-pub field_there : (m : ParserMachine) (c : Code) (octets : List ℕ) → Works m → made_of m ≡ made_by c octets → IsSmall c → 0 < length m.frame.layout.widths
-field_there m c octets works same is =
+pub field_there : (b : ReadyBlock) (f : Cells) (s : Contents) (octets : List ℕ) (m : ParserMachine) → Works b f s octets m → IsSmall b.code → 0 < length f.layout.widths
+field_there b f s octets m works is =
     let four : length small.widths ≡ 4 = refl in
-    let here : length m.frame.layout.widths ≡ length small.widths =
-    ap (λ (l : Layout). length l.widths) (works.over.cells ∙ ap (λ (k : made.Made). k.layout) same ∙ is.layout) in
+    let here : length f.layout.widths ≡ length small.widths = ap (λ (l : Layout). length l.widths) (works.over.cells ∙ is.layout) in
     omega (arith, four, here)

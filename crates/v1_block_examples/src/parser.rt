@@ -15,8 +15,7 @@ use p4x_bits::{OutOfMemory, Rows};
 use std::alloc::Global;
 use v1_block_run::ReadyBlock;
 use v1_frames::FrameLayout;
-use v1_parse_machine::{ParserMachine, ParserRoom};
-use v1_parse_run::parse_ready;
+use v1_parse_run::{ParserMachine, ParserRoom, parse_ready};
 use v1_ready_blocks::{Node, Range, RangePlace, StatementNode};
 use v1_ready_expressions::{Content, Node as Expression};
 use v1_ready_selects::{CaseRow, CaseTest, KeyTest, Next, ReadyTransition};
@@ -91,7 +90,7 @@ fn parser<'l>(
 }
 
 /// What parsing a packet leaves: the error, how many octets are parsed, the field, and how many statements and transitions began.
-#[tactic(auto, using(crate::proofs::Parsing::works_small, crate::proofs::Parsing::fits_machine, crate::proofs::Parsing::field_there))]
+#[tactic(auto, using(crate::proofs::Parsing::works_small, crate::proofs::Parsing::field_there))]
 fn parsed(
     alloc: Global,
     layout: &FrameLayout,
@@ -104,26 +103,17 @@ fn parsed(
     requires small { IsSmall code.now.code }
     requires fits { FitsCode code.now.code parser.now }
 {
-    let frame = frame(alloc, layout)?;
-    let store = store(alloc)?;
+    let mut frame = frame(alloc, layout)?;
+    let mut store = store(alloc)?;
     let run = run(alloc, layout)?;
     let room = ParserRoom::with_capacity(alloc, 1)?;
     let mut machine = ParserMachine {
-        code,
-        octets,
         parsed: 0,
-        frame,
-        store,
         run,
         room,
     };
-    let error = parse_ready(&mut machine, parser)?;
-    Ok((
-        error,
-        machine.parsed,
-        machine.frame.get(0),
-        machine.run.work,
-    ))
+    let error = parse_ready(code, parser, octets, &mut frame, &mut store, &mut machine)?;
+    Ok((error, machine.parsed, frame.get(0), machine.run.work))
 }
 
 /// Whether a packet whose third octet isn't 0 is accepted behind three extractions, and one of one octet is too short.

@@ -1,5 +1,5 @@
 -- A ready block is run, and the ready parser.
-use Rattle.std.proofs.Common.{◌≡◌, ℕ, ◌≤◌, List, [], Bool, Option, Some, None, length, drop, refl, sym, ap, subst, ◌∙◌, arith}
+use Rattle.std.proofs.Common.{◌≡◌, ℕ, List, [], Bool, true, false, drop, refl, sym, ap, subst, ◌∙◌, arith}
 use Rattle.p4x_bits.specs.BitLists.{octet_bits, IsOctets}
 use Rattle.state_store.specs.State.{Contents}
 use Rattle.v1_sem.specs.declared.block.Block.{Block}
@@ -21,9 +21,9 @@ use Rattle.v1_ready_externs.specs.declared.run.Run.{Run}
 use Rattle.v1_ready_externs.specs.Seen.{moment}
 use Rattle.v1_ready_steps.specs.Steps.{Comes, IsOver, ground_of}
 use Rattle.v1_ready_states.specs.States.{ready_parse}
-use Rattle.v1_parse_run.specs.Made.{FitsParser, Made, made_parser}
-use Rattle.v1_parse_machine.specs.declared.machine.ParserMachine.{ParserMachine}
-use Rattle.v1_parse_machine.specs.Working.{Works, made_of, moment_of}
+use Rattle.v1_parse_run.specs.Made.{made_parser}
+use Rattle.v1_parse_run.specs.declared.machine.ParserMachine.{ParserMachine}
+use Rattle.v1_parse_run.specs.Working.{Works, made_of, moment_of}
 use Rattle.v1_block_run.specs.declared.block.ReadyBlock.{ReadyBlock}
 use Rattle.v1_block_run.specs.Blocks.{seen_block}
 use Rattle.v1_block_tables.specs.declared.parts.FilledBlock.{FilledBlock}
@@ -32,33 +32,35 @@ use Rattle.v1_passes.specs.Moments.{moment_at}
 use Rattle.v1_parser_laws.specs.Shown.{Shows}
 use Rattle.v1_parser_laws.specs.Laws.{ParseShows}
 use Rattle.v1_control_run.specs.declared.prepared.Prepared.{Prepared}
-use Rattle.v1_control_run.specs.declared.spare.Spare.{Spare}
 use Rattle.v1_control_run.specs.declared.runners.Runners.{Runners}
-use Rattle.v1_control_run.specs.Prepared.{DoesControl, DoesParser, IsGroundOf, IsPrepared, objects_of, setting_of}
-use Rattle.v1_control_run.specs.internal.Runs.{AreRunners, CanBegin, HasEnded, IsReady, RunsBlock, Stands, begun_run, filled_of}
+use Rattle.v1_control_run.specs.Prepared.{DoesControl, IsGroundOf, IsPrepared, objects_of, setting_of}
+use Rattle.v1_control_run.specs.internal.Runs.{AreRunners, CanBegin, HasEnded, IsReady, RunsBlock, begun_run, filled_of}
 use Rattle.v1_control_run.proofs.Fixed.{begins_so, fixed, fixed_silently}
 
 -- what is kept from packet to packet
 
-pub begins_first : (p : Prepared) (store : Contents) (s : Spare) → IsPrepared p → store.shapes ≡ objects_of (setting_of p) → s.run.waiting.layout ≡ p.layout.now → CanBegin p store s
+pub begins_first : (p : Prepared) (store : Contents) (s : ParserMachine) → IsPrepared p → store.shapes ≡ objects_of (setting_of p) → s.run.waiting.layout ≡ p.layout.now → CanBegin p store s
 begins_first p store s is shapes waiting = record { waiting = waiting ∙ is.layout; shapes = shapes }
 
-pub ready_first : (p : Prepared) (r : Runners) (store : Contents) (s : Spare) → IsPrepared p → AreRunners p r → store.shapes ≡ objects_of (setting_of p) → s.run.waiting.layout ≡ p.layout.now → IsReady p r store (Some s)
+pub ready_first : (p : Prepared) (r : Runners) (store : Contents) (s : ParserMachine) → IsPrepared p → AreRunners p r → store.shapes ≡ objects_of (setting_of p) → s.run.waiting.layout ≡ p.layout.now → IsReady p r store true s
 ready_first p r store s is are shapes waiting =
-    record { prepared = is; runners = are; rests = begins_first p store s is shapes waiting }
+    record { prepared = is; runners = are; rests = λ usable. begins_first p store s is shapes waiting }
 
 pub are_still : (p : Prepared) (q r : Runners) → AreRunners p q → ((b : Block) → filled_of r b ≡ filled_of q b) → AreRunners p r
 are_still p q r are same = record {
   controls = λ block. subst (λ (x : FilledBlock). DoesControl (setting_of p) block x.fill.now x.block.now) (sym (same block)) (are.controls block);
 }
 
-pub ready_without : (p : Prepared) (r t : Runners) (store after : Contents) (spare : Option Spare) → IsReady p r store spare → ((b : Block) → filled_of t b ≡ filled_of r b) → IsReady p t after None
-ready_without p r t store after spare is same =
-    record { prepared = is.prepared; runners = are_still p r t is.runners same; rests = tt }
+pub can_begin : (p : Prepared) (r : Runners) (store : Contents) (usable : Bool) (s : ParserMachine) → IsReady p r store usable s → usable ≡ true → CanBegin p store s
+can_begin p r store usable s is may = is.rests may
 
-pub ready_again : (p : Prepared) (r t : Runners) (store after : Contents) (spare : Option Spare) (s : Spare) → IsReady p r store spare → ((b : Block) → filled_of t b ≡ filled_of r b) → CanBegin p after s → IsReady p t after (Some s)
-ready_again p r t store after spare s is same begins =
-    record { prepared = is.prepared; runners = are_still p r t is.runners same; rests = begins }
+pub ready_without : (p : Prepared) (r t : Runners) (store after : Contents) (usable : Bool) (s n : ParserMachine) → IsReady p r store usable s → ((b : Block) → filled_of t b ≡ filled_of r b) → IsReady p t after false n
+ready_without p r t store after usable s n is same =
+    record { prepared = is.prepared; runners = are_still p r t is.runners same; rests = λ (never : false ≡ true). absurd (cc) }
+
+pub ready_again : (p : Prepared) (r t : Runners) (store after : Contents) (usable : Bool) (s n : ParserMachine) → IsReady p r store usable s → ((b : Block) → filled_of t b ≡ filled_of r b) → CanBegin p after n → IsReady p t after true n
+ready_again p r t store after usable s n is same begins =
+    record { prepared = is.prepared; runners = are_still p r t is.runners same; rests = λ may. begins }
 
 -- controls
 
@@ -102,11 +104,11 @@ over_ground c g f store unparsed r ground frame waiting shapes = record {
 }
 
 -- a run begins with a frame of the program in which arguments wait
-pub waits : (p : Prepared) (store : Contents) (s : Spare) (emitted : List Bool) (work : ℕ) (q : Run) → CanBegin p store s → q ≡ begun_run emitted work s.run → AreWhole q.waiting → IsFrameOf p.packets.now q.waiting
+pub waits : (p : Prepared) (store : Contents) (s : ParserMachine) (emitted : List Bool) (work : ℕ) (q : Run) → CanBegin p store s → q ≡ begun_run emitted work s.run → AreWhole q.waiting → IsFrameOf p.packets.now q.waiting
 waits p store s emitted work q rests begins whole =
     record { layout = ap (λ (x : Run). x.waiting.layout) begins ∙ rests.waiting; whole = whole }
 
-module _ (p : Prepared) (block : Block) (r : Runners) (f g : Cells) (store after : Contents) (unparsed emitted : List ℕ) (work : ℕ) (s : Spare) (q t : Run) (are : AreRunners p r) (frame : IsFrameOf p.packets.now f) (rests : CanBegin p store s) (begins : q ≡ begun_run (octet_bits emitted) work s.run) (whole : AreWhole q.waiting) (comes : Comes (ground_of (filled_of r block).block.now.code) (ready_run (filled_of r block).fill.now (seen_block (filled_of r block).block.now) (moment f store unparsed q)) (moment g after unparsed t)) where
+module _ (p : Prepared) (block : Block) (r : Runners) (f g : Cells) (store after : Contents) (unparsed emitted : List ℕ) (work : ℕ) (s : ParserMachine) (q t : Run) (are : AreRunners p r) (frame : IsFrameOf p.packets.now f) (rests : CanBegin p store s) (begins : q ≡ begun_run (octet_bits emitted) work s.run) (whole : AreWhole q.waiting) (comes : Comes (ground_of (filled_of r block).block.now.code) (ready_run (filled_of r block).fill.now (seen_block (filled_of r block).block.now) (moment f store unparsed q)) (moment g after unparsed t)) where
   abbrev control_start : sem.Moment
   control_start = moment_at p.packets.now f store unparsed emitted q.work
 
@@ -127,12 +129,12 @@ module _ (p : Prepared) (block : Block) (r : Runners) (f g : Cells) (store after
       ((are.controls block).emits control_start octets) ends
       ∙ ap (moment_at p.packets.now g after unparsed out) (sym counted)
 
-pub over_control : (p : Prepared) (block : Block) (r : Runners) (f : Cells) (store : Contents) (unparsed : List ℕ) (emitted : List Bool) (work : ℕ) (s : Spare) (q : Run) → AreRunners p r → IsFrameOf p.packets.now f → CanBegin p store s → q ≡ begun_run emitted work s.run → IsOver (ground_of (filled_of r block).block.now.code) (moment f store unparsed q)
+pub over_control : (p : Prepared) (block : Block) (r : Runners) (f : Cells) (store : Contents) (unparsed : List ℕ) (emitted : List Bool) (work : ℕ) (s : ParserMachine) (q : Run) → AreRunners p r → IsFrameOf p.packets.now f → CanBegin p store s → q ≡ begun_run emitted work s.run → IsOver (ground_of (filled_of r block).block.now.code) (moment f store unparsed q)
 over_control p block r f store unparsed emitted work s q are frame rests begins =
     over_ground (setting_of p) (ground_of (filled_of r block).block.now.code) f store unparsed q (are.controls block).ground frame
     (ap (λ (x : Run). x.waiting.layout) begins ∙ rests.waiting) rests.shapes
 
-pub rests_behind : (p : Prepared) (block : Block) (r : Runners) (due : Moment) (f : Cells) (store : Contents) (unparsed : List ℕ) (s : Spare) → AreRunners p r → Comes (ground_of (filled_of r block).block.now.code) due (moment f store unparsed s.run) → CanBegin p store s
+pub rests_behind : (p : Prepared) (block : Block) (r : Runners) (due : Moment) (f : Cells) (store : Contents) (unparsed : List ℕ) (s : ParserMachine) → AreRunners p r → Comes (ground_of (filled_of r block).block.now.code) due (moment f store unparsed s.run) → CanBegin p store s
 rests_behind p block r due f store unparsed s are comes = record {
   waiting = comes.over.waiting ∙ (are.controls block).ground.layout;
   shapes = comes.over.shapes ∙ (are.controls block).ground.shapes;
@@ -145,84 +147,40 @@ parsed_by x error m failed is =
     let P : ParserError → sem.Moment → Parsed = λ e n. record { error = e; moment = n } in
     ap (λ (e : ParserError). P e x.moment) failed ∙ ap (P error) is
 
-does_so : (p : Prepared) (m : ParserMachine) → IsPrepared p → m.code.now ≡ p.states.now → DoesParser (setting_of p) m.code.now p.parser.now
-does_so p m is code =
-    subst (λ (x : ReadyBlock). DoesParser (setting_of p) x p.parser.now) (sym code) is.parser
+-- a packet of which nothing is parsed
 
-pub stands_so : (p : Prepared) (s : Spare) (f : Cells) (store : Contents) (octets : List ℕ) (work : ℕ) (r : Run) (m : ParserMachine) → IsPrepared p → IsFrameOf p.packets.now f → CanBegin p store s → r ≡ begun_run [] work s.run → AreWhole r.waiting → m.code.now ≡ p.states.now → m.octets.now ≡ octets → m.parsed ≡ 0 → m.frame ≡ f → m.store ≡ store → m.run ≡ r → Stands p f store octets work m
-stands_so p s f store octets work r m is frame rests begins whole code octets_are nothing frame_is store_is run_is = record {
-  prepared = is;
-  code = code;
-  octets_are = octets_are;
-  nothing = nothing;
-  frame_is = frame_is;
-  frame = subst (λ (x : Cells). IsFrameOf p.packets.now x) (sym frame_is) frame;
-  store_is = store_is;
-  shapes = ap (λ (x : Contents). x.shapes) store_is ∙ rests.shapes;
-  waiting = subst (λ (x : Run). IsFrameOf p.packets.now x.waiting) (sym run_is) (waits p store s [] work r rests begins whole);
-  emitted = ap (λ (x : Run). x.emitted) (run_is ∙ begins);
-  work_is = ap (λ (x : Run). x.work) (run_is ∙ begins);
-  stopped = ap (λ (x : Run). x.stopped) (run_is ∙ begins);
-  hit = ap (λ (x : Run). x.hit) (run_is ∙ begins);
-}
-
-module _ (p : Prepared) (f : Cells) (store : Contents) (octets : List ℕ) (work : ℕ) (old : ParserMachine) (stands : Stands p f store octets work old) where
-  pub stands_works : Works old
-  stands_works = record {
-    runnable = (does_so p old stands.prepared stands.code).runs;
-    over = over_ground (setting_of p) (ground_of old.code.now.code) old.frame old.store (drop old.parsed old.octets.now) old.run (does_so p old stands.prepared stands.code).ground stands.frame stands.waiting.layout stands.shapes;
-    within = omega (arith, stands.nothing);
+module _ (p : Prepared) (f : Cells) (store : Contents) (work : ℕ) (s m : ParserMachine) (is : IsPrepared p) (frame : IsFrameOf p.packets.now f) (rests : CanBegin p store s) (begins : m.run ≡ begun_run [] work s.run) (whole : AreWhole m.run.waiting) (nothing : m.parsed ≡ 0) (octets : List ℕ) where
+  pub begun_works : Works p.states.now f store octets m
+  begun_works = record {
+    runnable = is.parser.runs;
+    over = over_ground (setting_of p) (ground_of p.states.now.code) f store (drop m.parsed octets) m.run is.parser.ground frame (ap (λ (x : Run). x.waiting.layout) begins ∙ rests.waiting) rests.shapes;
+    within = omega (arith, nothing);
   }
 
-  pub stands_fits : FitsParser (made_of old) p.parser.now
-  stands_fits = (does_so p old stands.prepared stands.code).fits old.octets.now
-
-  parser_shown : ParseShows p.packets.now (parse16 (setting_of p) (moment_at p.packets.now old.frame old.store (drop old.parsed old.octets.now) [] old.run.work)) (ready_parse (made_parser (made_of old) p.parser.now) (moment_of old))
+  parser_shown : ParseShows p.packets.now (parse16 (setting_of p) (moment_at p.packets.now f store (drop m.parsed octets) [] m.run.work)) (ready_parse (made_parser (made_of p.states.now octets) p.parser.now) (moment_of f store octets m))
   parser_shown =
-      (does_so p old stands.prepared stands.code).shows (moment_at p.packets.now old.frame old.store (drop old.parsed old.octets.now) [] old.run.work) (moment_of old)
-      (begins_so p.packets.now old.frame old.store (drop old.parsed old.octets.now) [] old.run stands.frame (sym stands.emitted) stands.stopped stands.hit)
-      stands.waiting refl
+      is.parser.shows (moment_at p.packets.now f store (drop m.parsed octets) [] m.run.work) (moment_of f store octets m)
+      (begins_so p.packets.now f store (drop m.parsed octets) [] m.run frame (sym (ap (λ (x : Run). x.emitted) begins)) (ap (λ (x : Run). x.stopped) begins) (ap (λ (x : Run). x.hit) begins))
+      (waits p store s [] work m.run rests begins whole) refl
 
-  parsed_shown : (new : ParserMachine) → moment_of new ≡ (ready_parse (made_parser (made_of old) p.parser.now) (moment_of old)).moment → Shows p.packets.now nobody (parse16 (setting_of p) (moment_at p.packets.now old.frame old.store (drop old.parsed old.octets.now) [] old.run.work)).moment (moment_of new)
-  parsed_shown new moves =
-      subst (λ (n : Moment). Shows p.packets.now nobody (parse16 (setting_of p) (moment_at p.packets.now old.frame old.store (drop old.parsed old.octets.now) [] old.run.work)).moment n) (sym moves) parser_shown.moment
+  parsed_shown : (g : Cells) (after : Contents) (n : ParserMachine) → moment_of g after octets n ≡ (ready_parse (made_parser (made_of p.states.now octets) p.parser.now) (moment_of f store octets m)).moment → Shows p.packets.now nobody (parse16 (setting_of p) (moment_at p.packets.now f store (drop m.parsed octets) [] m.run.work)).moment (moment_of g after octets n)
+  parsed_shown g after n moves =
+      subst (λ (x : Moment). Shows p.packets.now nobody (parse16 (setting_of p) (moment_at p.packets.now f store (drop m.parsed octets) [] m.run.work)).moment x) (sym moves) parser_shown.moment
 
-  pub within_octets : (new : ParserMachine) → Works new → made_of new ≡ made_of old → new.parsed ≤ length octets
-  within_octets new works made =
-      subst (λ (x : List ℕ). new.parsed ≤ length x) (ap (λ (x : Made). x.octets) made ∙ stands.octets_are) works.within
+  pub left_frame : (g : Cells) (after : Contents) (n : ParserMachine) → moment_of g after octets n ≡ (ready_parse (made_parser (made_of p.states.now octets) p.parser.now) (moment_of f store octets m)).moment → IsFrameOf p.packets.now g
+  left_frame g after n moves = (parsed_shown g after n moves).whole
 
-  pub left_frame : (new : ParserMachine) (g : Cells) → Works new → moment_of new ≡ (ready_parse (made_parser (made_of old) p.parser.now) (moment_of old)).moment → g ≡ new.frame → IsFrameOf p.packets.now g
-  left_frame new g works moves left =
-      subst (λ (x : Cells). IsFrameOf p.packets.now x) (sym left) (parsed_shown new moves).whole
-
-  pub left_rests : (new : ParserMachine) (after : Contents) (s : Spare) → Works new → made_of new ≡ made_of old → s.run ≡ new.run → after ≡ new.store → CanBegin p after s
-  left_rests new after s works made same left =
-      let g : IsGroundOf (setting_of p) (ground_of old.code.now.code) = (does_so p old stands.prepared stands.code).ground in
-      record {
-        waiting = ap (λ (x : Run). x.waiting.layout) same ∙ works.over.waiting ∙ ap (λ (x : Made). x.layout) made ∙ g.layout;
-        shapes = ap (λ (x : Contents). x.shapes) left ∙ works.over.shapes ∙ ap (λ (x : Made). x.shapes) made ∙ g.shapes;
-      }
-
-  parsed_is : (new : ParserMachine) (error : ParserError) → error ≡ (ready_parse (made_parser (made_of old) p.parser.now) (moment_of old)).error → moment_of new ≡ (ready_parse (made_parser (made_of old) p.parser.now) (moment_of old)).moment → made_of new ≡ made_of old → HasEnded new.run [] → parse16 (setting_of p) (moment_at p.packets.now old.frame old.store (drop old.parsed old.octets.now) [] old.run.work) ≡ record { error = error; moment = moment_at p.packets.now new.frame new.store (drop new.parsed old.octets.now) [] new.run.work }
-  parsed_is new error failed moves made ends =
-      parsed_by (parse16 (setting_of p) (moment_at p.packets.now old.frame old.store (drop old.parsed old.octets.now) [] old.run.work)) error (moment_at p.packets.now new.frame new.store (drop new.parsed old.octets.now) [] new.run.work)
-      (parser_shown.error ∙ sym failed)
-      (fixed_silently p.packets.now (parse16 (setting_of p) (moment_at p.packets.now old.frame old.store (drop old.parsed old.octets.now) [] old.run.work)).moment new.frame new.store (drop new.parsed new.octets.now) new.run (parsed_shown new moves) ends
-      ∙ ap (λ (x : Made). moment_at p.packets.now new.frame new.store (drop new.parsed x.octets) [] new.run.work) made)
-
-  pub packet_runs : (new : ParserMachine) (g : Cells) (after : Contents) (done at : ℕ) (error : ParserError) → Works new → error ≡ (ready_parse (made_parser (made_of old) p.parser.now) (moment_of old)).error → moment_of new ≡ (ready_parse (made_parser (made_of old) p.parser.now) (moment_of old)).moment → made_of new ≡ made_of old → HasEnded new.run [] → g ≡ new.frame → after ≡ new.store → at ≡ new.parsed → done ≡ new.run.work → parse16 (setting_of p) (moment_at p.packets.now f store octets [] work) ≡ record { error = error; moment = moment_at p.packets.now g after (drop at octets) [] done }
-  packet_runs new g after done at error works failed moves made ends g_is after_is at_is done_is =
+  pub packet_runs : (g : Cells) (after : Contents) (n : ParserMachine) (error : ParserError) → error ≡ (ready_parse (made_parser (made_of p.states.now octets) p.parser.now) (moment_of f store octets m)).error → moment_of g after octets n ≡ (ready_parse (made_parser (made_of p.states.now octets) p.parser.now) (moment_of f store octets m)).moment → HasEnded n.run [] → parse16 (setting_of p) (moment_at p.packets.now f store octets [] work) ≡ record { error = error; moment = moment_at p.packets.now g after (drop n.parsed octets) [] n.run.work }
+  packet_runs g after n error failed moves ends =
       ap (parse16 (setting_of p))
-      (ap (λ (x : Cells). moment_at p.packets.now x store octets [] work) (sym stands.frame_is)
-      ∙ ap (λ (x : Contents). moment_at p.packets.now old.frame x octets [] work) (sym stands.store_is)
-      ∙ ap (λ (x : List ℕ). moment_at p.packets.now old.frame old.store x [] work) (sym stands.octets_are ∙ sym (ap (λ (k : ℕ). drop k old.octets.now) stands.nothing))
-      ∙ ap (moment_at p.packets.now old.frame old.store (drop old.parsed old.octets.now) []) (sym stands.work_is))
-      ∙ parsed_is new error failed moves made ends
-      ∙ ap (ends_at error)
-      (ap (λ (x : Cells). moment_at p.packets.now x new.store (drop new.parsed old.octets.now) [] new.run.work) (sym g_is)
-      ∙ ap (λ (x : Contents). moment_at p.packets.now g x (drop new.parsed old.octets.now) [] new.run.work) (sym after_is)
-      ∙ ap (λ (k : ℕ). moment_at p.packets.now g after (drop k old.octets.now) [] new.run.work) (sym at_is)
-      ∙ ap (λ (x : List ℕ). moment_at p.packets.now g after (drop at x) [] new.run.work) stands.octets_are
-      ∙ ap (moment_at p.packets.now g after (drop at octets) []) (sym done_is)) where
-        ends_at : ParserError → sem.Moment → Parsed
-        ends_at e m = record { error = e; moment = m }
+      (ap (λ (k : ℕ). moment_at p.packets.now f store (drop k octets) [] work) (sym nothing)
+      ∙ ap (moment_at p.packets.now f store (drop m.parsed octets) []) (sym (ap (λ (x : Run). x.work) begins)))
+      ∙ parsed_by (parse16 (setting_of p) (moment_at p.packets.now f store (drop m.parsed octets) [] m.run.work)) error (moment_at p.packets.now g after (drop n.parsed octets) [] n.run.work)
+      (parser_shown.error ∙ sym failed)
+      (fixed_silently p.packets.now (parse16 (setting_of p) (moment_at p.packets.now f store (drop m.parsed octets) [] m.run.work)).moment g after (drop n.parsed octets) n.run (parsed_shown g after n moves) ends)
+
+pub left_rests : (p : Prepared) (g : Cells) (after : Contents) (octets : List ℕ) (n : ParserMachine) → IsPrepared p → Works p.states.now g after octets n → CanBegin p after n
+left_rests p g after octets n is works = record {
+  waiting = works.over.waiting ∙ is.parser.ground.layout;
+  shapes = works.over.shapes ∙ is.parser.ground.shapes;
+}

@@ -5,13 +5,14 @@ ghost use Rattle.v1_control_run.specs.Prepared.{IsPrepared, objects_of, setting_
 use crate::packet::{parse_packet, run_control};
 use crate::prepared::Prepared;
 use crate::runners::Runners;
-use crate::spare::Spare;
+use crate::spare::spare_machine;
 use p4x_bits::{Octets, OutOfMemory};
 use state_store::Store;
 use std::alloc::Global;
 use std::marker::Model;
 use v1_frames::Frame;
 use v1_packets::Packets;
+use v1_parse_run::ParserMachine;
 use v1_passes::{Blocks, ParseEnd};
 use v1_sem::Block;
 
@@ -24,7 +25,9 @@ pub struct PreparedBlocks<'r> {
     program: Prepared<'r>,
     counted: Store,
     runners: Runners<'r>,
-    spare: Option<Spare<'r>>,
+    spare: ParserMachine<'r>,
+    // Not after want of memory in a block.
+    usable: bool,
 }
 
 impl<'r> Model for PreparedBlocks<'r> {
@@ -39,7 +42,7 @@ impl<'r> Model for PreparedBlocks<'r> {
 
     ghost view = { λ b. record { setting = setting_of b.program; store = b.counted } };
 
-    ghost invariant = { λ b. IsReady b.program b.runners b.counted b.spare };
+    ghost invariant = { λ b. IsReady b.program b.runners b.counted b.usable b.spare };
 }
 
 impl<'r> PreparedBlocks<'r> {
@@ -50,12 +53,13 @@ impl<'r> PreparedBlocks<'r> {
         requires store { store.shapes ≡ objects_of (setting_of program) }
         ensures { IfOk result (λ blocks. blocks ≡ record { setting = setting_of program.entry; store = store }) }
     {
-        let spare = Spare::new(alloc, program.layout)?;
+        let spare = spare_machine(alloc, program.layout)?;
         Ok(PreparedBlocks {
             program,
             counted: store,
             runners: Runners::new(alloc, program),
-            spare: Some(spare),
+            spare,
+            usable: true,
         })
     }
 }
@@ -77,22 +81,30 @@ impl<'r> Blocks<'r> for PreparedBlocks<'r> {
         self.counted
     }
 
-    #[tactic(auto, using(crate::proofs::Runs::ready_without, crate::proofs::Runs::ready_again))]
+    #[tactic(auto, using(crate::proofs::Runs::can_begin, crate::proofs::Runs::ready_without, crate::proofs::Runs::ready_again))]
     fn parse(
         &mut self,
         frame: &mut Frame<'r>,
         octets: &[u8],
         work: &mut u64,
     ) -> Result<ParseEnd, OutOfMemory> {
-        let Some(spare) = self.spare.take() else {
+        if !self.usable {
             return Err(OutOfMemory);
-        };
-        let parsed = parse_packet(self.program, spare, frame, &mut self.counted, octets, work)?;
-        self.spare = Some(parsed.spare);
-        Ok(parsed.end)
+        }
+        self.usable = false;
+        let end = parse_packet(
+            self.program,
+            &mut self.spare,
+            frame,
+            &mut self.counted,
+            octets,
+            work,
+        )?;
+        self.usable = true;
+        Ok(end)
     }
 
-    #[tactic(auto, using(crate::proofs::Runs::ready_without, crate::proofs::Runs::ready_again))]
+    #[tactic(auto, using(crate::proofs::Runs::can_begin, crate::proofs::Runs::ready_without, crate::proofs::Runs::ready_again))]
     fn control(
         &mut self,
         block: Block,
@@ -101,13 +113,14 @@ impl<'r> Blocks<'r> for PreparedBlocks<'r> {
         emitted: &mut Octets,
         work: &mut u64,
     ) -> Result<(), OutOfMemory> {
-        let Some(mut spare) = self.spare.take() else {
+        if !self.usable {
             return Err(OutOfMemory);
-        };
+        }
+        self.usable = false;
         run_control(
             self.program,
             &mut self.runners,
-            &mut spare,
+            &mut self.spare,
             block,
             frame,
             &mut self.counted,
@@ -115,7 +128,7 @@ impl<'r> Blocks<'r> for PreparedBlocks<'r> {
             emitted,
             work,
         )?;
-        self.spare = Some(spare);
+        self.usable = true;
         Ok(())
     }
 }

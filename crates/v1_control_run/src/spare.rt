@@ -1,55 +1,50 @@
-// What a packet is run with besides its frame.
+// What a packet is run with besides its frame and the store, and how a run begins and ends.
 ghost use Rattle.std.specs.Prelude.{◌≡◌, [], OnOk, IfOk};
 ghost use Rattle.p4x_bits.specs.BitLists.{octet_bits, IsOctets};
 ghost use Rattle.v1_frames.specs.Cells.{AreWhole};
 ghost use Rattle.v1_control_run.specs.internal.Runs.{begun_run, HasEnded};
 
 use p4x_bits::{Bits, Octets, OutOfMemory, Rows};
-use state_store::Store;
 use std::alloc::Global;
 use v1_frames::{Frame, FrameLayout};
-use v1_parse_machine::ParserRoom;
+use v1_parse_run::{ParserMachine, ParserRoom};
 use v1_ready_externs::Run;
 
-/// What a packet is run with besides its frame and the store. Its room stays from packet to packet.
-#[derive(Drop)]
-pub struct Spare<'r> {
-    /// A frame that stands in the place of the packet's while the parser has that.
-    pub frame: Frame<'r>,
-    /// A store that stands in the place of the program's while the parser has that.
-    pub store: Store,
-    /// What a run keeps.
-    pub run: Run<'r>,
-    /// The room of the parser.
-    pub room: ParserRoom,
+/// What packets are run with whose frames have this layout, besides their frames and the store. Its room stays from packet to packet.
+/// The one error is want of memory.
+pub fn spare_machine<'r>(
+    alloc: Global,
+    layout: &'r FrameLayout,
+) -> Result<ParserMachine<'r>, OutOfMemory>
+    ensures { IfOk result (λ machine. machine.run.waiting.layout ≡ layout.now) }
+{
+    let waiting = Frame::of_layout(alloc, layout)?;
+    let room = ParserRoom::with_capacity(alloc, 0)?;
+    Ok(ParserMachine {
+        parsed: 0,
+        run: Run {
+            waiting,
+            emitted: Bits::new(alloc),
+            work: 0,
+            stopped: None,
+            hit: None,
+            values: Rows::new(alloc),
+            list: Bits::new(alloc),
+        },
+        room,
+    })
 }
 
-impl<'r> Spare<'r> {
-    /// What packets are run with whose frames have this layout. The one error is want of memory.
-    pub fn new(alloc: Global, layout: &'r FrameLayout) -> Result<Self, OutOfMemory>
-        ensures { IfOk result (λ spare. spare.run.waiting.layout ≡ layout.now) }
-    {
-        let frame = Frame::of_layout(alloc, layout)?;
-        let Ok(store) = Store::new(alloc, &[]) else {
-            return Err(OutOfMemory);
-        };
-        let waiting = Frame::of_layout(alloc, layout)?;
-        let room = ParserRoom::with_capacity(alloc, 0)?;
-        Ok(Spare {
-            frame,
-            store,
-            run: Run {
-                waiting,
-                emitted: Bits::new(alloc),
-                work: 0,
-                stopped: None,
-                hit: None,
-                values: Rows::new(alloc),
-                list: Bits::new(alloc),
-            },
-            room,
-        })
+/// The bits are those of these octets. For want of memory they are none.
+fn put_bits(bits: &mut Bits, octets: &[u8]) -> Result<(), OutOfMemory>
+    ensures put { OnOk result (bits.new ≡ octet_bits octets.now) }
+    ensures are { IsOctets octets.now }
+{
+    bits.clear();
+    if octets.is_empty() {
+        return Ok(());
     }
+    bits.push_octets(octets)
 }
 
 /// A run begins where these octets were emitted, with this count of work.
@@ -59,8 +54,7 @@ pub fn begin(run: &mut Run<'_>, emitted: &[u8], work: u64) -> Result<(), OutOfMe
     ensures waiting { AreWhole run.new.waiting }
 {
     run.waiting.is_whole();
-    run.emitted.clear();
-    run.emitted.push_octets(emitted)?;
+    put_bits(&mut run.emitted, emitted)?;
     run.work = work;
     run.stopped = None;
     run.hit = None;
@@ -73,6 +67,9 @@ fn put_octets(out: &mut Octets, octets: &[u8]) -> Result<(), OutOfMemory>
     ensures are { IsOctets octets.now }
 {
     out.clear();
+    if octets.is_empty() {
+        return Ok(());
+    }
     out.extend_from_slice(octets)
 }
 

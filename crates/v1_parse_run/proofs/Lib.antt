@@ -1,1 +1,4 @@
+mod Ending
+mod Holding
+mod Passing
 mod Turns

@@ -5,6 +5,7 @@ ghost use Rattle.v1_frames.specs.Cells.{header_valid, stack_place, stack_size};
 ghost use Rattle.v1_ready_expressions.specs.declared.node.Content.TheVariants as content;
 ghost use Rattle.v1_ready_expressions.specs.Scalars.{seen_scalar, FitsScalar};
 ghost use Rattle.v1_ready_expressions.specs.Ready.{bits_ahead, element_by, is_past, part_number, ready_value, value_in, within_stack};
+ghost use Rattle.v1_ready_expressions.specs.Ready as ready;
 ghost use Rattle.v1_ready_expressions.specs.Nodes.{IsElement, IsWidth, ready_at};
 ghost use Rattle.v1_ready_expressions.specs.Kept.{trees};
 ghost use Rattle.v1_ready_expressions.specs.Results.{seen_end};
@@ -14,6 +15,7 @@ use crate::node::{Content, Element, Node, Which};
 use crate::operators::{binary, unary};
 use crate::scalar::{Scalar, to_bits, to_slice, to_truth};
 use p4x_bits::read_octet_field;
+use p416_ast::BinaryOperator;
 use v1_frames::Frame;
 use v1_sem::ParserError;
 
@@ -121,7 +123,33 @@ impl Expressions<'_> {
     /// error that ends its evaluation: `PacketTooShort` exactly where it looks ahead further than the octets go, and
     /// `StackOutOfBounds` exactly where it asks for `next` of a full stack or `last` of one at place 0, whichever comes first.
     /// It takes no memory and looks nothing up, and it calls itself as deep as the expression is.
+    // (A function's frame has room for all of its arms: what comes often is evaluated here, and the rest behind a call.)
+    #[cycle(value)]
     pub fn value(
+        &self,
+        place: usize,
+        frame: &Frame<'_>,
+        unparsed: &[u8],
+    ) -> Result<Scalar, ParserError>
+        requires place { place < length self.now.nodes }
+        requires layout { frame.now.layout ≡ self.now.layout }
+        ensures is { seen_end result ≡ ready_value frame.now unparsed.now (ready_at (trees self.now) place) }
+        ensures fits { IfOk result FitsScalar }
+    {
+        match self.node(place) {
+            Node::Slot(of, slot) => Ok(slot_value(frame, of, slot)),
+            Node::Number(width, number) => Ok(Scalar::Number(width, number)),
+            Node::Valid(header) => Ok(Scalar::Truth(frame.valid(header))),
+            Node::Binary(operator, a, b) => self.pair(operator, a, b, frame, unparsed),
+            Node::And(a, b) => self.both(a, b, frame, unparsed),
+            _ => self.value_within(place, frame, unparsed),
+        }
+    }
+
+    /// The same, for an expression of any node.
+    #[cycle(value)]
+    #[inline(never)]
+    fn value_within(
         &self,
         place: usize,
         frame: &Frame<'_>,
@@ -147,35 +175,106 @@ impl Expressions<'_> {
             Node::ToBits(width, a) => Ok(to_bits(width, self.value(a, frame, unparsed)?)),
             Node::ToTruth(a) => Ok(to_truth(self.value(a, frame, unparsed)?)),
             Node::Unary(operator, a) => Ok(unary(operator, self.value(a, frame, unparsed)?)),
-            Node::And(a, b) => {
-                let left = self.value(a, frame, unparsed)?;
-                if left.is_true() {
-                    self.value(b, frame, unparsed)
-                } else {
-                    Ok(left)
-                }
-            }
-            Node::Or(a, b) => {
-                let left = self.value(a, frame, unparsed)?;
-                if left.is_true() {
-                    Ok(left)
-                } else {
-                    self.value(b, frame, unparsed)
-                }
-            }
-            Node::Binary(operator, a, b) => {
-                let left = self.value(a, frame, unparsed)?;
-                let right = self.value(b, frame, unparsed)?;
-                Ok(binary(operator, left, right))
-            }
-            Node::Choice(condition, yes, no) => {
-                let chosen = self.value(condition, frame, unparsed)?;
-                if chosen.is_true() {
-                    self.value(yes, frame, unparsed)
-                } else {
-                    self.value(no, frame, unparsed)
-                }
-            }
+            Node::And(a, b) => self.both(a, b, frame, unparsed),
+            Node::Or(a, b) => self.either(a, b, frame, unparsed),
+            Node::Binary(operator, a, b) => self.pair(operator, a, b, frame, unparsed),
+            Node::Choice(condition, yes, no) => self.choice(condition, yes, no, frame, unparsed),
+        }
+    }
+
+    /// The value of `&&`.
+    #[cycle(value)]
+    #[inline(never)]
+    fn both(
+        &self,
+        a: usize,
+        b: usize,
+        frame: &Frame<'_>,
+        unparsed: &[u8],
+    ) -> Result<Scalar, ParserError>
+        requires left { a < length self.now.nodes }
+        requires right { b < length self.now.nodes }
+        requires layout { frame.now.layout ≡ self.now.layout }
+        ensures is { seen_end result ≡ ready_value frame.now unparsed.now (ready.both (ready_at (trees self.now) a) (ready_at (trees self.now) b)) }
+        ensures fits { IfOk result FitsScalar }
+    {
+        let left = self.value(a, frame, unparsed)?;
+        if left.is_true() {
+            self.value(b, frame, unparsed)
+        } else {
+            Ok(left)
+        }
+    }
+
+    /// The value of `||`.
+    #[cycle(value)]
+    #[inline(never)]
+    fn either(
+        &self,
+        a: usize,
+        b: usize,
+        frame: &Frame<'_>,
+        unparsed: &[u8],
+    ) -> Result<Scalar, ParserError>
+        requires left { a < length self.now.nodes }
+        requires right { b < length self.now.nodes }
+        requires layout { frame.now.layout ≡ self.now.layout }
+        ensures is { seen_end result ≡ ready_value frame.now unparsed.now (ready.either (ready_at (trees self.now) a) (ready_at (trees self.now) b)) }
+        ensures fits { IfOk result FitsScalar }
+    {
+        let left = self.value(a, frame, unparsed)?;
+        if left.is_true() {
+            Ok(left)
+        } else {
+            self.value(b, frame, unparsed)
+        }
+    }
+
+    /// The value of another operator with two operands.
+    #[cycle(value)]
+    #[inline(never)]
+    fn pair(
+        &self,
+        operator: BinaryOperator,
+        a: usize,
+        b: usize,
+        frame: &Frame<'_>,
+        unparsed: &[u8],
+    ) -> Result<Scalar, ParserError>
+        requires left { a < length self.now.nodes }
+        requires right { b < length self.now.nodes }
+        requires layout { frame.now.layout ≡ self.now.layout }
+        ensures is { seen_end result ≡ ready_value frame.now unparsed.now (ready.binary operator (ready_at (trees self.now) a) (ready_at (trees self.now) b)) }
+        ensures fits { IfOk result FitsScalar }
+    {
+        let left = self.value(a, frame, unparsed)?;
+        let right = self.value(b, frame, unparsed)?;
+        Ok(binary(operator, left, right))
+    }
+
+    /// The value of `? :`.
+    #[cycle(value)]
+    #[inline(never)]
+    fn choice(
+        &self,
+        condition: usize,
+        yes: usize,
+        no: usize,
+        frame: &Frame<'_>,
+        unparsed: &[u8],
+    ) -> Result<Scalar, ParserError>
+        requires condition { condition < length self.now.nodes }
+        requires positive { yes < length self.now.nodes }
+        requires negative { no < length self.now.nodes }
+        requires layout { frame.now.layout ≡ self.now.layout }
+        ensures is { seen_end result ≡ ready_value frame.now unparsed.now (ready.choice (ready_at (trees self.now) condition) (ready_at (trees self.now) yes) (ready_at (trees self.now) no)) }
+        ensures fits { IfOk result FitsScalar }
+    {
+        let chosen = self.value(condition, frame, unparsed)?;
+        if chosen.is_true() {
+            self.value(yes, frame, unparsed)
+        } else {
+            self.value(no, frame, unparsed)
         }
     }
 }

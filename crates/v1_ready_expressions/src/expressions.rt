@@ -1,11 +1,13 @@
 // Ready expressions, kept as nodes.
-ghost use Rattle.std.specs.Prelude.{◌≡◌, ◌<◌, true, [], length, IfOk};
+ghost use Rattle.std.specs.Prelude.{◌≡◌, ◌<◌, true, [], length, IfOk, IfSome};
 ghost use Rattle.node_lists.specs.Trees.{Adds};
+ghost use Rattle.v1_ready_expressions.specs.declared.node.Content.TheVariants as content;
+ghost use Rattle.v1_ready_expressions.specs.Ready as ready;
 ghost use Rattle.v1_ready_expressions.specs.Nodes.{IsNode, ready_at, ready_of};
 ghost use Rattle.v1_ready_expressions.specs.Kept.{kept, trees};
 
 use crate::checked::{is_element, is_width, is_word};
-use crate::node::Node;
+use crate::node::{Content, Node};
 use p4x_bits::OutOfMemory;
 use std::alloc::Global;
 use std::marker::Model;
@@ -60,6 +62,18 @@ impl<'l> Expressions<'l> {
         ensures fits { IsNode self.now.layout place result }
     {
         self.nodes[place]
+    }
+
+    /// The slot that the expression at a place is, where it is seen to be one with bits; None tells nothing.
+    pub fn slot(&self, place: usize) -> Option<u32>
+        requires { place < length self.now.nodes }
+        ensures tree { IfSome result (λ number. ready_at (trees self.now) place ≡ ready.slot content.Bits number) }
+        ensures fits { IfSome result (λ number. number < length self.now.layout.widths) }
+    {
+        match self.node(place) {
+            Node::Slot(Content::Bits, number) => Some(number),
+            _ => None,
+        }
     }
 
     /// Whether a node may be put behind the others.

@@ -12,5 +12,6 @@ mod scalar;
 
 pub use expressions::Expressions;
 pub use node::{Content, Element, Node, Which};
+pub use numbers::joined;
 pub use operators::{binary, unary};
 pub use scalar::{Scalar, to_bits, to_slice, to_truth};

@@ -87,8 +87,35 @@ fn update(
 /// Runs an extern over the values that are given: on a frame, on the store, and where these octets aren't parsed
 /// (`v1model.p4`). Beside them it changes the list of bits that is given, and nothing else of the run. The one error is want of
 /// memory, after which none of them is used again.
-#[tactic(auto, using(crate::proofs::Executing::counted, crate::proofs::Executing::written, crate::proofs::Executing::counted_entry, crate::proofs::Executing::was_read, crate::proofs::Executing::was_hashed, crate::proofs::Executing::was_dropped, crate::proofs::Executing::was_cloned, crate::proofs::Executing::was_requested, crate::proofs::Executing::was_coloured, crate::proofs::Executing::was_verified, crate::proofs::Executing::was_updated))]
+#[tactic(auto, using(crate::proofs::Executing::was_verified, crate::proofs::Executing::was_updated))]
 pub fn execute(
+    what: Extern,
+    frame: &mut Frame<'_>,
+    store: &mut Store,
+    unparsed: &[u8],
+    run: &mut Run<'_>,
+) -> Result<(), OutOfMemory>
+    requires { IsExtern frame.old.layout store.old.shapes what }
+    ensures moved { OnOk result (IsMoved frame.old store.old (moment frame.new store.new unparsed.now run.new) (executed what (given_of run.old) (moment frame.old store.old unparsed.now run.old))) }
+    ensures run { OnOk result (run.new ≡ with_list run.new.list run.old) }
+{
+    match what {
+        Extern::Verify(algorithm, payload, slot) => {
+            verify(frame, unparsed, run, algorithm, payload, slot)?;
+            Ok(())
+        }
+        Extern::Update(algorithm, payload, to) => {
+            update(frame, unparsed, run, algorithm, payload, to)?;
+            Ok(())
+        }
+        _ => execute_within(what, frame, store, unparsed, run),
+    }
+}
+
+/// The same, for any extern.
+#[inline(never)]
+#[tactic(auto, using(crate::proofs::Executing::counted, crate::proofs::Executing::written, crate::proofs::Executing::counted_entry, crate::proofs::Executing::was_read, crate::proofs::Executing::was_hashed, crate::proofs::Executing::was_dropped, crate::proofs::Executing::was_cloned, crate::proofs::Executing::was_requested, crate::proofs::Executing::was_coloured, crate::proofs::Executing::was_verified, crate::proofs::Executing::was_updated))]
+fn execute_within(
     what: Extern,
     frame: &mut Frame<'_>,
     store: &mut Store,

@@ -1,5 +1,6 @@
 -- Which node stands at a place.
-use Rattle.std.proofs.Common.{◌≡◌, ℕ, List, ap, subst, ◌∙◌}
+use Rattle.std.proofs.Common.{◌≡◌, ℕ, ◌<◌, List, length, ap, subst, ◌∙◌}
+use Rattle.v1_frames.specs.Layouts.{Layout}
 use Rattle.v1_ready_expressions.specs.Ready.{Ready}
 use Rattle.v1_ready_blocks.specs.declared.nodes.TestNode.{TestNode}
 use Rattle.v1_ready_blocks.specs.declared.nodes.SourceNode.{SourceNode}
@@ -8,7 +9,10 @@ use Rattle.v1_ready_blocks.specs.declared.nodes.IncomingNode.{IncomingNode}
 use Rattle.v1_ready_blocks.specs.declared.nodes.OutgoingNode.{OutgoingNode}
 use Rattle.v1_ready_blocks.specs.declared.nodes.Node.{Node}
 use Rattle.v1_ready_blocks.specs.declared.nodes.Node.TheVariants as node
+use Rattle.v1_ready_blocks.specs.Tests.{plain}
 use Rattle.v1_ready_blocks.specs.Nodes.{Tree, Ground, IsNode, IsTest, IsSource, IsArgument, IsIncoming, IsOutgoing, at, tree_of, as_test, test_at, test_of, as_source, source_at, source_of, as_arguments, arguments_at, arguments_of, as_incoming, incoming_at, incoming_of, as_outgoing, outgoing_at, outgoing_of}
+use Rattle.v1_ready_steps.specs.declared.code.Code.{Code}
+use Rattle.v1_ready_steps.specs.Steps.{IsCode, ground_of}
 
 pub is_test : (es : List Ready) (ts : List Tree) (place : ℕ) (n : Node) (of : TestNode) → at ts place ≡ tree_of es ts n → n ≡ node.Test of → test_at ts place ≡ test_of es ts of
 is_test es ts place n of tree is = ap as_test (tree ∙ ap (tree_of es ts) is)
@@ -39,3 +43,11 @@ is_outgoing es ts place n of tree is = ap as_outgoing (tree ∙ ap (tree_of es t
 
 pub fits_outgoing : (g : Ground) (place : ℕ) (n : Node) (of : OutgoingNode) → IsNode g place n → n ≡ node.Outgoing of → IsOutgoing g.layout place of
 fits_outgoing g place n of fits is = subst (IsNode g place) is fits
+
+-- an expression that is a slot
+
+pub is_slot : (ts : List Tree) (place : ℕ) (e f : Ready) → test_at ts place ≡ plain e → e ≡ f → test_at ts place ≡ plain f
+is_slot ts place e f tree is = tree ∙ ap plain is
+
+pub slot_there : (c : Code) (slot : ℕ) → IsCode c → slot < length c.expressions.layout.widths → slot < length (ground_of c).layout.widths
+slot_there c slot code there = subst (λ (l : Layout). slot < length l.widths) code.layout there

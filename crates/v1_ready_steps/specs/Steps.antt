@@ -1,5 +1,5 @@
 -- What steps of statements over a frame, a store and a run come to.
-use Rattle.std.specs.Prelude.{◌≡◌, ◌≤◌, List, length, Option, Some, None, Result, Ok, Err, IfOk}
+use Rattle.std.specs.Prelude.{◌≡◌, ℕ, ◌≤◌, List, length, Option, Some, None, Result, Ok, Err, IfOk}
 use Rattle.p416_ast.specs.declared.node.BinaryOperator.{BinaryOperator}
 use Rattle.v1_sem.specs.declared.parser_error.ParserError.{ParserError}
 use Rattle.v1_sem.specs.Values.{Value}
@@ -12,10 +12,11 @@ use Rattle.v1_ready_blocks.specs.declared.nodes.Single.{Single}
 use Rattle.v1_ready_blocks.specs.declared.places.Range.{Range}
 use Rattle.v1_ready_blocks.specs.Moments.{Moment}
 use Rattle.v1_ready_blocks.specs.Tests.{Applied, single_value, Valued, valued, Reached, reached, Sought, these, nowhere}
-use Rattle.v1_ready_blocks.specs.Nodes.{Tree, trees, Ground, IsRange}
+use Rattle.v1_ready_blocks.specs.Nodes.{Tree, trees, Ground, IsRange, arguments_at}
 use Rattle.v1_ready_blocks.specs.Externs.{Given}
-use Rattle.v1_ready_blocks.specs.Arguments.{Gathered}
+use Rattle.v1_ready_blocks.specs.Arguments.{Gathered, gathered}
 use Rattle.v1_ready_externs.specs.declared.run.Run.{Run}
+use Rattle.v1_ready_externs.specs.Seen.{given_of, with_list}
 use Rattle.v1_ready_steps.specs.declared.code.Code.{Code}
 use Rattle.v1_ready_steps.specs.declared.tables.Told.{Told}
 
@@ -95,3 +96,11 @@ with_values values r = record r { values = values }
 pub record Gathers (g : Ground) (due : Gathered) (gathered : Given) (now : Moment) : Type 0 where
   pub over : IsOver g now
   pub gathers : due ≡ record { given = gathered; moment = now }
+
+-- evaluating the arguments at a place comes to what evaluating those at another one does, behind what is given by then
+pub record Goes (runs : ℕ → Moment → Applied) (ts : List Tree) (place : ℕ) (now : Moment) (old new : Run) (behind : ℕ) : Type 0 where
+  pub order : behind ≤ place
+  pub run : new ≡ with_list new.list old
+  pub same :
+      gathered runs (arguments_at ts place) (record { given = given_of old; moment = now })
+      ≡ gathered runs (arguments_at ts behind) (record { given = given_of new; moment = now })

@@ -11,7 +11,7 @@ mod tests_of;
 
 pub use arguments::gather;
 pub use code::Code;
-pub use nodes::{incoming_node, outgoing_node};
+pub use nodes::{incoming_node, outgoing_node, slot_of};
 pub use sources::{parts_at, source};
 pub use tables::{NoTables, Tables, Told};
 pub use tests_of::{is_stopped, stop, test};

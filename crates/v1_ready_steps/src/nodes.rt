@@ -3,8 +3,10 @@ ghost use Rattle.std.specs.Prelude.{◌≡◌, ◌<◌, [], length, IfSome, Matc
 ghost use Rattle.v1_ready_blocks.specs.declared.places.RangePlace.TheVariants as range_place;
 ghost use Rattle.v1_ready_blocks.specs.Tests.{parts, plain};
 ghost use Rattle.v1_ready_blocks.specs.Nodes.{IsArgument, IsIncoming, IsOutgoing, IsSource, IsTest, arguments_at, arguments_of, incoming_at, incoming_of, no_range, outgoing_at, outgoing_of, source_at, source_of, test_at, test_of};
-ghost use Rattle.v1_ready_expressions.specs.Nodes.{nothing as no_expression};
-ghost use Rattle.v1_ready_steps.specs.Steps.{expressions_in, ground_of, trees_of};
+ghost use Rattle.v1_ready_expressions.specs.declared.node.Content.TheVariants as content;
+ghost use Rattle.v1_ready_expressions.specs.Ready as ready;
+ghost use Rattle.v1_ready_expressions.specs.Nodes.{nothing as no_expression, ready_at};
+ghost use Rattle.v1_ready_steps.specs.Steps.{IsCode, expressions_in, ground_of, trees_of};
 
 use crate::code::Code;
 use v1_ready_blocks::{ArgumentNode, IncomingNode, Node, OutgoingNode, SourceNode, TestNode};
@@ -20,6 +22,33 @@ pub fn test_node(code: &Code<'_>, place: usize) -> Option<TestNode>
         Node::Test(node) => Some(node),
         _ => None,
     }
+}
+
+/// The place of an expression among those that apply no table, where it is seen to be one; None tells nothing.
+#[tactic(auto, using(crate::proofs::Testing::expression_there))]
+pub fn plain_at(code: &Code<'_>, place: usize) -> Option<usize>
+    requires place { place < length code.now.statements.nodes }
+    requires code { IsCode code.now }
+    ensures tree { IfSome result (λ e. test_at (trees_of code.now) place ≡ plain (ready_at (expressions_in code.now) e)) }
+    ensures there { IfSome result (λ e. e < length code.now.expressions.nodes) }
+{
+    match test_node(code, place) {
+        Some(TestNode::Plain(e)) => Some(e),
+        _ => None,
+    }
+}
+
+/// The slot that an expression is, where it is seen to be one with bits; None tells nothing.
+#[tactic(auto, using(crate::proofs::Reading::is_slot, crate::proofs::Reading::slot_there))]
+pub fn slot_of(code: &Code<'_>, place: usize) -> Option<u32>
+    requires place { place < length code.now.statements.nodes }
+    requires code { IsCode code.now }
+    ensures tree { IfSome result (λ slot. test_at (trees_of code.now) place ≡ plain (ready.slot content.Bits slot)) }
+    ensures there { IfSome result (λ slot. slot < length (ground_of code.now).layout.widths) }
+{
+    let e = plain_at(code, place)?;
+    let slot = code.expressions.slot(e)?;
+    Some(slot)
 }
 
 /// The node of what is read whole; None where another one stands there.

@@ -43,8 +43,33 @@ pub fn parts_at(frame: &Frame<'_>, of: RangePlace) -> Result<Range, ParserError>
 /// The parts that the source at a place means, or the error that ended the evaluation of a condition. It applies the tables
 /// that it asks. The one other error is want of memory, after which frame, store and run are not used again. It calls itself
 /// as deep as choices nest.
-#[tactic(auto, using(crate::proofs::Sourcing::over_range, crate::proofs::Sourcing::finds_nothing, crate::proofs::Sourcing::finds_parts, crate::proofs::Sourcing::finds_positive, crate::proofs::Sourcing::finds_negative, crate::proofs::Sourcing::finds_failed))]
+#[tactic(auto, using(crate::proofs::Sourcing::over_range, crate::proofs::Sourcing::finds_parts))]
 pub fn source<T: Tables>(
+    code: &Code<'_>,
+    tables: &T,
+    place: usize,
+    frame: &mut Frame<'_>,
+    store: &mut Store,
+    unparsed: &[u8],
+    run: &mut Run<'_>,
+) -> Result<Result<Range, ParserError>, OutOfMemory>
+    requires place { place < length code.now.statements.nodes }
+    requires code { IsCode code.now }
+    requires tables { T.base tables.now ≡ ground_of code.now }
+    requires over { IsOver (ground_of code.now) (moment frame.old store.old unparsed.now run.old) }
+    ensures is { IfOk result (Finds (ground_of code.now) (source_range (T.applies tables.now) (source_at (trees_of code.now) place) (moment frame.old store.old unparsed.now run.old)) (moment frame.new store.new unparsed.now run.new)) }
+    ensures kept { OnOk result (given_of run.new ≡ given_of run.old) }
+{
+    if let Some(SourceNode::Parts(of)) = source_node(code, place) {
+        return Ok(parts_at(frame, of));
+    }
+    source_within(code, tables, place, frame, store, unparsed, run)
+}
+
+/// The same, for a source of any node.
+#[inline(never)]
+#[tactic(auto, using(crate::proofs::Sourcing::over_range, crate::proofs::Sourcing::finds_nothing, crate::proofs::Sourcing::finds_parts, crate::proofs::Sourcing::finds_positive, crate::proofs::Sourcing::finds_negative, crate::proofs::Sourcing::finds_failed))]
+fn source_within<T: Tables>(
     code: &Code<'_>,
     tables: &T,
     place: usize,
@@ -68,9 +93,9 @@ pub fn source<T: Tables>(
         SourceNode::Chosen(c, a, b) => match test(code, tables, c, frame, store, unparsed, run)? {
             Ok(chosen) => {
                 if chosen.is_true() {
-                    source(code, tables, a, frame, store, unparsed, run)
+                    source_within(code, tables, a, frame, store, unparsed, run)
                 } else {
-                    source(code, tables, b, frame, store, unparsed, run)
+                    source_within(code, tables, b, frame, store, unparsed, run)
                 }
             }
             Err(error) => Ok(Err(error)),

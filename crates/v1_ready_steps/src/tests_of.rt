@@ -8,7 +8,7 @@ ghost use Rattle.v1_ready_externs.specs.Seen.{given_of, moment};
 ghost use Rattle.v1_ready_steps.specs.Steps.{Gives, IsCode, IsOver, first_error, ground_of, paired, stopped_by, trees_of, turned_by};
 
 use crate::code::Code;
-use crate::nodes::test_node;
+use crate::nodes::{plain_at, test_node};
 use crate::tables::Tables;
 use p4x_bits::OutOfMemory;
 use p416_ast::BinaryOperator;
@@ -95,8 +95,33 @@ pub fn stop(run: &mut Run<'_>, error: ParserError)
 /// The value of the expression at a place, or the error that ended its evaluation. It applies the tables that it asks. The one
 /// other error is want of memory, after which frame, store and run are not used again. It calls itself as deep as the
 /// expression is.
-#[tactic(auto, using(crate::proofs::Testing::expression_there, crate::proofs::Testing::expression_layout, crate::proofs::Testing::gives_nothing, crate::proofs::Testing::gives_plain, crate::proofs::Testing::gives_hit, crate::proofs::Testing::gives_miss, crate::proofs::Testing::gives_alone, crate::proofs::Testing::gives_both_on, crate::proofs::Testing::gives_both_off, crate::proofs::Testing::gives_both_failed, crate::proofs::Testing::gives_either_on, crate::proofs::Testing::gives_either_off, crate::proofs::Testing::gives_either_failed, crate::proofs::Testing::gives_pair, crate::proofs::Testing::gives_pair_failed, crate::proofs::Testing::gives_choice_on, crate::proofs::Testing::gives_choice_off, crate::proofs::Testing::gives_choice_failed))]
+#[tactic(auto, using(crate::proofs::Testing::expression_layout, crate::proofs::Testing::gives_plain))]
 pub fn test<T: Tables>(
+    code: &Code<'_>,
+    tables: &T,
+    place: usize,
+    frame: &mut Frame<'_>,
+    store: &mut Store,
+    unparsed: &[u8],
+    run: &mut Run<'_>,
+) -> Result<Result<Scalar, ParserError>, OutOfMemory>
+    requires place { place < length code.now.statements.nodes }
+    requires code { IsCode code.now }
+    requires tables { T.base tables.now ≡ ground_of code.now }
+    requires over { IsOver (ground_of code.now) (moment frame.old store.old unparsed.now run.old) }
+    ensures is { IfOk result (Gives (ground_of code.now) (test_value (T.applies tables.now) (test_at (trees_of code.now) place) (moment frame.old store.old unparsed.now run.old)) (moment frame.new store.new unparsed.now run.new)) }
+    ensures kept { OnOk result (given_of run.new ≡ given_of run.old) }
+{
+    if let Some(e) = plain_at(code, place) {
+        return Ok(code.expressions.value(e, frame, unparsed));
+    }
+    test_within(code, tables, place, frame, store, unparsed, run)
+}
+
+/// The same, for an expression of any node.
+#[inline(never)]
+#[tactic(auto, using(crate::proofs::Testing::expression_there, crate::proofs::Testing::expression_layout, crate::proofs::Testing::gives_nothing, crate::proofs::Testing::gives_plain, crate::proofs::Testing::gives_hit, crate::proofs::Testing::gives_miss, crate::proofs::Testing::gives_alone, crate::proofs::Testing::gives_both_on, crate::proofs::Testing::gives_both_off, crate::proofs::Testing::gives_both_failed, crate::proofs::Testing::gives_either_on, crate::proofs::Testing::gives_either_off, crate::proofs::Testing::gives_either_failed, crate::proofs::Testing::gives_pair, crate::proofs::Testing::gives_pair_failed, crate::proofs::Testing::gives_choice_on, crate::proofs::Testing::gives_choice_off, crate::proofs::Testing::gives_choice_failed))]
+fn test_within<T: Tables>(
     code: &Code<'_>,
     tables: &T,
     place: usize,
@@ -126,42 +151,46 @@ pub fn test<T: Tables>(
             Ok(Ok(Scalar::Truth(!told.hit)))
         }
         TestNode::Alone(of, a) => {
-            let value = test(code, tables, a, frame, store, unparsed, run)?;
+            let value = test_within(code, tables, a, frame, store, unparsed, run)?;
             Ok(turned(of, value))
         }
-        TestNode::Both(a, b) => match test(code, tables, a, frame, store, unparsed, run)? {
+        TestNode::Both(a, b) => match test_within(code, tables, a, frame, store, unparsed, run)? {
             Ok(left) => {
                 if left.is_true() {
-                    test(code, tables, b, frame, store, unparsed, run)
+                    test_within(code, tables, b, frame, store, unparsed, run)
                 } else {
                     Ok(Ok(left))
                 }
             }
             Err(error) => Ok(Err(error)),
         },
-        TestNode::Either(a, b) => match test(code, tables, a, frame, store, unparsed, run)? {
+        TestNode::Either(a, b) => match test_within(code, tables, a, frame, store, unparsed, run)? {
             Ok(left) => {
                 if left.is_true() {
                     Ok(Ok(left))
                 } else {
-                    test(code, tables, b, frame, store, unparsed, run)
+                    test_within(code, tables, b, frame, store, unparsed, run)
                 }
             }
             Err(error) => Ok(Err(error)),
         },
-        TestNode::Pair(of, a, b) => match test(code, tables, a, frame, store, unparsed, run)? {
+        TestNode::Pair(of, a, b) => match test_within(
+            code, tables, a, frame, store, unparsed, run,
+        )? {
             Ok(left) => {
-                let right = test(code, tables, b, frame, store, unparsed, run)?;
+                let right = test_within(code, tables, b, frame, store, unparsed, run)?;
                 Ok(paired(of, left, right))
             }
             Err(error) => Ok(Err(error)),
         },
-        TestNode::Choice(c, a, b) => match test(code, tables, c, frame, store, unparsed, run)? {
+        TestNode::Choice(c, a, b) => match test_within(
+            code, tables, c, frame, store, unparsed, run,
+        )? {
             Ok(chosen) => {
                 if chosen.is_true() {
-                    test(code, tables, a, frame, store, unparsed, run)
+                    test_within(code, tables, a, frame, store, unparsed, run)
                 } else {
-                    test(code, tables, b, frame, store, unparsed, run)
+                    test_within(code, tables, b, frame, store, unparsed, run)
                 }
             }
             Err(error) => Ok(Err(error)),

@@ -1,5 +1,5 @@
 -- The bits of headers, slot after slot.
-use Rattle.std.proofs.Common.{◌≡◌, ℕ, zero, suc, ◌+◌, ◌-◌, ◌*◌, ◌/◌, ◌^◌, ◌<◌, ◌≤◌, Bool, true, false, nat_lt, slice_index, List, ◌++◌, length, take, drop, refl, sym, ap, subst, ◌∙◌, arith, append_assoc}
+use Rattle.std.proofs.Common.{◌≡◌, ℕ, zero, suc, ◌+◌, ◌-◌, ◌*◌, ◌/◌, ◌^◌, ◌<◌, ◌≤◌, Bool, true, false, nat_lt, slice_index, List, [], ◌++◌, length, take, drop, refl, sym, ap, subst, ◌∙◌, arith, append_assoc}
 use Rattle.std.proofs.lemmas.Bool.{lt-ltb, ltb-true}
 use Rattle.std.proofs.lemmas.List.{append-nil, drop-drop}
 use Rattle.p4x_bits.specs.BitLists.{num, bits, octet_bits}
@@ -133,11 +133,12 @@ has_filled r octets old now new total count is le counts valid fills = record {
 pub record EmittingSlots (c : Cells) (n slot i : ℕ) (old now : List Bool) : Type 0 where
   pub same : now ++ slot_bits c (n - i) (slot + i) ≡ old ++ slot_bits c n slot
 
-pub slots_begin : (c : Cells) (n slot : ℕ) (old : List Bool) → EmittingSlots c n slot 0 old old
-slots_begin c n slot old =
+pub slots_begin : (c : Cells) (n slot : ℕ) (old more : List Bool) → more ≡ [] → EmittingSlots c n slot 0 old (old ++ more)
+slots_begin c n slot old more none =
     let a : n - 0 ≡ n = omega arith in
     let b : slot + 0 ≡ slot = omega arith in
-    record { same = ap (λ k. old ++ slot_bits c k (slot + 0)) a ∙ ap (λ k. old ++ slot_bits c n k) b }
+    let e : old ++ more ≡ old = ap (λ l. old ++ l) none ∙ append-nil old in
+    record { same = ap (λ l. l ++ slot_bits c (n - 0) (slot + 0)) e ∙ ap (λ k. old ++ slot_bits c k (slot + 0)) a ∙ ap (λ k. old ++ slot_bits c n k) b }
 
 pub slots_go : (c : Cells) (n slot i w number : ℕ) (old now new : List Bool) → i < n → w ≡ slot_width c (slot + i) → number ≡ slot_value c (slot + i) → new ≡ now ++ bits w number → EmittingSlots c n slot i old now → EmittingSlots c n slot (i + 1) old new
 slots_go c n slot i w number old now new h wide is put g = record {
@@ -151,9 +152,9 @@ slots_go c n slot i w number old now new h wide is put g = record {
       ∙ g.same;
 }
 
-pub slots_end : (c : Cells) (n slot i : ℕ) (old now : List Bool) → n ≤ i → EmittingSlots c n slot i old now → now ≡ old ++ slot_bits c n slot
-slots_end c n slot i old now h g =
-    sym (append-nil now) ∙ sym (ap (λ k. now ++ slot_bits c k (slot + i)) (none_left n i h)) ∙ g.same
+pub slots_end : (c : Cells) (n slot i : ℕ) (old now last : List Bool) → n ≤ i → last ≡ now → EmittingSlots c n slot i old now → last ≡ old ++ slot_bits c n slot
+slots_end c n slot i old now last h is g =
+    is ∙ sym (append-nil now) ∙ sym (ap (λ k. now ++ slot_bits c k (slot + i)) (none_left n i h)) ∙ g.same
 
 pub record Emitting (c : Cells) (r : Range) (i : ℕ) (old now : List Bool) : Type 0 where
   pub same : now ++ element_bits c r i (r.headers - i) ≡ old ++ element_bits c r 0 r.headers

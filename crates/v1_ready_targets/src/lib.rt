@@ -2,12 +2,14 @@
 //! emptied; elements of stacks that move; headers that are extracted and emitted. No name is looked up.
 #![tactic(auto)]
 
+mod buffers;
 mod numbers;
 mod packets;
 mod places;
 mod ranges;
 mod stacks;
 
+pub use buffers::BitBuffer;
 pub use numbers::low;
 pub use packets::{emit, extract, move_on};
 pub use places::{header_at, put, put_at, range_at, slot_at};

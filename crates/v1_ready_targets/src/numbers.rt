@@ -1,8 +1,8 @@
 // Numbers of so many bits (P4_16 1.2, "Bit slicing").
 ghost use Rattle.std.specs.Prelude.{◌≡◌, ◌%◌, ◌^◌, ◌<◌, ◌≤◌};
 ghost use Rattle.v1_sem.specs.Values.{spliced};
-ghost use Rattle.v1_ready_blocks.specs.Places.{around, seen_slice};
-ghost use Rattle.v1_ready_blocks.specs.Nodes.{IsSlice, IsSliceOf};
+ghost use Rattle.v1_ready_blocks.specs.Places.{seen_slice};
+ghost use Rattle.v1_ready_blocks.specs.Nodes.{IsSlice};
 
 use v1_ready_blocks::Slice;
 
@@ -20,7 +20,7 @@ pub fn low(number: u128, width: u8) -> u128
 }
 
 /// A number with other bits in a slice of it, modulo 2 to the width.
-fn splice(width: u8, slice: Slice, old: u128, number: u128) -> u128
+pub fn splice(width: u8, slice: Slice, old: u128, number: u128) -> u128
     requires width { width ≤ 128 }
     requires slice { IsSlice slice }
     ensures is { result ≡ spliced (seen_slice slice) old number % 2 ^ width }
@@ -30,17 +30,4 @@ fn splice(width: u8, slice: Slice, old: u128, number: u128) -> u128
     let within = low(number, slice.width) << slice.low;
     let below = low(old, slice.low);
     low(above.wrapping_add(within).wrapping_add(below), width)
-}
-
-/// A number, or an old one with the number in a slice of it, modulo 2 to the width.
-pub fn around(width: u8, slice: Option<Slice>, old: u128, number: u128) -> u128
-    requires width { width ≤ 128 }
-    requires slice { IsSliceOf slice }
-    ensures is { result ≡ around slice old number % 2 ^ width }
-    ensures fits { result < 2 ^ width }
-{
-    match slice {
-        Some(slice) => splice(width, slice, old, number),
-        None => low(number, width),
-    }
 }

@@ -5,6 +5,7 @@ ghost use Rattle.v1_ready_blocks.specs.Packets.{element_bits, filled, header_bit
 ghost use Rattle.v1_ready_blocks.specs.Nodes.{IsRange, IsRangePlace};
 ghost use Rattle.v1_ready_targets.specs.Parts.{HasExtracted, IsHeader};
 
+use crate::buffers::BitBuffer;
 use crate::stacks::element_of;
 use p4x_bits::{Bits, OutOfMemory, read_octet_field};
 use v1_frames::Frame;
@@ -96,9 +97,11 @@ fn emit_slots(
     requires narrow { slot + count < 2 ^ 32 }
     ensures { OnOk result (emitted.new ≡ emitted.old ++ slot_bits frame.now count slot) }
 {
+    let mut buffer = BitBuffer::none();
     for i in 0..count {
-        emitted.push_number(frame.width(slot + i), frame.get(slot + i))?;
+        buffer.push(emitted, frame.width(slot + i), frame.get(slot + i))?;
     }
+    buffer.flush(emitted)?;
     Ok(())
 }
 

@@ -8,7 +8,7 @@ ghost use Rattle.v1_ready_targets.specs.Parts.{IsHeader};
 ghost use Rattle.v1_ready_blocks.specs.Nodes.{IsHeaderPlace, IsRange, IsRangePlace, IsSlot, IsSliceOf, IsSlotPlace, IsTarget, IsToldRange};
 ghost use Rattle.v1_ready_blocks.specs.Places.{element_range, put, put_at, range_at, slot_at, told_range, told_slot};
 
-use crate::numbers::around;
+use crate::numbers::{low, splice};
 use v1_frames::Frame;
 use v1_ready_blocks::{Range, RangePlace, Slice, SlotPlace, Target, ToldRange};
 use v1_ready_expressions::{Element, Which};
@@ -19,9 +19,13 @@ pub fn put(frame: &mut Frame<'_>, slot: u32, slice: Option<Slice>, number: u128)
     requires slice { IsSliceOf slice }
     ensures { frame.new ≡ put slot slice number frame.old }
 {
-    let width = frame.width(slot);
-    let old = frame.get(slot);
-    frame.set(slot, around(width, slice, old, number));
+    match slice {
+        Some(slice) => {
+            let old = frame.get(slot);
+            frame.set(slot, splice(frame.width(slot), slice, old, number));
+        }
+        None => frame.set(slot, low(number, frame.width(slot))),
+    }
 }
 
 /// Puts a number into a target, cut to what is there; a field of an invalid header keeps its own.

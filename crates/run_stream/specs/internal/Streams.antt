@@ -1,5 +1,5 @@
 -- What a run over a capture that comes in pieces has come to: the run's code beside its meaning.
-use Rattle.std.specs.Prelude.{◌≡◌, ◌⊎◌, ℕ, ◌+◌, ◌%◌, ◌^◌, ◌≤◌, Bool, true, false, All, List, [], ◌∷◌, ◌++◌, length, drop, string_bytes, Option, Some, None, Result, Ok, Err, IsErrAnd}
+use Rattle.std.specs.Prelude.{◌≡◌, ◌⊎◌, ℕ, ◌+◌, ◌%◌, ◌^◌, ◌≤◌, Bool, true, false, All, List, [], ◌∷◌, ◌++◌, length, drop, Option, Some, None, Result, Ok, Err, IsErrAnd}
 use Rattle.std.specs.List.{flat_map}
 use Rattle.p4x_fault.specs.declared.Fault.{Fault as Refusal}
 use Rattle.p4x_io.specs.Desk.{grown}
@@ -43,7 +43,7 @@ held_of s = record {
   departures = s.counts.sent;
   cut = s.counts.cut;
   sent = s.sent.items;
-  report = string_bytes s.report;
+  report = s.report.items;
 }
 
 -- the same with what its runner has come to

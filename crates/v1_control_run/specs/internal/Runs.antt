@@ -1,19 +1,16 @@
 -- What runs the blocks keeps from packet to packet, and how a run begins and ends.
-use Rattle.std.specs.Prelude.{◌≡◌, ℕ, Bool, List, [], Option, None, IfSome}
+use Rattle.std.specs.Prelude.{◌≡◌, ℕ, Bool, true, List, None}
 use Rattle.p4x_bits.specs.BitLists.{octet_bits, IsOctets}
 use Rattle.state_store.specs.State.{Contents}
 use Rattle.v1_sem.specs.declared.block.Block.{Block}
 use Rattle.v1_sem.specs.declared.block.Block.TheVariants.{Verify, Ingress, Egress, Compute, Deparse}
-use Rattle.v1_frames.specs.Cells.{Cells}
 use Rattle.v1_frame_values.specs.Programs.{layout16}
-use Rattle.v1_frame_values.specs.Frames.{IsFrameOf}
 use Rattle.v1_ready_blocks.specs.Tables.{Fill}
 use Rattle.v1_ready_externs.specs.declared.run.Run.{Run}
-use Rattle.v1_parse_machine.specs.declared.machine.ParserMachine.{ParserMachine}
+use Rattle.v1_parse_run.specs.declared.machine.ParserMachine.{ParserMachine}
 use Rattle.v1_block_run.specs.declared.block.ReadyBlock.{ReadyBlock}
 use Rattle.v1_block_tables.specs.declared.parts.FilledBlock.{FilledBlock}
 use Rattle.v1_control_run.specs.declared.prepared.Prepared.{Prepared}
-use Rattle.v1_control_run.specs.declared.spare.Spare.{Spare}
 use Rattle.v1_control_run.specs.Prepared.{DoesControl, IsPrepared, objects_of, setting_of}
 use Rattle.v1_control_run.specs.declared.runners.Runners.{Runners}
 
@@ -35,15 +32,15 @@ pub record AreRunners (p : Prepared) (r : Runners) : Type 0 where
   pub controls : (block : Block) → DoesControl (setting_of p) block (filled_of r block).fill.now (filled_of r block).block.now
 
 -- with what is kept from packet to packet a packet can be run
-pub record CanBegin (p : Prepared) (store : Contents) (s : Spare) : Type 0 where
+pub record CanBegin (p : Prepared) (store : Contents) (s : ParserMachine) : Type 0 where
   pub waiting : s.run.waiting.layout ≡ layout16 p.packets.now
   pub shapes : store.shapes ≡ objects_of (setting_of p)
 
--- what is kept from packet to packet; nothing where want of memory ended a block
-pub record IsReady (p : Prepared) (r : Runners) (store : Contents) (spare : Option Spare) : Type 0 where
+-- what is kept from packet to packet, which can be used but for after want of memory in a block
+pub record IsReady (p : Prepared) (r : Runners) (store : Contents) (usable : Bool) (s : ParserMachine) : Type 0 where
   pub prepared : IsPrepared p
   pub runners : AreRunners p r
-  pub rests : IfSome spare (λ s. CanBegin p store s)
+  pub rests : usable ≡ true → CanBegin p store s
 
 -- with these bits emitted, and this count of work; nothing is stopped, and no action runs
 abbrev pub begun_run : List Bool → ℕ → Run → Run
@@ -55,20 +52,3 @@ pub record HasEnded (r : Run) (out : List ℕ) : Type 0 where
   pub octets : IsOctets out
   pub stopped : r.stopped ≡ None
   pub hit : r.hit ≡ None
-
--- The machine of the parser stands in front of a packet: nothing is parsed of these octets, the frame and the store are these, this
--- much work was counted, and nothing was emitted.
-pub record Stands (p : Prepared) (f : Cells) (store : Contents) (octets : List ℕ) (work : ℕ) (m : ParserMachine) : Type 0 where
-  pub prepared : IsPrepared p
-  pub code : m.code.now ≡ p.states.now
-  pub octets_are : m.octets.now ≡ octets
-  pub nothing : m.parsed ≡ 0
-  pub frame_is : m.frame ≡ f
-  pub frame : IsFrameOf p.packets.now m.frame
-  pub store_is : m.store ≡ store
-  pub shapes : m.store.shapes ≡ objects_of (setting_of p)
-  pub waiting : IsFrameOf p.packets.now m.run.waiting
-  pub emitted : m.run.emitted ≡ []
-  pub work_is : m.run.work ≡ work
-  pub stopped : m.run.stopped ≡ None
-  pub hit : m.run.hit ≡ None

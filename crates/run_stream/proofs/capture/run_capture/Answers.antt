@@ -1,15 +1,14 @@
 use Rattle.std.proofs.Common.{◌≡◌, ◌↔◌, ◌<◌, ◌≤◌, ℕ, nat_lt, Bool, true, false, IsTrue, List, length, Some, refl, ◌∙◌, ap, arith}
 use Rattle.std.proofs.lemmas.Bool.Decides.{nat_tests}
 use Rattle.std.proofs.lemmas.Result.{err_from_is_err_and}
-use Rattle.pcap_io.specs.Reader.{taken_from}
 use Rattle.run_stream.specs.Captured.{capture_limit}
 use Rattle.run_stream.specs.internal.Streams.{Held}
 use Rattle.run_stream.proofs.Delivering.{pieces_stopped, pieces_refused, pieces_reported, pieces_partly, reported_by, partly_by}
-use Rattle.run_stream.proofs.Pieces.{nothing, ends_from}
+use Rattle.run_stream.proofs.Pieces.{ends_from}
 use Rattle.run_stream.proofs.capture.run_capture.Goals as goal
 
 pub run_pieces-requires-clause-reader : goal.run_pieces-requires-clause-reader
-run_pieces-requires-clause-reader g c = c.new-reader.ensures.holds ∙ ap (taken_from 0) nothing
+run_pieces-requires-clause-reader g c = c.new-reader.ensures
 
 -- a file without an octet at the place of the limit isn't over it
 not_over : (found : Bool) (n : ℕ) → found ≡ false → IsTrue found ↔ (capture_limit < n) → n ≤ capture_limit

@@ -10,7 +10,7 @@ use Rattle.v1_ready_externs.specs.declared.run.Run.{Run}
 use Rattle.v1_ready_externs.specs.Seen.{moment, seen_hit}
 use Rattle.v1_ready_states.specs.States.{parse_ended, with_error}
 use Rattle.v1_ready_steps.specs.Steps.{IsOver}
-use Rattle.v1_parse_machine.specs.Working.{ended_cells, unstopped}
+use Rattle.v1_parse_run.specs.Working.{ended_cells, unstopped}
 
 -- by the error that stopped it
 

@@ -1,10 +1,10 @@
-// Steps of a parser's machine over a frame and a run.
+// Steps of a parser over a frame and a run.
 ghost use Rattle.std.specs.Prelude.{◌≡◌, ◌≤◌, drop, length, unwrap_or};
 ghost use Rattle.v1_sem.specs.Frames.{error_number};
 ghost use Rattle.v1_sem.specs.declared.parser_error.ParserError.TheVariants.{NoError};
 ghost use Rattle.v1_parse_run.specs.Made.{HoldsErrors};
 ghost use Rattle.v1_block_run.specs.Steps.{ticked_run};
-ghost use Rattle.v1_parse_machine.specs.Working.{ended_cells, unstopped};
+ghost use Rattle.v1_parse_run.specs.Working.{ended_cells, unstopped};
 
 use v1_frames::Frame;
 use v1_ready_externs::Run;
