@@ -1,5 +1,5 @@
 // Statements one behind the other, as far as the first of them that is no such list (P4_16 1.2, "Block statement").
-ghost use Rattle.std.specs.Prelude.{◌≡◌, ◌<◌, IfOk};
+ghost use Rattle.std.specs.Prelude.{◌<◌, IfOk};
 ghost use Rattle.v1_block_run.specs.Blocks.{count_of};
 ghost use Rattle.v1_block_run.specs.Tasks.{AreThere};
 ghost use Rattle.v1_block_run.specs.Steps.{Opens};

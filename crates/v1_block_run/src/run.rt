@@ -218,8 +218,6 @@ pub fn run_action(
     let none = NoTables {
         statements: &block.code.statements,
     };
-    let end = run_tasks(
-        block, &none, body, tasks, frame, store, octets, parsed, run,
-    )?;
+    let end = run_tasks(block, &none, body, tasks, frame, store, octets, parsed, run)?;
     Ok(end)
 }
