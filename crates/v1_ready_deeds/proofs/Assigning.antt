@@ -1,20 +1,23 @@
 -- What assignments come to.
-use Rattle.std.proofs.Common.{◌≡◌, ℕ, List, Option, Some, None, Ok, Err, refl, sym, ap, ◌∙◌}
+use Rattle.std.proofs.Common.{◌≡◌, ℕ, ◌<◌, List, length, Option, Some, None, Ok, Err, refl, sym, ap, ◌∙◌}
 use Rattle.state_store.specs.State.{Contents}
 use Rattle.v1_sem.specs.declared.parser_error.ParserError.{ParserError}
 use Rattle.v1_sem.specs.declared.parser_error.ParserError.TheVariants.{StackOutOfBounds}
 use Rattle.v1_sem.specs.Values.{as_number}
-use Rattle.v1_frames.specs.Cells.{Cells}
+use Rattle.v1_frames.specs.Cells.{Cells, slot_value}
 use Rattle.v1_frames.specs.Layouts.{Layout}
 use Rattle.v1_ready_expressions.specs.declared.scalar.Scalar.{Scalar}
+use Rattle.v1_ready_expressions.specs.declared.node.Content.TheVariants as content
 use Rattle.v1_ready_expressions.specs.Scalars.{seen_scalar}
+use Rattle.v1_ready_expressions.specs.Ready as ready
 use Rattle.v1_ready_blocks.specs.declared.places.Slice.{Slice}
 use Rattle.v1_ready_blocks.specs.declared.places.SlotPlace.{SlotPlace}
+use Rattle.v1_ready_blocks.specs.declared.places.SlotPlace.TheVariants as slot_place
 use Rattle.v1_ready_blocks.specs.declared.places.Range.{Range}
 use Rattle.v1_ready_blocks.specs.declared.places.RangePlace.{RangePlace}
 use Rattle.v1_ready_blocks.specs.Moments.{Moment, with_cells}
 use Rattle.v1_ready_blocks.specs.Places.{slot_at, range_at, put, put_value, copied}
-use Rattle.v1_ready_blocks.specs.Tests.{Applied, Test, Valued, test_value, with_test, Source, Reached, source_range, with_source, with_slot_at, with_range}
+use Rattle.v1_ready_blocks.specs.Tests.{Applied, Test, plain, Valued, test_value, with_test, Source, Reached, source_range, with_source, with_slot_at, with_range}
 use Rattle.v1_ready_blocks.specs.Statements.{assign, assign_parts, let_go, done}
 use Rattle.v1_ready_blocks.specs.Nodes.{Ground, IsSlot, IsSlotPlace, IsRange, IsRangePlace}
 use Rattle.v1_ready_externs.specs.declared.run.Run.{Run}
@@ -61,6 +64,22 @@ module _ (g : Ground) (runs : ℕ → Moment → Applied) (f h new : Cells) (s t
   assign_failed slot error is gives stops =
       stopped_comes g (done runs (assign to slice e) (moment f s u r)) h t u n after error gives.over
       (found slot is ∙ ap (λ (x : Valued). with_test x (λ v k. with_cells (put_value slot slice v k.cells) k)) gives.gives) stops
+
+-- a slot becomes another one with bits
+
+module _ (g : Ground) (f : Cells) (s : Contents) (u : List ℕ) (r : Run) where
+  pub slot_fixed : (slot : ℕ) → IsOver g (moment f s u r) → IsSlotPlace g.layout (slot_place.Fixed slot) → IsSlot f.layout slot
+  slot_fixed slot over is = at_layout g (λ (l : Layout). IsSlot l slot) f s u r over is
+
+  pub slot_read : (slot : ℕ) → IsOver g (moment f s u r) → slot < length g.layout.widths → slot < length f.layout.widths
+  slot_read slot over is = at_layout g (λ (l : Layout). slot < length l.widths) f s u r over is
+
+module _ (g : Ground) (runs : ℕ → Moment → Applied) (f new : Cells) (s : Contents) (u : List ℕ) (r : Run) (slice : Option Slice) (e : Test) where
+  pub slot_assigned : (slot from number : ℕ) → IsOver g (moment f s u r) → e ≡ plain (ready.slot content.Bits from) → number ≡ slot_value f from → new ≡ put slot slice number f → Comes g (done runs (assign (slot_place.Fixed slot) slice e) (moment f s u r)) (moment new s u r)
+  slot_assigned slot from number over tree is puts =
+      frame_comes g (done runs (assign (slot_place.Fixed slot) slice e) (moment f s u r)) f new (put slot slice number f) s u r over
+      (ap (λ (x : Test). done runs (assign (slot_place.Fixed slot) slice x) (moment f s u r)) tree
+      ∙ ap (λ (k : ℕ). moment (put slot slice k f) s u r) (sym is)) puts refl
 
 module _ (g : Ground) (runs : ℕ → Moment → Applied) (f h new : Cells) (s t : Contents) (u : List ℕ) (r n after : Run) (to : RangePlace) (from : Source) where
   pub range_beyond : IsOver g (moment f s u r) → None ≡ range_at f to → after ≡ stopped_by StackOutOfBounds r → Comes g (done runs (assign_parts to from) (moment f s u r)) (moment f s u after)

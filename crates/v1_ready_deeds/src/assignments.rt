@@ -13,7 +13,7 @@ use v1_frames::Frame;
 use v1_ready_blocks::{RangePlace, Slice, SlotPlace};
 use v1_ready_expressions::Scalar;
 use v1_ready_externs::Run;
-use v1_ready_steps::{Code, Tables, source, stop, test};
+use v1_ready_steps::{Code, Tables, slot_of, source, stop, test};
 use v1_ready_targets::{copy, put, range_at, slot_at};
 use v1_sem::ParserError;
 
@@ -32,8 +32,41 @@ pub fn number_of(value: Scalar) -> u128
 /// Assigns a single value to a slot, or to a slice of it. Where the slot is one of an element that isn't there, or evaluating
 /// the value ends with an error, that stops the run. The one error is want of memory, after which frame, store and run are not
 /// used again.
-#[tactic(auto, using(crate::proofs::Assigning::slot_over, crate::proofs::Assigning::slot_later, crate::proofs::Assigning::slot_beyond, crate::proofs::Assigning::was_assigned, crate::proofs::Assigning::assign_failed))]
+#[tactic(auto, using(crate::proofs::Assigning::slot_fixed, crate::proofs::Assigning::slot_read, crate::proofs::Assigning::slot_assigned))]
 pub fn assign<T: Tables>(
+    code: &Code<'_>,
+    tables: &T,
+    to: SlotPlace,
+    slice: Option<Slice>,
+    place: usize,
+    frame: &mut Frame<'_>,
+    store: &mut Store,
+    unparsed: &[u8],
+    run: &mut Run<'_>,
+) -> Result<(), OutOfMemory>
+    requires to { IsSlotPlace (ground_of code.now).layout to }
+    requires slice { IsSliceOf slice }
+    requires place { place < length code.now.statements.nodes }
+    requires code { IsCode code.now }
+    requires tables { T.base tables.now ≡ ground_of code.now }
+    requires over { IsOver (ground_of code.now) (moment frame.old store.old unparsed.now run.old) }
+    ensures { OnOk result (Comes (ground_of code.now) (done (T.applies tables.now) (assign to slice (test_at (trees_of code.now) place)) (moment frame.old store.old unparsed.now run.old)) (moment frame.new store.new unparsed.now run.new)) }
+{
+    if let SlotPlace::Fixed(slot) = to {
+        if let Some(from) = slot_of(code, place) {
+            let number = frame.get(from);
+            put(frame, slot, slice, number);
+            return Ok(());
+        }
+    }
+    assign_within(code, tables, to, slice, place, frame, store, unparsed, run)?;
+    Ok(())
+}
+
+/// The same, for a value of any kind.
+#[inline(never)]
+#[tactic(auto, using(crate::proofs::Assigning::slot_over, crate::proofs::Assigning::slot_later, crate::proofs::Assigning::slot_beyond, crate::proofs::Assigning::was_assigned, crate::proofs::Assigning::assign_failed))]
+fn assign_within<T: Tables>(
     code: &Code<'_>,
     tables: &T,
     to: SlotPlace,
