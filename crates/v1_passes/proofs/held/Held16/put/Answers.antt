@@ -3,12 +3,12 @@ use Rattle.v1_passes.proofs.held.Held16.put.Goals as goal
 
 pub set-requires-clause-slot : goal.set-requires-clause-slot
 set-requires-clause-slot c =
-    slot_in c.self.inside.packets.now c.self.inside.frame c.self.inside.unparsed c.self.inside.port c.args.slot c.args.self.now c.self.view_is c.self.invariant.0 c.requires.slot
+    slot_in c.self.inside.packets.now c.self.inside.frame.value c.self.inside.unparsed c.self.inside.port c.args.slot c.args.self.now c.self.view_is c.self.invariant.0 c.requires.slot
 
 pub set-requires-clause-value : goal.set-requires-clause-value
 set-requires-clause-value c =
-    number_fits c.self.inside.packets.now c.self.inside.frame c.self.inside.unparsed c.self.inside.port c.args.slot c.args.value c.args.self.now c.self.view_is c.self.invariant.0 c.requires.value
+    number_fits c.self.inside.packets.now c.self.inside.frame.value c.self.inside.unparsed c.self.inside.port c.args.slot c.args.value c.args.self.now c.self.view_is c.self.invariant.0 c.requires.value
 
 pub returns-clause-put : goal.returns-clause-put
 returns-clause-put c =
-    number_left c.self.inside.packets.now c.self.inside.frame c.set.new.self c.self.inside.unparsed c.self.inside.port c.args.slot c.args.value c.args.self.now c.self.view_is c.self.invariant.0 c.set.ensures
+    number_left c.self.inside.packets.now c.self.inside.frame.value c.set.new.self c.self.inside.unparsed c.self.inside.port c.args.slot c.args.value c.args.self.now c.self.view_is c.self.invariant.0 c.set.ensures

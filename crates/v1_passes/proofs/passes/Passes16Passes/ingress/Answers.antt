@@ -4,8 +4,8 @@ use Rattle.v1_packets.specs.Packets.{packet_frame}
 use Rattle.v1_passes.proofs.Ends.{fits_at, between_same, own_clone, ingress_gives}
 use Rattle.v1_passes.proofs.passes.Passes16Passes.ingress.Goals as goal
 
-pub begin-requires-clause-kept : goal.begin-requires-clause-kept
-begin-requires-clause-kept g c =
+pub begin_frame-requires-clause-kept : goal.begin_frame-requires-clause-kept
+begin_frame-requires-clause-kept g c =
     fits_at c.packets-packets.result.now c.args.item.now.kept.program c.numbers-kept.result.now (c.requires.1 ∙ sym c.packets-packets.ensures) c.numbers-kept.ensures.fits
 
 pub returns-clause-gives : goal.returns-clause-gives
@@ -14,7 +14,7 @@ returns-clause-gives g c =
     let set = g.B.Blocks.setting old.blocks in
     ingress_gives set (g.B.Blocks.setting c.run_to_egress.new.blocks) c.packets-packets.result.now
     (between_of (g.B.Blocks.store old.blocks) old.work old.events) (between_of (g.B.Blocks.store c.note.new.self.blocks) c.note.new.self.work c.note.new.self.events)
-    c.args.item.now c.in_ok-frame.frame c.run_to_egress.new.frame (g.B.Blocks.store c.run_to_egress.new.blocks) c.in_ok-at.at c.as_slice-octets.result.now c.numbers-kept.result.now c.run_to_egress.new.work
+    c.args.item.now c.in_ok-frame.frame.value c.run_to_egress.new.frame (g.B.Blocks.store c.run_to_egress.new.blocks) c.in_ok-at.at c.as_slice-octets.result.now c.numbers-kept.result.now c.run_to_egress.new.work
     c.packets-packets.ensures c.requires.1 c.numbers-kept.ensures.value c.as_slice-octets.ensures c.in_ok-frame.ensures.begins c.in_ok-at.ensures.setting
     (between_same _ _ _ _ _ _ (ap g.B.Blocks.store c.in_ok-note.ensures.blocks) c.in_ok-note.ensures.work (c.in_ok-note.ensures.events ∙ c.events.ensures))
     c.in_ok-clone.clone c.in_ok-next.next c.in_ok-at.ensures.runs c.in_ok-clone.ensures c.in_ok-next.ensures.next
