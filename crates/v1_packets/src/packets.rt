@@ -1,5 +1,5 @@
 // The frame of a packet between two blocks.
-ghost use Rattle.std.specs.Prelude.{◌≡◌, ℕ, ◌%◌, ◌^◌, ◌<◌, [], length, slice_index, IfOk, codes};
+ghost use Rattle.std.specs.Prelude.{◌≡◌, ℕ, ◌%◌, ◌^◌, ◌<◌, [], length, slice_index, IfOk, OnOk, codes};
 ghost use Rattle.state_store.specs.Ports.{IsPort};
 ghost use Rattle.p416_rules.specs.Names.{Name};
 ghost use Rattle.p416_rules.specs.Main.{headers_kind, metadata_kind};
@@ -7,6 +7,7 @@ ghost use Rattle.p416_kinds.specs.Seen.{seen_kind};
 ghost use Rattle.v1_sem.specs.Values.{a_number};
 ghost use Rattle.v1_sem.specs.Frames.{with_standard, standard_number, without_requests_and_events};
 ghost use Rattle.v1_sem.specs.Passes.{none_preserved, blank_frame, preserved, new_frame, egress_spec};
+ghost use Rattle.v1_frames.specs.Cells.{new_cells};
 ghost use Rattle.v1_frame_values.specs.Programs.{layout16};
 ghost use Rattle.v1_frame_values.specs.Frames.{IsFrameOf};
 ghost use Rattle.v1_pass_slots.specs.Starts.{metadata_start};
@@ -55,6 +56,21 @@ fn short(octets: usize) -> u32
     ensures { result ≡ octets % 2 ^ 32 }
 {
     (octets as u64 % (1 << 32)) as u32
+}
+
+/// Makes a frame one with these parts again, as `Frame::of_layout` gives it.
+fn renew<'p>(
+    alloc: Global,
+    frame: &mut Frame<'p>,
+    layout: &'p FrameLayout,
+) -> Result<(), OutOfMemory>
+    ensures { OnOk result (frame.new ≡ new_cells layout.now) }
+{
+    if frame.renew(layout) {
+        return Ok(());
+    }
+    *frame = Frame::of_layout(alloc, layout)?;
+    Ok(())
 }
 
 impl<'p> Packets<'p> {
@@ -176,6 +192,17 @@ impl<'p> Packets<'p> {
         Ok(frame)
     }
 
+    /// The same in the place of another frame. It takes memory only where that has other parts.
+    #[tactic(auto, using(crate::proofs::Begun::frame_new, crate::proofs::Begun::blank_new))]
+    fn blank_again(&self, alloc: Global, frame: &mut Frame<'p>) -> Result<(), OutOfMemory>
+        ensures frame { OnOk result (IsFrameOf self.now frame.new) }
+        ensures blank { OnOk result (packet_frame self.now frame.new ≡ blank_frame self.now) }
+    {
+        renew(alloc, frame, self.frames())?;
+        frame.is_whole();
+        Ok(())
+    }
+
     /// Puts what is kept into a frame in which all numbers are 0; where nothing is kept that takes no time.
     fn bring(&self, frame: &mut Frame<'_>, kept: &[u128])
         requires frame { IsFrameOf self.now frame.old }
@@ -212,6 +239,30 @@ impl<'p> Packets<'p> {
         let count = short(octets);
         self.put_fresh(&mut frame, port, count, kind);
         Ok(frame)
+    }
+
+    /// A frame as a pass begins, as `begin` gives it, in the place of another one. It takes memory only where that has other parts. The
+    /// one error is want of memory, after which the frame isn't used again.
+    #[tactic(auto, using(crate::proofs::Begun::begun))]
+    pub fn begin_again(
+        &self,
+        alloc: Global,
+        frame: &mut Frame<'p>,
+        octets: usize,
+        port: u16,
+        kind: u32,
+        kept: &[u128],
+    ) -> Result<(), OutOfMemory>
+        requires port { IsPort port }
+        requires kept { AreFitting (layout16 self.now).widths (metadata_start self.now).slot kept.now }
+        ensures frame { OnOk result (IsFrameOf self.now frame.new) }
+        ensures begins { OnOk result (packet_frame self.now frame.new ≡ new_frame self.now port (octets % 2 ^ 32) kind (kept_value self.now kept.now)) }
+    {
+        self.blank_again(alloc, frame)?;
+        self.bring(frame, kept);
+        let count = short(octets);
+        self.put_fresh(frame, port, count, kind);
+        Ok(())
     }
 
     /// The port that ingress or egress chose, 0 to 511.

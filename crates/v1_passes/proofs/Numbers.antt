@@ -25,9 +25,11 @@ pub slot_fits : (s : Syntax16) (c : Cells) (slot n : ℕ) → IsFrameOf s c → 
 slot_fits s c slot n is holds =
     subst (λ (l : Layout). n < 2 ^ slice_index l.widths slot) (sym is.layout) holds.fits
 
-pub still_frame : (s : Syntax16) (c d : Cells) (slot n : ℕ) → IsFrameOf s c → d ≡ with_slot c slot n → AreWhole d → IsFrameOf s d
-still_frame s c d slot n is set whole =
-    record { layout = ap (λ (x : Cells). x.layout) set ∙ is.layout; whole = whole }
+pub still_frame : (s : Syntax16) (c before after d : Cells) (slot n : ℕ) → IsFrameOf s c → before ≡ c → d ≡ with_slot before slot n → after ≡ d → AreWhole after → IsFrameOf s d
+still_frame s c before after d slot n is same set seen whole = record {
+  layout = ap (λ (x : Cells). x.layout) set ∙ ap (λ (x : Cells). x.layout) same ∙ is.layout;
+  whole = subst AreWhole seen whole;
+}
 
 -- between two blocks the values of variables don't show
 

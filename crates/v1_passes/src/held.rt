@@ -39,11 +39,11 @@ impl<'r> Model for Kept16<'r> {
 }
 
 /// What is held of a packet between ingress and egress: its frame, the octets that weren't parsed, and the port of arrival.
-/// Contracts see the program and what is held.
+/// Contracts see the program and what is held. The frame stands in a box, so that little is moved where this is.
 #[derive(Drop)]
 pub struct Held16<'r> {
     pub(crate) packets: &'r Packets<'r>,
-    pub(crate) frame: Frame<'r>,
+    pub(crate) frame: Box<Frame<'r>>,
     pub(crate) unparsed: Octets,
     pub(crate) port: u16,
 }
@@ -59,9 +59,9 @@ impl<'r> Model for Held16<'r> {
 
     ghost coded = { coded_hold };
 
-    ghost view = { λ h. record { program = h.packets.now; value = record { frame = packet_frame h.packets.now h.frame; unparsed = h.unparsed; port = h.port } } };
+    ghost view = { λ h. record { program = h.packets.now; value = record { frame = packet_frame h.packets.now h.frame.value; unparsed = h.unparsed; port = h.port } } };
 
-    ghost invariant = { λ h. IsFrameOf h.packets.now h.frame × IsPort h.port };
+    ghost invariant = { λ h. IsFrameOf h.packets.now h.frame.value × IsPort h.port };
 }
 
 impl<'r> Kept16<'r> {
@@ -77,7 +77,7 @@ impl<'r> Kept16<'r> {
 /// The parts of what is held.
 #[derive(Drop)]
 pub(crate) struct HeldParts<'r> {
-    pub(crate) frame: Frame<'r>,
+    pub(crate) frame: Box<Frame<'r>>,
     pub(crate) unparsed: Octets,
     pub(crate) port: u16,
 }
@@ -85,8 +85,8 @@ pub(crate) struct HeldParts<'r> {
 impl<'r> Held16<'r> {
     /// Its parts.
     pub(crate) fn into_parts(self) -> HeldParts<'r>
-        ensures frame { IsFrameOf self.entry.program result.frame }
-        ensures value { self.entry.value ≡ record { frame = packet_frame self.entry.program result.frame; unparsed = result.unparsed; port = result.port } }
+        ensures frame { IsFrameOf self.entry.program result.frame.value }
+        ensures value { self.entry.value ≡ record { frame = packet_frame self.entry.program result.frame.value; unparsed = result.unparsed; port = result.port } }
         ensures port { IsPort result.port }
     {
         HeldParts {
@@ -100,7 +100,7 @@ impl<'r> Held16<'r> {
     pub fn copy(&self, alloc: Global) -> Result<Self, OutOfMemory>
         ensures { IfOk result (λ held. held ≡ self.now) }
     {
-        let frame = self.frame.copy(alloc)?;
+        let frame = Box::new(alloc, self.frame.copy(alloc)?)?;
         let unparsed = Octets::from_slice(alloc, self.unparsed.as_slice())?;
         Ok(Held16 {
             packets: self.packets,

@@ -1,12 +1,14 @@
 // The passes of a program.
-ghost use Rattle.std.specs.Prelude.{◌≡◌, ℕ, ◌≤◌, ◌==◌, [], length, drop, IfOk, OnOk, option_map};
+ghost use Rattle.std.specs.Prelude.{◌≡◌, ℕ, ◌%◌, ◌^◌, ◌≤◌, ◌==◌, [], length, drop, IfOk, OnOk, option_map};
 ghost use Rattle.state_store.specs.Ports.{IsPort, drop_port};
 ghost use Rattle.fabric.specs.Owned.{IsOwnIngressNext};
 ghost use Rattle.v1_sem.specs.Surroundings.{Setting as Set};
 ghost use Rattle.v1_sem.specs.Parsing.{parse16};
-ghost use Rattle.v1_sem.specs.Passes.{Between, is_no_error, verified_and_run, egress_spec, put_together};
+ghost use Rattle.v1_sem.specs.Passes.{Between, is_no_error, new_frame, verified_and_run, egress_spec, put_together};
 ghost use Rattle.v1_frame_values.specs.Frames.{IsFrameOf};
-ghost use Rattle.v1_packets.specs.Packets.{packet_frame};
+ghost use Rattle.v1_frame_values.specs.Programs.{layout16};
+ghost use Rattle.v1_pass_slots.specs.Starts.{metadata_start};
+ghost use Rattle.v1_packets.specs.Packets.{packet_frame, kept_value, AreFitting};
 ghost use Rattle.v1_passes.specs.Moments.{moment_at};
 ghost use Rattle.v1_passes.specs.Tags.{tagged_machine, own_tagged};
 ghost use Rattle.v1_passes.specs.internal.Steps.{StandsAt, ArePut, verified_by, kept_by, clone_kept, handed_from, next_from, clone_held, leaves_with, finished, Finishes};
@@ -19,7 +21,7 @@ use fabric::{
 use p4x_bits::{Octets, OutOfMemory, Rows};
 use state_store::{DROP_PORT, Store};
 use std::alloc::Global;
-use std::marker::PhantomData;
+use std::mem::replace;
 use v1_frames::Frame;
 use v1_packets::Packets;
 use v1_sem::{Block, ParserError};
@@ -34,8 +36,14 @@ pub struct Passes16<'r, B: Blocks<'r> + Drop> {
     pub work: u64,
     /// The applications of tables in the last block.
     pub events: Rows<Event>,
-    of: PhantomData<&'r Packets<'r>>,
+    /// The frame of a packet that isn't used any more, if any.
+    spare: Option<Box<Frame<'r>>>,
+    /// Octets that aren't used any more.
+    room: Octets,
 }
+
+/// How many octets of headers a packet has room for at once as it is put together.
+const HEADROOM: usize = 128;
 
 /// Whether nothing stopped the parser.
 fn is_no_error(error: ParserError) -> bool
@@ -46,6 +54,34 @@ fn is_no_error(error: ParserError) -> bool
         ParserError::PacketTooShort => false,
         ParserError::StackOutOfBounds => false,
         ParserError::NoMatch => false,
+    }
+}
+
+/// A frame as a pass begins, in the place of one that isn't used any more, if any.
+fn begin_frame<'r>(
+    alloc: Global,
+    packets: &'r Packets<'r>,
+    spare: Option<Box<Frame<'r>>>,
+    octets: usize,
+    port: u16,
+    kind: u32,
+    kept: &[u128],
+) -> Result<Box<Frame<'r>>, OutOfMemory>
+    requires port { IsPort port }
+    requires kept { AreFitting (layout16 packets.now).widths (metadata_start packets.now).slot kept.now }
+    ensures frame { IfOk result (λ frame. IsFrameOf packets.now frame.value) }
+    ensures begins { IfOk result (λ frame. packet_frame packets.now frame.value ≡ new_frame packets.now port (octets % 2 ^ 32) kind (kept_value packets.now kept.now)) }
+{
+    match spare {
+        Some(spare) => {
+            let mut frame = spare;
+            packets.begin_again(alloc, &mut frame, octets, port, kind, kept)?;
+            Ok(frame)
+        }
+        None => {
+            let frame = packets.begin(alloc, octets, port, kind, kept)?;
+            Ok(Box::new(alloc, frame)?)
+        }
     }
 }
 
@@ -123,21 +159,32 @@ fn ingress_clone<'r>(
     }
 }
 
+/// Octets that are copied, in the room of others that aren't used any more.
+fn copied(alloc: Global, room: &mut Octets, octets: &[u8]) -> Result<Octets, OutOfMemory>
+    ensures { IfOk result (λ copied. copied ≡ octets.now) }
+{
+    let mut copied = replace(room, Octets::new(alloc));
+    copied.clear();
+    copied.extend_from_slice(octets)?;
+    Ok(copied)
+}
+
 /// What is held of a packet that goes on to egress.
 fn hand_on<'r>(
     alloc: Global,
     packets: &'r Packets<'r>,
-    frame: Frame<'r>,
+    frame: Box<Frame<'r>>,
+    room: &mut Octets,
     unparsed: &[u8],
     port: u16,
 ) -> Result<Held16<'r>, OutOfMemory>
-    requires frame { IsFrameOf packets.now frame }
+    requires frame { IsFrameOf packets.now frame.value }
     requires port { IsPort port }
-    ensures { IfOk result (λ held. held ≡ handed_from packets.now port (packet_frame packets.now frame.entry) unparsed.now) }
+    ensures { IfOk result (λ held. held ≡ handed_from packets.now port (packet_frame packets.now frame.entry.value) unparsed.now) }
 {
     let mut frame = frame;
     packets.clear(&mut frame);
-    let unparsed = Octets::from_slice(alloc, unparsed)?;
+    let unparsed = copied(alloc, room, unparsed)?;
     Ok(Held16 {
         packets,
         frame,
@@ -151,13 +198,14 @@ fn hand_on<'r>(
 fn after_ingress<'r>(
     alloc: Global,
     packets: &'r Packets<'r>,
-    frame: Frame<'r>,
+    frame: Box<Frame<'r>>,
+    room: &mut Octets,
     unparsed: &[u8],
     port: u16,
 ) -> Result<IngressNext<Kept16<'r>, Held16<'r>>, OutOfMemory>
-    requires frame { IsFrameOf packets.now frame }
+    requires frame { IsFrameOf packets.now frame.value }
     requires port { IsPort port }
-    ensures next { IfOk result (λ next. next ≡ next_from packets.now port (packet_frame packets.now frame.entry) unparsed.now frame.entry.resubmit) }
+    ensures next { IfOk result (λ next. next ≡ next_from packets.now port (packet_frame packets.now frame.entry.value) unparsed.now frame.entry.value.resubmit) }
     ensures own { IfOk result (λ next. (c : Set) → c.syntax ≡ packets.now → IsOwnIngressNext (own_tagged c) next) }
 {
     if let Some((_, list)) = frame.request(RequestKind::Resubmit) {
@@ -168,7 +216,7 @@ fn after_ingress<'r>(
     if chosen == DROP_PORT {
         return Ok(IngressNext::Drop);
     }
-    let held = hand_on(alloc, packets, frame, unparsed, port)?;
+    let held = hand_on(alloc, packets, frame, room, unparsed, port)?;
     Ok(IngressNext::Go(chosen, held))
 }
 
@@ -188,6 +236,7 @@ fn egress_clone<'r>(
         None => Ok(None),
         Some((session, list)) => {
             let frame = packets.clone_frame(alloc, frame, list, port)?;
+            let frame = Box::new(alloc, frame)?;
             let unparsed = Octets::from_slice(alloc, unparsed)?;
             let held = Held16 {
                 packets,
@@ -242,6 +291,7 @@ fn put_together<'r, B: Blocks<'r> + Drop>(
     ensures together { IfOk result (λ octets. ArePut (B.setting blocks.new).syntax frame.new (B.store blocks.new) unparsed.now work.new octets (put_together (B.setting blocks.old) (moment_at (B.setting blocks.old).syntax frame.old (B.store blocks.old) unparsed.now emitted work.old))) }
 {
     let mut octets = emitted;
+    octets.reserve(unparsed.len().saturating_add(HEADROOM))?;
     blocks.control(Block::Compute, frame, unparsed, &mut octets, work)?;
     blocks.control(Block::Deparse, frame, unparsed, &mut octets, work)?;
     octets.extend_from_slice(unparsed)?;
@@ -292,7 +342,8 @@ impl<'r, B: Blocks<'r> + Drop> Passes16<'r, B> {
             blocks,
             work: 0,
             events: Rows::new(alloc),
-            of: PhantomData,
+            spare: None,
+            room: Octets::new(alloc),
         }
     }
 
@@ -363,7 +414,16 @@ impl<'r, B: Blocks<'r> + Drop> Passes for Passes16<'r, B> {
         let packets = self.blocks.packets();
         let octets = item.octets.as_slice();
         let kept = item.kept.numbers();
-        let mut frame = packets.begin(self.alloc, octets.len(), item.port, item.instance, kept)?;
+        let spare = self.spare.take();
+        let mut frame = begin_frame(
+            self.alloc,
+            packets,
+            spare,
+            octets.len(),
+            item.port,
+            item.instance,
+            kept,
+        )?;
         let at = run_to_egress(
             self.alloc,
             &mut self.blocks,
@@ -373,7 +433,14 @@ impl<'r, B: Blocks<'r> + Drop> Passes for Passes16<'r, B> {
         )?;
         self.note(frame.events())?;
         let clone = ingress_clone(self.alloc, packets, &frame)?;
-        let next = after_ingress(self.alloc, packets, frame, &octets[at..], item.port)?;
+        let next = after_ingress(
+            self.alloc,
+            packets,
+            frame,
+            &mut self.room,
+            &octets[at..],
+            item.port,
+        )?;
         Ok(IngressEnd { clone, next })
     }
 
@@ -381,10 +448,26 @@ impl<'r, B: Blocks<'r> + Drop> Passes for Passes16<'r, B> {
         let packets = self.blocks.packets();
         let octets = item.octets.as_slice();
         let kept = item.kept.numbers();
-        let mut frame = packets.begin(self.alloc, octets.len(), item.port, item.instance, kept)?;
+        let spare = self.spare.take();
+        let mut frame = begin_frame(
+            self.alloc,
+            packets,
+            spare,
+            octets.len(),
+            item.port,
+            item.instance,
+            kept,
+        )?;
         let end = self.blocks.parse(&mut frame, octets, &mut self.work)?;
         self.note(frame.events())?;
-        let held = hand_on(self.alloc, packets, frame, &octets[end.at..], item.port)?;
+        let held = hand_on(
+            self.alloc,
+            packets,
+            frame,
+            &mut self.room,
+            &octets[end.at..],
+            item.port,
+        )?;
         Ok(held)
     }
 
@@ -418,6 +501,8 @@ impl<'r, B: Blocks<'r> + Drop> Passes for Passes16<'r, B> {
             &mut self.work,
         )?;
         self.note(frame.events())?;
+        self.spare = Some(frame);
+        self.room = held.unparsed;
         Ok(EgressEnd { clone, end })
     }
 }
