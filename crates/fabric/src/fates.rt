@@ -16,6 +16,7 @@ use crate::queue::Queue;
 use p4x_bits::{Octets, OutOfMemory, Rows};
 use state_store::Session;
 use std::alloc::Global;
+use std::mem::replace;
 
 /// What the passes of a packet so far left: the items that wait, and what was sent.
 #[derive(Drop)]
@@ -46,18 +47,19 @@ fn clone_of<X: Drop>(sessions: &[Session], asked: Option<(u32, X)>) -> Option<(u
     Some((port, what))
 }
 
-/// Queues the clone that is made at the end of ingress, if any. The octets are moved.
+/// Queues the clone that is made at the end of ingress, if any. It takes the octets where it is made, and else leaves them.
 fn queue_ingress_clone<Q: Drop, H: Drop>(
+    alloc: Global,
     queue: &mut Queue<Job<Q, H>>,
-    octets: Octets,
+    octets: &mut Octets,
     from: u16,
     clone: Option<(u16, Q)>,
 ) -> Result<(), OutOfMemory>
-    ensures { OnOk result (queue.new ≡ queue.old ++ ingress_clones octets from clone) }
+    ensures { OnOk result (queue.new ≡ queue.old ++ ingress_clones octets.old from clone) }
 {
     if let Some((port, kept)) = clone {
         let came = Item {
-            octets,
+            octets: replace(octets, Octets::new(alloc)),
             port: from,
             instance: 1,
             kept,
@@ -81,39 +83,41 @@ fn queue_egress_clone<Q: Drop, H: Drop>(
 }
 
 /// Ends the pass of an item that is resubmitted: queues the clone that is made at the end of ingress, if any, and behind
-/// it the item with what is preserved now. The octets are copied only where both need them.
+/// it the item with what is preserved now. The octets are taken, and copied only where both need them.
 fn end_resubmitted<Q: Drop, H: Drop>(
     alloc: Global,
     queue: &mut Queue<Job<Q, H>>,
-    came: Item<Q>,
+    came: &mut Item<Q>,
     from: u16,
     clone: Option<(u16, Q)>,
     kept: Q,
 ) -> Result<(), OutOfMemory>
-    ensures { OnOk result (queue.new ≡ queue.old ++ (ingress_clones came.octets from clone ++ resubmitted came.octets from kept ∷ [])) }
+    ensures { OnOk result (queue.new ≡ queue.old ++ (ingress_clones came.old.octets from clone ++ resubmitted came.old.octets from kept ∷ [])) }
 {
     if clone.is_some() {
-        let copied = Octets::from_slice(alloc, came.octets.as_slice())?;
-        queue_ingress_clone(queue, copied, from, clone)?;
+        let mut copied = Octets::from_slice(alloc, came.octets.as_slice())?;
+        queue_ingress_clone(alloc, queue, &mut copied, from, clone)?;
     }
     queue.push(Job::Ordinary(Item {
-        octets: came.octets,
+        octets: replace(&mut came.octets, Octets::new(alloc)),
         port: from,
         instance: 6,
         kept,
     }))
 }
 
-/// Ends the pass of an item that ingress dropped: queues the clone that is made at the end of ingress, if any.
+/// Ends the pass of an item that ingress dropped: queues the clone that is made at the end of ingress, if any. Its octets are left
+/// where none is made.
 fn end_dropped<Q: Drop, H: Drop>(
+    alloc: Global,
     queue: &mut Queue<Job<Q, H>>,
-    came: Item<Q>,
+    came: &mut Item<Q>,
     from: u16,
     clone: Option<(u16, Q)>,
 ) -> Result<(), OutOfMemory>
-    ensures { OnOk result (queue.new ≡ queue.old ++ ingress_clones came.octets from clone) }
+    ensures { OnOk result (queue.new ≡ queue.old ++ ingress_clones came.old.octets from clone) }
 {
-    queue_ingress_clone(queue, came.octets, from, clone)
+    queue_ingress_clone(alloc, queue, &mut came.octets, from, clone)
 }
 
 /// Egress of what is held, and what comes of the packet after it.
@@ -153,32 +157,32 @@ fn make_egress<P: Passes>(
     Ok(())
 }
 
-/// Parsing and ingress of an ordinary item, and what comes of it.
+/// Parsing and ingress of an ordinary item, and what comes of it. Its octets are left where no item that is queued needs them.
 fn make_ingress<P: Passes>(
     alloc: Global,
     passes: &mut P,
     progress: &mut Progress<Job<P::Kept, P::Held>>,
     sessions: &[Session],
     from: u16,
-    came: Item<P::Kept>,
+    came: &mut Item<P::Kept>,
 ) -> Result<(), OutOfMemory>
     requires sessions { AreSessions sessions.now }
     requires from { IsPort from }
-    requires own { IsOwnItem (P.own (P.setting passes.old)) came }
+    requires own { IsOwnItem (P.own (P.setting passes.old)) came.old }
     ensures setting { OnOk result (P.setting passes.new ≡ P.setting passes.old) }
-    ensures leaves { let ended = pass (P.machine (P.setting passes.old)) sessions.now from (P.state passes.old) (Ordinary came) in
+    ensures leaves { let ended = pass (P.machine (P.setting passes.old)) sessions.now from (P.state passes.old) (Ordinary came.old) in
         OnOk result (Leaves (IsOwnJob (P.own (P.setting passes.old))) ended (P.state passes.new) progress.old progress.new) }
 {
-    let ended = passes.ingress(&came)?;
+    let ended = passes.ingress(came)?;
     let clone = clone_of(sessions, ended.clone);
     match ended.next {
         IngressNext::Resubmit(kept) => {
             end_resubmitted(alloc, &mut progress.queue, came, from, clone, kept)?;
         }
-        IngressNext::Drop => end_dropped(&mut progress.queue, came, from, clone)?,
+        IngressNext::Drop => end_dropped(alloc, &mut progress.queue, came, from, clone)?,
         IngressNext::Go(port, held) => {
             let instance = came.instance;
-            end_dropped(&mut progress.queue, came, from, clone)?;
+            end_dropped(alloc, &mut progress.queue, came, from, clone)?;
             make_egress(passes, progress, sessions, from, held, port, instance)?;
         }
     }
@@ -202,7 +206,10 @@ fn make_pass<P: Passes>(
         OnOk result (Leaves (IsOwnJob (P.own (P.setting passes.old))) ended (P.state passes.new) progress.old progress.new) }
 {
     match job {
-        Job::Ordinary(came) => make_ingress(alloc, passes, progress, sessions, from, came),
+        Job::Ordinary(came) => {
+            let mut came = came;
+            make_ingress(alloc, passes, progress, sessions, from, &mut came)
+        }
         Job::IngressClone(port, came) => {
             let held = passes.reparse(&came)?;
             make_egress(passes, progress, sessions, from, held, port, came.instance)
@@ -263,11 +270,61 @@ fn make_rest<P: Passes>(
     make_passes(alloc, passes, progress, sessions, from, most)
 }
 
+/// A list of what was sent, emptied: the room of one that isn't used any more.
+fn emptied(alloc: Global, sent: &mut Rows<Out>) -> Rows<Out>
+    ensures { result ≡ [] }
+{
+    let mut emptied = replace(sent, Rows::new(alloc));
+    emptied.clear();
+    emptied
+}
+
 /// What becomes of a packet that comes in: its passes, and those of all that comes of it, at most `bound` of them. What
-/// still waits then is cut.
+/// still waits then is cut. The fate stands in the place of another one, whatever that was, and in its room.
 ///
-/// The octets of the arrival are copied once; from there on they are moved, and copied only where a clone and a
-/// resubmitted packet both need them. The first pass is made without the queue.
+/// The octets of the arrival are moved, and copied only where a clone and a resubmitted packet both need them. Behind it
+/// the arrival has octets of no account, for the memory that they have. The first pass is made without the queue.
+///
+/// # Errors
+/// It fails for want of memory alone, and then the passes are not used again.
+pub fn serve_into<P: Passes>(
+    alloc: Global,
+    passes: &mut P,
+    sessions: &[Session],
+    arrival: &mut Arrival,
+    bound: u32,
+    fate: &mut Fate,
+) -> Result<(), OutOfMemory>
+    requires sessions { AreSessions sessions.now }
+    requires from { IsPort arrival.old.port }
+    requires bound { IsBound bound }
+    ensures setting { OnOk result (P.setting passes.new ≡ P.setting passes.old) }
+    ensures fate { OnOk result (fabric (P.machine (P.setting passes.old)) sessions.now bound (P.state passes.old) arrival.old ≡ record { state = P.state passes.new; sent = fate.new.sent; cut = fate.new.cut }) }
+    ensures port { arrival.new.port ≡ arrival.old.port }
+    ensures seconds { arrival.new.seconds ≡ arrival.old.seconds }
+    ensures fraction { arrival.new.fraction ≡ arrival.old.fraction }
+{
+    let kept = passes.nothing()?;
+    let from = arrival.port;
+    let mut came = Item {
+        octets: replace(&mut arrival.octets, Octets::new(alloc)),
+        port: from,
+        instance: 0,
+        kept,
+    };
+    let mut progress = Progress {
+        queue: Queue::new(alloc),
+        sent: emptied(alloc, &mut fate.sent),
+    };
+    make_ingress(alloc, passes, &mut progress, sessions, from, &mut came)?;
+    make_rest(alloc, passes, &mut progress, sessions, from, bound - 1)?;
+    arrival.octets = came.octets;
+    fate.cut = progress.queue.count();
+    fate.sent = progress.sent;
+    Ok(())
+}
+
+/// What becomes of a packet that comes in, as [`serve_into`] says, of a copy of its octets.
 ///
 /// # Errors
 /// It fails for want of memory alone, and then the passes are not used again.
@@ -284,23 +341,13 @@ pub fn serve<P: Passes>(
     ensures setting { OnOk result (P.setting passes.new ≡ P.setting passes.old) }
     ensures fate { IfOk result (λ fate. fabric (P.machine (P.setting passes.old)) sessions.now bound (P.state passes.old) arrival.now ≡ record { state = P.state passes.new; sent = fate.sent; cut = fate.cut }) }
 {
-    let kept = passes.nothing()?;
-    let from = arrival.port;
-    let came = Item {
+    let mut copied = Arrival {
         octets: Octets::from_slice(alloc, arrival.octets.as_slice())?,
-        port: from,
-        instance: 0,
-        kept,
+        port: arrival.port,
+        seconds: arrival.seconds,
+        fraction: arrival.fraction,
     };
-    let mut progress = Progress {
-        queue: Queue::new(alloc),
-        sent: Rows::new(alloc),
-    };
-    make_ingress(alloc, passes, &mut progress, sessions, from, came)?;
-    make_rest(alloc, passes, &mut progress, sessions, from, bound - 1)?;
-    let cut = progress.queue.count();
-    Ok(Fate {
-        sent: progress.sent,
-        cut,
-    })
+    let mut fate = Fate::new(alloc);
+    serve_into(alloc, passes, sessions, &mut copied, bound, &mut fate)?;
+    Ok(fate)
 }

@@ -17,7 +17,7 @@ mod queue;
 pub use arrivals::{Total, serve_all};
 pub use bounds::{MOST_PASSES, is_bound};
 pub use calls::{Passes, Watched};
-pub use fates::serve;
+pub use fates::{serve, serve_into};
 pub use items::{EgressEnd, EgressNext, Event, IngressEnd, IngressNext, Item, Job, RequestKind};
 pub use laws::{Twins, few_packets, joined_arrivals, same_fates, same_traces, traced_fates};
 pub use packets::{Arrival, Fate, Out, RunResult, Sent};

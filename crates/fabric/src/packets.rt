@@ -1,6 +1,9 @@
 // Packets as they come in and leave, and what comes of them.
+ghost use Rattle.std.specs.Prelude.{◌≡◌, []};
+
 use p4x_bits::{Octets, Rows};
 use state_store::Store;
+use std::alloc::Global;
 
 /// A packet as it comes in.
 #[derive(Debug, Drop)]
@@ -42,6 +45,29 @@ pub struct Fate {
     pub sent: Rows<Out>,
     /// How many items were left in its queue when the bound on passes was reached.
     pub cut: u64,
+}
+
+impl Fate {
+    /// The fate of a packet of which nothing comes. It takes no memory.
+    pub fn new(alloc: Global) -> Fate
+        ensures sent { result.sent ≡ [] }
+        ensures cut { result.cut ≡ 0 }
+    {
+        Fate {
+            sent: Rows::new(alloc),
+            cut: 0,
+        }
+    }
+
+    /// Lets go of what was sent, and gives octets of it, if any, which are of no account but for the memory that they have. It
+    /// takes no memory.
+    pub fn reclaim(&mut self) -> Option<Octets>
+        ensures { self.new.sent ≡ [] }
+    {
+        let last = self.sent.pop();
+        self.sent.clear();
+        Some(last?.octets)
+    }
 }
 
 /// What comes of a list of arrivals.

@@ -1,6 +1,6 @@
 // What the tests have in common: the sessions, and what is expected of a packet.
 use crate::bare::Bare;
-use fabric::{Arrival, Fate, is_bound, serve};
+use fabric::{Arrival, Fate, is_bound, serve, serve_into};
 use p4x_bits::Octets;
 use state_store::{Session, are_sessions};
 use std::alloc::Global;
@@ -25,7 +25,7 @@ pub fn written(alloc: Global, fate: &Fate) -> Result<Vec<u8>, Fail> {
 }
 
 /// A packet of these octets that comes in on port 2 sends these packets under this bound, each written as its port, its
-/// length and its octets, and so many items are cut.
+/// length and its octets, and so many items are cut: also where its fate is put in the place of another one.
 pub fn expect_fate(
     rt: &impl Abort,
     alloc: Global,
@@ -36,14 +36,15 @@ pub fn expect_fate(
 ) -> Result<(), Fail> {
     assert!(rt; is_bound(bound));
     assert!(rt; are_sessions(alloc, SESSIONS)?);
-    let arrival = Arrival {
+    let mut arrival = Arrival {
         octets: Octets::from_slice(alloc, octets)?,
         port: 2,
         seconds: 0,
         fraction: 0,
     };
     let mut passes = Bare::new(alloc);
-    let fate = serve(alloc, &mut passes, SESSIONS, &arrival, bound)?;
+    let mut fate = serve(alloc, &mut passes, SESSIONS, &arrival, bound)?;
+    serve_into(alloc, &mut passes, SESSIONS, &mut arrival, bound, &mut fate)?;
     assert!(rt; fate.cut == cut);
     assert!(rt; written(alloc, &fate)?.as_slice() == sent);
     Ok(())

@@ -1,7 +1,0 @@
-use Rattle.std.proofs.Common.{◌∙◌}
-use Rattle.fabric.proofs.Serving.{served}
-use Rattle.fabric.proofs.fates.serve.Goals as goal
-
-pub returns-clause-fate : goal.returns-clause-fate
-returns-clause-fate g c =
-    served g.P.Passes.machine g.P.Passes.own (g.P.Passes.setting c.args.passes.now) (g.P.Passes.setting c.nothing.new.self) (g.P.Passes.setting c.make_ingress.new.passes) c.args.sessions.now c.args.bound (g.P.Passes.state c.args.passes.now) (g.P.Passes.state c.nothing.new.self) (g.P.Passes.state c.make_ingress.new.passes) (g.P.Passes.state c.make_rest.new.passes) c.args.arrival.now c.in_ok-kept.kept c.in_ok-from_slice.field-0 (record { queue = c.new.result; sent = c.new-2.result }) c.make_ingress.new.progress c.make_rest.new.progress c.count-cut.result c.requires.bound c.in_ok-kept.ensures.setting c.in_ok-make_ingress.ensures.setting c.new.ensures c.new-2.ensures (c.in_ok-from_slice.ensures ∙ c.as_slice.ensures) c.in_ok-kept.ensures.gives c.in_ok-make_ingress.ensures.leaves c.in_ok-make_rest.ensures.runs c.count-cut.ensures
