@@ -58,6 +58,19 @@ fn short(octets: usize) -> u32
     (octets as u64 % (1 << 32)) as u32
 }
 
+/// Makes a frame of these parts in the place of one that has others.
+#[inline(never)]
+fn make_anew<'p>(
+    alloc: Global,
+    frame: &mut Frame<'p>,
+    layout: &'p FrameLayout,
+) -> Result<(), OutOfMemory>
+    ensures { OnOk result (frame.new ≡ new_cells layout.now) }
+{
+    *frame = Frame::of_layout(alloc, layout)?;
+    Ok(())
+}
+
 /// Makes a frame one with these parts again, as `Frame::of_layout` gives it.
 fn renew<'p>(
     alloc: Global,
@@ -69,8 +82,7 @@ fn renew<'p>(
     if frame.renew(layout) {
         return Ok(());
     }
-    *frame = Frame::of_layout(alloc, layout)?;
-    Ok(())
+    make_anew(alloc, frame, layout)
 }
 
 impl<'p> Packets<'p> {
