@@ -92,6 +92,14 @@ one_fate c sessions bound b arrival =
     let same : AlikeRun SameState x y = fabric_alike SameState (Is c) (Is c) fit_any sessions (any_session sessions) (tagged_machine c) (machine16 c) (tagged_steps c) bound b b arrival refl (tt, tt) in
     ap (λ (o : List Out). F o x.cut x.state) same.0 ∙ ap (λ (n : ℕ). F y.sent n x.state) same.1 ∙ ap (F y.sent y.cut) same.2
 
+-- the same from a setting and a state that are told otherwise
+pub one_fate_later : (c d : Setting) (sessions : List Session) (bound : ℕ) (b e : Between) (arrival : Arrival) (fate : Run Between) → d ≡ c → e ≡ b → fabric (tagged_machine d) sessions bound e arrival ≡ fate → fabric (machine16 c) sessions bound b arrival ≡ fate
+one_fate_later c d sessions bound b e arrival fate setting state is =
+    sym (one_fate c sessions bound b arrival)
+    ∙ ap (λ (x : Between). fabric (tagged_machine c) sessions bound x arrival) (sym state)
+    ∙ ap (λ (x : Setting). fabric (tagged_machine x) sessions bound e arrival) (sym setting)
+    ∙ is
+
 -- and so have many
 pub all_fates : (c : Setting) (sessions : List Session) (bound : ℕ) (b : Between) (arrivals : List Arrival) → fabric_of (tagged_machine c) sessions bound b arrivals ≡ fabric_of (machine16 c) sessions bound b arrivals
 all_fates c sessions bound b arrivals =

@@ -38,8 +38,10 @@ pub struct Passes16<'r, B: Blocks<'r> + Drop> {
     pub events: Rows<Event>,
     /// The frame of a packet that isn't used any more, if any.
     spare: Option<Box<Frame<'r>>>,
-    /// Octets that aren't used any more.
+    /// Octets that aren't used any more, for those that aren't parsed.
     room: Octets,
+    /// Others, for those of a packet that is put together.
+    reused: Octets,
 }
 
 /// How many octets of headers a packet has room for at once as it is put together.
@@ -55,6 +57,25 @@ fn is_no_error(error: ParserError) -> bool
         ParserError::StackOutOfBounds => false,
         ParserError::NoMatch => false,
     }
+}
+
+/// A frame as a pass begins, made anew.
+#[inline(never)]
+fn begin_new<'r>(
+    alloc: Global,
+    packets: &'r Packets<'r>,
+    octets: usize,
+    port: u16,
+    kind: u32,
+    kept: &[u128],
+) -> Result<Box<Frame<'r>>, OutOfMemory>
+    requires port { IsPort port }
+    requires kept { AreFitting (layout16 packets.now).widths (metadata_start packets.now).slot kept.now }
+    ensures frame { IfOk result (λ frame. IsFrameOf packets.now frame.value) }
+    ensures begins { IfOk result (λ frame. packet_frame packets.now frame.value ≡ new_frame packets.now port (octets % 2 ^ 32) kind (kept_value packets.now kept.now)) }
+{
+    let frame = packets.begin(alloc, octets, port, kind, kept)?;
+    Ok(Box::new(alloc, frame)?)
 }
 
 /// A frame as a pass begins, in the place of one that isn't used any more, if any.
@@ -78,10 +99,7 @@ fn begin_frame<'r>(
             packets.begin_again(alloc, &mut frame, octets, port, kind, kept)?;
             Ok(frame)
         }
-        None => {
-            let frame = packets.begin(alloc, octets, port, kind, kept)?;
-            Ok(Box::new(alloc, frame)?)
-        }
+        None => begin_new(alloc, packets, octets, port, kind, kept),
     }
 }
 
@@ -159,12 +177,20 @@ fn ingress_clone<'r>(
     }
 }
 
+/// No octets, in the room of others that aren't used any more.
+fn emptied(alloc: Global, room: &mut Octets) -> Octets
+    ensures { result ≡ [] }
+{
+    let mut emptied = replace(room, Octets::new(alloc));
+    emptied.clear();
+    emptied
+}
+
 /// Octets that are copied, in the room of others that aren't used any more.
 fn copied(alloc: Global, room: &mut Octets, octets: &[u8]) -> Result<Octets, OutOfMemory>
     ensures { IfOk result (λ copied. copied ≡ octets.now) }
 {
-    let mut copied = replace(room, Octets::new(alloc));
-    copied.clear();
+    let mut copied = emptied(alloc, room);
     copied.extend_from_slice(octets)?;
     Ok(copied)
 }
@@ -344,6 +370,19 @@ impl<'r, B: Blocks<'r> + Drop> Passes16<'r, B> {
             events: Rows::new(alloc),
             spare: None,
             room: Octets::new(alloc),
+            reused: Octets::new(alloc),
+        }
+    }
+
+    /// Octets that aren't used any more, if any, are handed to it, for the memory that they have: the next packet that is put
+    /// together has its octets there.
+    pub fn reuse(&mut self, octets: Option<Octets>)
+        ensures blocks { self.new.blocks ≡ self.old.blocks }
+        ensures work { self.new.work ≡ self.old.work }
+        ensures events { self.new.events ≡ self.old.events }
+    {
+        if let Some(octets) = octets {
+            self.reused = octets;
         }
     }
 
@@ -375,6 +414,9 @@ impl<'r, B: Blocks<'r> + Drop> Passes16<'r, B> {
         ensures events { OnOk result (self.new.events ≡ events.now) }
     {
         self.events.clear();
+        if events.is_empty() {
+            return Ok(());
+        }
         self.events.extend_from_slice(events)
     }
 }
@@ -482,7 +524,7 @@ impl<'r, B: Blocks<'r> + Drop> Passes for Passes16<'r, B> {
         let mut frame = held.frame;
         packets.enter_egress(&mut frame, port, instance);
         let unparsed = held.unparsed.as_slice();
-        let mut emitted = Octets::new(self.alloc);
+        let mut emitted = emptied(self.alloc, &mut self.reused);
         self.blocks.control(
             Block::Egress,
             &mut frame,

@@ -12,7 +12,7 @@ ghost use Rattle.v1_passes.specs.Runs.{between_of, run_on};
 
 use crate::blocks::Blocks;
 use crate::passes::Passes16;
-use fabric::{Arrival, Fate, RunResult, serve, serve_all};
+use fabric::{Arrival, Fate, RunResult, serve, serve_all, serve_into};
 use p4x_bits::OutOfMemory;
 use state_store::{Session, Store};
 use std::alloc::Global;
@@ -69,6 +69,34 @@ impl<'r, B: Blocks<'r> + Drop> Runner16<'r, B> {
             self.bound,
         )?;
         Ok(fate)
+    }
+
+    /// The same, put in the place of what came of another packet, whatever that was, and in its room. The octets of the arrival are
+    /// taken: behind it others stand there, of no account but for the memory that they have.
+    ///
+    /// # Errors
+    /// It fails for want of memory alone.
+    pub fn one_into(&mut self, arrival: &mut Arrival, fate: &mut Fate) -> Result<(), OutOfMemory>
+        requires sessions { AreSessions self.old.sessions.now }
+        requires bound { IsBound self.old.bound }
+        requires port { IsPort arrival.old.port }
+        ensures setting { OnOk result (B.setting self.new.passes.blocks ≡ B.setting self.old.passes.blocks) }
+        ensures sessions { self.new.sessions.now ≡ self.old.sessions.now }
+        ensures bound { self.new.bound ≡ self.old.bound }
+        ensures fate { OnOk result (fabric (machine16 (B.setting self.old.passes.blocks)) self.old.sessions.now self.old.bound (between_of (B.store self.old.passes.blocks) self.old.passes.work self.old.passes.events) arrival.old ≡ record { state = between_of (B.store self.new.passes.blocks) self.new.passes.work self.new.passes.events; sent = fate.new.sent; cut = fate.new.cut }) }
+        ensures seconds { arrival.new.seconds ≡ arrival.old.seconds }
+        ensures fraction { arrival.new.fraction ≡ arrival.old.fraction }
+    {
+        self.passes.reuse(fate.reclaim());
+        serve_into(
+            self.alloc,
+            &mut self.passes,
+            self.sessions,
+            arrival,
+            self.bound,
+            fate,
+        )?;
+        Ok(())
     }
 
     /// The counters, registers and meters as the packets so far left them.

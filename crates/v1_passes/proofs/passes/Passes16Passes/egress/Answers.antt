@@ -16,12 +16,12 @@ returns-clause-gives g c =
     egress_gives (g.B.Blocks.setting old.blocks) ran (g.B.Blocks.setting c.finish.new.blocks) s
     (between_of (g.B.Blocks.store old.blocks) old.work old.events) (between_of (g.B.Blocks.store c.note.new.self.blocks) c.note.new.self.work c.note.new.self.events)
     c.args.held held.frame.value c.deref_mut-2.result.now c.control.new.frame c.finish.new.frame c.as_slice-unparsed.result.now held.unparsed held.port
-    (g.B.Blocks.store c.control.new.self) (g.B.Blocks.store c.finish.new.blocks) c.new-emitted.result c.control.new.emitted c.control.new.work c.finish.new.work c.args.port c.args.instance c.in_ok-clone.clone c.in_ok-end.end
+    (g.B.Blocks.store c.control.new.self) (g.B.Blocks.store c.finish.new.blocks) c.emptied-emitted.result c.control.new.emitted c.control.new.work c.finish.new.work c.args.port c.args.instance c.in_ok-clone.clone c.in_ok-end.end
     c.packets-packets.ensures c.requires.own c.into_parts-held.ensures.value
     (ap (packet_frame s) c.deref_mut-2.ensures.value
     ∙ c.enter_egress.ensures.begins
     ∙ ap (λ (x : Cells). egress_begun c.args.port c.args.instance (packet_frame s x)) c.deref_mut.ensures.value)
-    c.as_slice-unparsed.ensures c.new-emitted.ensures
+    c.as_slice-unparsed.ensures c.emptied-emitted.ensures
     c.in_ok-control.ensures.setting c.in_ok-control.ensures.runs
     (c.in_ok-clone.ensures ∙ ap (λ (x : Cells). option_map (clone_held s held.port (packet_frame s x) c.as_slice-unparsed.result.now) x.clone_e2e) c.deref.ensures)
     c.in_ok-end.ensures.setting
