@@ -51,13 +51,20 @@ came h ports cut = record h { ports = ports; arrivals = (h.arrivals + 1) % 2 ^ 6
 abbrev viewed : {C : Type 0} → Held → C → ℕ → View C
 viewed h store work = record { held = h; store = store; work = work }
 
--- what a runner gives is what comes of the packet
-pub ran_one : {C : Type 0} → (outcome : C → Arrival → Outcome C) (one : Record) (old : View C) (a : Arrival) (ports : List ℕ) (outs : List Out) (cut work : ℕ) (store : C) (new : Held)
-    → a ≡ arrival_of old.held.ports one → ports ≡ drop 1 old.held.ports → outs ≡ (outcome old.store a).sent → cut ≡ (outcome old.store a).cut % 2 ^ 64
-    → store ≡ (outcome old.store a).store → work ≡ (old.work + (outcome old.store a).work) % 2 ^ 64 → new ≡ with_outs a outs (came old.held ports ((old.held.cut + cut) % 2 ^ 64))
+-- the times alone are told of the packet that these came from
+same_times : (a later : Arrival) (outs : List Out) (h : Held) → later.seconds ≡ a.seconds → later.fraction ≡ a.fraction → with_outs later outs h ≡ with_outs a outs h
+same_times a later outs h seconds fraction =
+    let F : ℕ → ℕ → Held = λ s f. with_outs (record { octets = []; port = 0; seconds = s; fraction = f }) outs h in
+    ap (λ (s : ℕ). F s later.fraction) seconds ∙ ap (F a.seconds) fraction
+
+-- what a runner gives is what comes of the packet; behind it the packet has its times as before
+pub ran_one : {C : Type 0} → (outcome : C → Arrival → Outcome C) (one : Record) (old : View C) (a later : Arrival) (ports : List ℕ) (outs : List Out) (cut work : ℕ) (store : C) (new : Held)
+    → a ≡ arrival_of old.held.ports one → later.seconds ≡ a.seconds → later.fraction ≡ a.fraction → ports ≡ drop 1 old.held.ports → outs ≡ (outcome old.store a).sent → cut ≡ (outcome old.store a).cut % 2 ^ 64
+    → store ≡ (outcome old.store a).store → work ≡ (old.work + (outcome old.store a).work) % 2 ^ 64 → new ≡ with_outs later outs (came old.held ports ((old.held.cut + cut) % 2 ^ 64))
     → viewed new store work ≡ after_one outcome one old
-ran_one {C = C} outcome one old a ports outs cut work store new a_is ports_are outs_are cut_is store_is work_is new_is =
+ran_one {C = C} outcome one old a later ports outs cut work store new a_is seconds fraction ports_are outs_are cut_is store_is work_is later_is =
     let o = outcome old.store a in
+    let new_is = later_is ∙ same_times a later outs (came old.held ports ((old.held.cut + cut) % 2 ^ 64)) seconds fraction in
     let cut_same : (old.held.cut + cut) % 2 ^ 64 ≡ (old.held.cut + o.cut) % 2 ^ 64 =
     ap (λ (n : ℕ). (old.held.cut + n) % 2 ^ 64) cut_is ∙ add-mod-mod old.held.cut o.cut (2 ^ 64) in
     ap (λ (h : Held). viewed h store work) new_is

@@ -1,5 +1,5 @@
 // Runners of packets.
-ghost use Rattle.std.specs.Prelude.{◌≡◌, ℕ, ◌+◌, ◌%◌, ◌^◌, ◌++◌, List, IfOk, OnOk};
+ghost use Rattle.std.specs.Prelude.{◌≡◌, ℕ, ◌+◌, ◌%◌, ◌^◌, ◌++◌, List, OnOk};
 ghost use Rattle.fabric.specs.declared.packets.Arrival.{Arrival as Came};
 ghost use Rattle.fabric.specs.Numbers.{IsArrival};
 ghost use Rattle.run_stream.specs.Runs.{Outcome, AreFew};
@@ -28,17 +28,21 @@ pub trait Runner {
     // How many statements and transitions began so far, modulo 2^64.
     ghost done: { Self → ℕ };
 
-    /// A packet comes in: it makes its passes, and what is queued by them makes its own. It gives what comes of it.
+    /// A packet comes in: it makes its passes, and what is queued by them makes its own. What comes of it is put in the place
+    /// of what came of another one, whatever that was, and in its room. The octets of the arrival may be taken, and others may
+    /// stand there then, which are of no account but for the memory that they have.
     ///
     /// # Errors
     /// It fails for want of memory alone, and then the runner is not used again.
-    fn one(&mut self, arrival: &Arrival) -> Result<Fate, OutOfMemory>
-        requires { IsArrival arrival.now }
+    fn one(&mut self, arrival: &mut Arrival, fate: &mut Fate) -> Result<(), OutOfMemory>
+        requires { IsArrival arrival.old }
         ensures setting { OnOk result (setting self.new ≡ setting self.old) }
-        ensures store { OnOk result (store self.new ≡ (outcome (setting self.old) (store self.old) arrival.now).store) }
-        ensures work { OnOk result (done self.new ≡ (done self.old + (outcome (setting self.old) (store self.old) arrival.now).work) % 2 ^ 64) }
-        ensures sent { IfOk result (λ fate. fate.sent ≡ (outcome (setting self.old) (store self.old) arrival.now).sent) }
-        ensures cut { IfOk result (λ fate. fate.cut ≡ (outcome (setting self.old) (store self.old) arrival.now).cut % 2 ^ 64) };
+        ensures store { OnOk result (store self.new ≡ (outcome (setting self.old) (store self.old) arrival.old).store) }
+        ensures work { OnOk result (done self.new ≡ (done self.old + (outcome (setting self.old) (store self.old) arrival.old).work) % 2 ^ 64) }
+        ensures sent { OnOk result (fate.new.sent ≡ (outcome (setting self.old) (store self.old) arrival.old).sent) }
+        ensures cut { OnOk result (fate.new.cut ≡ (outcome (setting self.old) (store self.old) arrival.old).cut % 2 ^ 64) }
+        ensures seconds { OnOk result (arrival.new.seconds ≡ arrival.old.seconds) }
+        ensures fraction { OnOk result (arrival.new.fraction ≡ arrival.old.fraction) };
 
     // The lines that end the report, by the store and the work.
     ghost end_lines: { Setting → Store → ℕ → List ℕ };

@@ -9,7 +9,7 @@ ghost use Rattle.run_stream.specs.internal.Streams.{held_of, view_of, empty, hea
 
 use crate::counts::Counts;
 use crate::runner::Runner;
-use fabric::{Arrival, Out};
+use fabric::{Arrival, Fate, Out};
 use itoa::write_digits;
 use p4x_bits::{Octets, OutOfMemory};
 use p4x_fault::Fault;
@@ -94,17 +94,24 @@ impl<'a> Stream<'a> {
         Ok(())
     }
 
-    // A packet comes in on the next port and is run. Its octets are handed back, for the memory that they have.
-    fn run<R: Runner>(&mut self, runner: &mut R, one: Record) -> Result<Octets, OutOfMemory>
+    // A packet comes in on the next port and is run, and what comes of it stands where that of another one stood. Octets are handed
+    // back, for the memory that they have.
+    fn run<R: Runner>(
+        &mut self,
+        runner: &mut R,
+        one: Record,
+        fate: &mut Fate,
+    ) -> Result<Octets, OutOfMemory>
         requires known { IsRecord one }
         requires ports { All IsPort self.old.ports.now }
         ensures setting { OnOk result (R.setting runner.new ≡ R.setting runner.old) }
         ensures ran { OnOk result (view_of self.new (R.store runner.new) (R.done runner.new) ≡ after_one (R.outcome (R.setting runner.old)) one (view_of self.old (R.store runner.old) (R.done runner.old))) }
         ensures ports { All IsPort self.new.ports.now }
     {
-        let (arrival, behind) = arrive(one, self.ports);
+        let (came, behind) = arrive(one, self.ports);
         self.ports = behind;
-        let fate = runner.one(&arrival)?;
+        let mut arrival = came;
+        runner.one(&mut arrival, fate)?;
         self.counts.arrivals = self.counts.arrivals.wrapping_add(1);
         self.counts.cut = self.counts.cut.wrapping_add(fate.cut);
         self.send_all(&arrival, fate.sent.as_slice())?;
@@ -125,8 +132,9 @@ impl<'a> Stream<'a> {
         ensures ports { All IsPort self.new.ports.now }
     {
         let mut spare = Octets::new(self.alloc);
+        let mut fate = Fate::new(self.alloc);
         'records: while let Some(one) = reader.next(spare)? {
-            spare = self.run(runner, one)?;
+            spare = self.run(runner, one, &mut fate)?;
         }
         Ok(())
     }
