@@ -7,7 +7,7 @@ ghost use Rattle.p414_pipe_run.specs.Prepared.{setting_of};
 ghost use Rattle.run14_cmd.specs.internal.Runner.{Running14 as Sets, outcome14, lines14, are_few};
 
 use cell_lines::put_cell_lines;
-use fabric::{Arrival, Fate, serve};
+use fabric::{Arrival, Fate, serve_into};
 use match_core::Signature;
 use p4x_bits::{Octets, OutOfMemory};
 use p414_pipe_run::{Passes14, packed_runs_as_the_program};
@@ -68,16 +68,17 @@ impl<'r, 'e> Runner for Runner14<'r, 'e> {
 
     ghost done = { λ r. 0 };
 
-    fn one(&mut self, arrival: &Arrival) -> Result<Fate, OutOfMemory> {
+    fn one(&mut self, arrival: &mut Arrival, fate: &mut Fate) -> Result<(), OutOfMemory> {
         packed_runs_as_the_program();
-        let fate = serve(
+        serve_into(
             self.alloc,
             &mut self.passes,
             self.sessions,
             arrival,
             self.bound,
+            fate,
         )?;
-        Ok(fate)
+        Ok(())
     }
 
     ghost end_lines = { lines14 };
