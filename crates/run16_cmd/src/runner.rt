@@ -57,9 +57,9 @@ impl<'r> Runner for ProgramRunner<'r> {
 
     ghost done = { λ r. 0 };
 
-    fn one(&mut self, arrival: &Arrival) -> Result<Fate, OutOfMemory> {
-        let fate = self.runner.one(arrival)?;
-        Ok(fate)
+    fn one(&mut self, arrival: &mut Arrival, fate: &mut Fate) -> Result<(), OutOfMemory> {
+        self.runner.one_into(arrival, fate)?;
+        Ok(())
     }
 
     ghost end_lines = { lines16 };
