@@ -1,5 +1,5 @@
 // The written program as a runner of packets.
-ghost use Rattle.std.specs.Prelude.{◌≡◌, ◌≤◌, ◌+◌, ◌%◌, ◌^◌, sum_by, IfOk, OnOk};
+ghost use Rattle.std.specs.Prelude.{◌≡◌, ◌≤◌, ◌+◌, ◌%◌, ◌^◌, sum_by, OnOk};
 ghost use Rattle.state_store.specs.State.{Contents};
 ghost use Rattle.state_store.specs.Ports.{drop_port};
 ghost use Rattle.fabric.specs.Numbers.{IsArrival};
@@ -9,11 +9,12 @@ ghost use Rattle.p4x_cmd.specs.internal.Plain.{plain_pass, own_outcome, no_store
 
 use fabric::{Arrival, Fate, Out};
 use one_table_text::OneTable16;
-use p4x_bits::{Octets, OutOfMemory, Rows};
+use p4x_bits::{Octets, OutOfMemory};
 use p414_one_table::Field;
 use run_stream::{Runner, put_work_line};
 use state_store::DROP_PORT;
 use std::alloc::Global;
+use std::mem::replace;
 
 /// A program of the one-table form that runs packets, without entries.
 #[derive(Drop)]
@@ -54,16 +55,23 @@ fn pass(bits: u64, port: u64, arrival: &Arrival) -> (Option<u16>, u64)
     }
 }
 
-// What leaves of a packet with these octets on this port.
-fn outs(alloc: Global, port: Option<u16>, octets: &[u8]) -> Result<Rows<Out>, OutOfMemory>
-    ensures { IfOk result (λ outs. outs ≡ outs_of (end_of port octets.now)) }
+// What leaves of a packet with these octets on this port: they are moved there, and others stand where they stood.
+fn leave(
+    alloc: Global,
+    port: Option<u16>,
+    octets: &mut Octets,
+    fate: &mut Fate,
+) -> Result<(), OutOfMemory>
+    ensures sent { OnOk result (fate.new.sent ≡ outs_of (end_of port octets.old)) }
+    ensures cut { OnOk result (fate.new.cut ≡ 0) }
 {
-    let mut outs = Rows::new(alloc);
+    let room = fate.reclaim();
+    fate.cut = 0;
     if let Some(port) = port {
-        let octets = Octets::from_slice(alloc, octets)?;
-        outs.push(Out { port, octets })?;
+        let octets = replace(octets, room.unwrap_or(Octets::new(alloc)));
+        fate.sent.push(Out { port, octets })?;
     }
-    Ok(outs)
+    Ok(())
 }
 
 impl<'a> Plain<'a> {
@@ -95,11 +103,11 @@ impl<'a> Runner for Plain<'a> {
 
     ghost done = { λ plain. plain.work };
 
-    fn one(&mut self, arrival: &Arrival) -> Result<Fate, OutOfMemory> {
+    fn one(&mut self, arrival: &mut Arrival, fate: &mut Fate) -> Result<(), OutOfMemory> {
         let (port, work) = pass(self.bits, self.program.port, arrival);
         self.work = self.work.wrapping_add(work);
-        let sent = outs(self.alloc, port, arrival.octets.as_slice())?;
-        Ok(Fate { sent, cut: 0 })
+        leave(self.alloc, port, &mut arrival.octets, fate)?;
+        Ok(())
     }
 
     ghost end_lines = { λ program store work. work_line work };

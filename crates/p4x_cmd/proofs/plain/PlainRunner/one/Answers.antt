@@ -1,5 +1,4 @@
-use Rattle.std.proofs.Common.{ℕ, ◌+◌, ◌%◌, ◌^◌, List, sym, ◌∙◌, ap}
-use Rattle.p4x_cmd.specs.internal.Plain.{outs_of, end_of}
+use Rattle.std.proofs.Common.{ℕ, ◌+◌, ◌%◌, ◌^◌, sym, ap}
 use Rattle.p4x_cmd.proofs.Running.{work_is, outs_are}
 use Rattle.p4x_cmd.proofs.plain.PlainRunner.one.Goals as goal
 
@@ -13,4 +12,4 @@ returns-clause-sent c =
     let runner = c.args.self.now in
     let port = c.pass-port.result.0 in
     outs_are runner.program.now runner.bits c.args.arrival.now runner.sized runner.bits_are c.requires port _ c.pass-port.ensures.end
-    (c.in_ok-sent.ensures ∙ ap (λ (l : List ℕ). outs_of (end_of port l)) c.as_slice.ensures)
+    c.in_ok-leave.ensures.sent
