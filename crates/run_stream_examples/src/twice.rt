@@ -65,10 +65,11 @@ impl Runner for Twice {
 
     ghost done = { λ runner. runner.passes };
 
-    fn one(&mut self, arrival: &Arrival) -> Result<Fate, OutOfMemory> {
+    fn one(&mut self, arrival: &mut Arrival, fate: &mut Fate) -> Result<(), OutOfMemory> {
         self.passes = self.passes.wrapping_add(2);
-        let sent = outs(self.alloc, self.port, arrival.octets.as_slice())?;
-        Ok(Fate { sent, cut: 1 })
+        fate.sent = outs(self.alloc, self.port, arrival.octets.as_slice())?;
+        fate.cut = 1;
+        Ok(())
     }
 
     ghost end_lines = { λ port store work. work_line work };
