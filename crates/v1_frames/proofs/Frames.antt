@@ -1,17 +1,19 @@
 -- Frames and layouts by their parts.
-use Rattle.std.proofs.Common.{◌≡◌, ℕ, zero, suc, ◌<◌, ◌≤◌, Bool, ◌+◌, ◌-◌, true, false, cond, List, [], ◌∷◌, ◌++◌, length, take, drop, replicate, get_or, set, Option, refl, sym, ap, ◌∙◌, subst, arith, pow_pos, append_assoc, append-nil, length-append, length-set, length-take-le, take-append-drop}
+use Rattle.std.proofs.Common.{◌≡◌, ℕ, zero, suc, ◌<◌, ◌≤◌, Bool, ◌+◌, ◌-◌, ◌^◌, true, false, cond, List, [], ◌∷◌, ◌++◌, length, take, drop, replicate, get_or, set, Option, Some, None, refl, sym, ap, ◌∙◌, subst, arith, pow_pos, append_assoc, append-nil, length-append, length-set, length-take-le, take-append-drop}
 use Rattle.std.specs.Prelude.{All}
 use Rattle.std.proofs.lemmas.List.Elements.{All-append}
-use Rattle.std.proofs.lemmas.List.{drop_more, set_at, replicate_more, length-replicate, get_or_past, set-get_or, get_or-set_same, get_or-set_other}
+use Rattle.std.proofs.lemmas.List.{drop_more, set_at, replicate_more, length-replicate, get_or_past, set-get_or, get_or-set_same, get_or-set_other, get_or_append_left, get_or-append_right, get_or-replicate, take_all}
+use Rattle.std.proofs.lemmas.Bool.{ltb-true, ltb-false, eqb-true, eqb-false}
+use Rattle.std.proofs.Math.Dec.{ltb, eqb}
 use Rattle.fabric.specs.declared.items.Event.{Event}
 use Rattle.fabric.specs.declared.items.RequestKind.{RequestKind}
 use Rattle.fabric.specs.declared.items.RequestKind.TheVariants.{CloneI2E, CloneE2E, Resubmit, Recirculate}
 use Rattle.v1_sem.specs.Numbers.{is_same_truth}
 use Rattle.v1_frames.specs.declared.layout.HeaderSlots.{HeaderSlots}
 use Rattle.v1_frames.specs.declared.requests.Requests.{Requests}
-use Rattle.v1_frames.specs.Layouts.{Layout}
-use Rattle.v1_frames.specs.Cells.{Cells, is_live, slot_value, with_slot, request_of, AreWhole}
-use Rattle.v1_frames.specs.internal.Parts.{cells_with, request_in, AreWithin, AreParts}
+use Rattle.v1_frames.specs.Layouts.{Layout, no_slots}
+use Rattle.v1_frames.specs.Cells.{Cells, owner_valid, is_live, slot_value, with_slot, request_of, AreWhole}
+use Rattle.v1_frames.specs.internal.Parts.{cells_with, request_in, AreWithin, AreOwned, IsOwned, AreParts, AreKept}
 
 -- what is past the last mark is none
 pub past_marks : (marks : List Bool) (i : ℕ) → length marks ≤ i → false ≡ get_or marks i false
@@ -25,8 +27,18 @@ request_is layout numbers valids places requests events Resubmit = refl
 request_is layout numbers valids places requests events Recirculate = refl
 
 -- each part has what fits it
-pub are_whole : (seen c : Cells) → seen ≡ c → AreWhole seen → AreWhole c
-are_whole seen c view whole = subst AreWhole view whole
+pub are_whole : (seen c : Cells) → seen ≡ c → AreKept seen → AreWhole c
+are_whole seen c view kept = subst AreWhole view kept.whole
+
+-- what stands in a slot is what is read there
+pub kept_value : (c : Cells) (slot : ℕ) → AreKept c → get_or c.numbers slot 0 ≡ slot_value c slot
+kept_value c slot kept = by (is_live c slot) refl where
+  by : (live : Bool) → is_live c slot ≡ live → get_or c.numbers slot 0 ≡ cond live (get_or c.numbers slot 0) 0
+  by true e = refl
+  by false e = kept.quiet slot e
+
+pub reads_value : (seen c : Cells) (slot n : ℕ) → seen ≡ c → AreKept seen → n ≡ get_or seen.numbers slot 0 → n ≡ slot_value c slot
+reads_value seen c slot n view kept is = is ∙ kept_value seen slot kept ∙ ap (λ (x : Cells). slot_value x slot) view
 
 -- as it is at first
 
@@ -43,6 +55,41 @@ whole_first layout n m k numbers valids places requests events zeros marks none 
   fits = λ slot lt. rw (zeros, zero_at n slot) (pow_pos (get_or layout.widths slot 0));
   within = λ stack. rw (none, zero_at k stack) (omega arith);
 }
+
+pub kept_first : (layout : Layout) (n m k : ℕ) (numbers : List ℕ) (valids : List Bool) (places : List ℕ) (requests : Requests) (events : List Event) → length layout.owners ≡ length layout.widths → AreOwned layout.owners layout.headers → numbers ≡ replicate n 0 → valids ≡ replicate m false → places ≡ replicate k 0 → n ≡ length layout.widths → m ≡ length layout.headers → k ≡ length layout.sizes → AreKept (cells_with layout numbers valids places requests events)
+kept_first layout n m k numbers valids places requests events owners owned zeros marks none slots headers stacks = record {
+  whole = whole_first layout n m k numbers valids places requests events zeros marks none slots headers stacks;
+  owners = owners;
+  owned = owned;
+  quiet = λ slot off. rw zeros (zero_at n slot);
+}
+
+-- a number that is put where it is read again
+pub kept_put : (layout : Layout) (numbers new : List ℕ) (valids : List Bool) (places : List ℕ) (requests : Requests) (events : List Event) (slot n : ℕ) → AreKept (cells_with layout numbers valids places requests events) → owner_valid valids (get_or layout.owners slot None) ≡ true → n < 2 ^ get_or layout.widths slot 0 → new ≡ set numbers slot n → AreKept (cells_with layout new valids places requests events)
+kept_put layout numbers new valids places requests events slot n kept live fits put = record {
+  whole = record {
+    numbers = ap length put ∙ length-set numbers slot n ∙ kept.whole.numbers;
+    valids = kept.whole.valids;
+    places = kept.whole.places;
+    fits = λ i lt. rw put (in_width i lt (eqb i slot) refl);
+    within = kept.whole.within;
+  };
+  owners = kept.owners;
+  owned = kept.owned;
+  quiet = λ i off. rw put (is_zero i off (eqb i slot) refl);
+} where
+  in_width : (i : ℕ) → i < length layout.widths → (b : Bool) → eqb i slot ≡ b → get_or (set numbers slot n) i 0 < 2 ^ get_or layout.widths i 0
+  in_width i lt true e =
+      let same : i ≡ slot = eqb-true i slot e in
+      let there : slot < length numbers = omega (arith, kept.whole.numbers, lt, same) in
+      rw (same, get_or-set_same numbers slot n 0 there) fits
+  in_width i lt false e = rw (get_or-set_other numbers slot i n 0 (eqb-false i slot e)) (kept.whole.fits i lt)
+
+  is_zero : (i : ℕ) → owner_valid valids (get_or layout.owners i None) ≡ false → (b : Bool) → eqb i slot ≡ b → get_or (set numbers slot n) i 0 ≡ 0
+  is_zero i off true e =
+      let same : i ≡ slot = eqb-true i slot e in
+      absurd (cc (sym live ∙ ap (λ (k : ℕ). owner_valid valids (get_or layout.owners k None)) (sym same) ∙ off))
+  is_zero i off false e = get_or-set_other numbers slot i n 0 (eqb-false i slot e) ∙ kept.quiet i off
 
 -- the numbers of a header, cleared from the first on
 
@@ -96,18 +143,148 @@ whole_less layout numbers new valids places requests events header on whole many
   within = whole.within;
 }
 
+-- what was cleared is 0
+cleared_zero : (from to i : ℕ) (xs : List ℕ) → from ≤ i → i < to → to ≤ length xs → get_or (cleared from to xs) i 0 ≡ 0
+cleared_zero from to i xs le lt within =
+    let front : length (take from xs) ≡ from = length-take-le from xs (omega arith) in
+    let zeros : length (replicate (to - from) 0) ≡ to - from = length-replicate {A = ℕ} (to - from) 0 in
+    let long : i < length (take from xs ++ replicate (to - from) 0) = omega (arith, length-append (take from xs) (replicate (to - from) 0), front, zeros) in
+    get_or_append_left (take from xs ++ replicate (to - from) 0) (drop to xs) 0 i long
+    ∙ get_or-append_right (take from xs) (replicate (to - from) 0) from i 0 front le
+    ∙ zero_at (to - from) (i - from)
+
+-- a header that becomes valid or invalid, with fields that are 0
+pub kept_cleared : (layout : Layout) (numbers new : List ℕ) (valids : List Bool) (places : List ℕ) (requests : Requests) (events : List Event) (header : ℕ) (on : Bool) (slots : HeaderSlots) → AreKept (cells_with layout numbers valids places requests events) → slots ≡ get_or layout.headers header no_slots → slots.to ≤ length numbers → length new ≡ length numbers → new ≡ cleared slots.from slots.to numbers → ((i : ℕ) → get_or new i 0 ≤ get_or numbers i 0) → AreKept (cells_with layout new (set valids header on) places requests events)
+kept_cleared layout numbers new valids places requests events header on slots kept is within many clears less = record {
+  whole = whole_less layout numbers new valids places requests events header on kept.whole many less;
+  owners = kept.owners;
+  owned = kept.owned;
+  quiet = λ i off. by i (get_or layout.owners i None) refl off;
+} where
+  same_header : (i h : ℕ) → get_or layout.owners i None ≡ Some h → h ≡ header → get_or new i 0 ≡ 0
+  same_header i h e same =
+      let o = kept.owned i h e in
+      let its : get_or layout.headers h no_slots ≡ slots = ap (λ (k : ℕ). get_or layout.headers k no_slots) same ∙ sym is in
+      ap (λ (xs : List ℕ). get_or xs i 0) clears
+      ∙ cleared_zero slots.from slots.to i numbers (subst (λ (s : HeaderSlots). s.from ≤ i) its o.from) (subst (λ (s : HeaderSlots). i < s.to) its o.to) within
+
+  other_header : (i h : ℕ) → get_or layout.owners i None ≡ Some h → (h ≡ header → ⊥) → get_or (set valids header on) h false ≡ false → get_or new i 0 ≡ 0
+  other_header i h e other off =
+      let was : get_or valids h false ≡ false = sym (get_or-set_other valids header h on false other) ∙ off in
+      omega (arith, less i, kept.quiet i (ap (owner_valid valids) e ∙ was))
+
+  by_header : (i h : ℕ) → get_or layout.owners i None ≡ Some h → get_or (set valids header on) h false ≡ false → (b : Bool) → eqb h header ≡ b → get_or new i 0 ≡ 0
+  by_header i h e off true q = same_header i h e (eqb-true h header q)
+  by_header i h e off false q = other_header i h e (eqb-false h header q) off
+
+  by : (i : ℕ) (o : Option ℕ) → get_or layout.owners i None ≡ o → owner_valid (set valids header on) o ≡ false → get_or new i 0 ≡ 0
+  by i None e off = absurd (cc off)
+  by i (Some h) e off = by_header i h e off (eqb h header) refl
+
 -- slots that are added
 
 within_more : (n m : ℕ) (headers : List HeaderSlots) → n ≤ m → All (AreWithin n) headers → All (AreWithin m) headers
 within_more n m headers le each = λ k d lt. record { order = (each k d lt).order; within = omega (arith, (each k d lt).within) }
 
--- behind those that are there, at least as many owners as slots
-pub parts_more : (widths more : List ℕ) (owners others : List (Option ℕ)) (headers : List HeaderSlots) → AreParts widths owners headers → length more ≤ length others → All (λ width. width ≤ 128) more → AreParts (widths ++ more) (owners ++ others) headers
-parts_more widths more owners others headers parts le narrow = record {
+-- more slots, of which isn't told yet whether they are fields
+pub parts_wider : (widths more : List ℕ) (owners : List (Option ℕ)) (headers : List HeaderSlots) → AreParts widths owners headers → All (λ width. width ≤ 128) more → AreParts (widths ++ more) owners headers
+parts_wider widths more owners headers parts narrow = record {
   narrow = All-append (λ width. width ≤ 128) widths more parts.narrow narrow;
-  owned = omega (arith, parts.owned, length-append widths more, length-append owners others);
   slots = within_more (length widths) (length (widths ++ more)) headers (omega (arith, length-append widths more)) parts.slots;
+  owned = parts.owned;
 }
+
+pub narrow_one : (width : ℕ) → width ≤ 128 → All (λ width. width ≤ 128) (width ∷ [])
+narrow_one width le zero d lt = le
+narrow_one width le (suc k) d lt = absurd (omega (arith, lt))
+
+-- one that is no field of a header
+pub parts_lone : (widths : List ℕ) (owners : List (Option ℕ)) (headers : List HeaderSlots) → AreParts widths owners headers → AreParts widths (owners ++ None ∷ []) headers
+parts_lone widths owners headers parts = record {
+  narrow = parts.narrow;
+  slots = parts.slots;
+  owned = λ slot h e. by slot h e (ltb slot (length owners)) refl;
+} where
+  by : (slot h : ℕ) → get_or (owners ++ None ∷ []) slot None ≡ Some h → (b : Bool) → ltb slot (length owners) ≡ b → IsOwned headers slot h
+  by slot h e true q = parts.owned slot h (sym (get_or_append_left owners (None ∷ []) None slot (ltb-true slot (length owners) q)) ∙ e)
+  by slot h e false q =
+      absurd (none (slot - length owners) (sym (get_or-append_right owners (None ∷ []) (length owners) slot None refl (ltb-false slot (length owners) q)) ∙ e))
+    where
+      none : (k : ℕ) → get_or (None ∷ []) k None ≡ Some h → ⊥
+      none zero w = cc w
+      none (suc k) w = cc w
+
+owned_more : (owners : List (Option ℕ)) (headers : List HeaderSlots) (x : HeaderSlots) → AreOwned owners headers → AreOwned owners (headers ++ x ∷ [])
+owned_more owners headers x owned = λ slot h e.
+    let o = owned slot h e in
+    let same : get_or (headers ++ x ∷ []) h no_slots ≡ get_or headers h no_slots = get_or_append_left headers (x ∷ []) no_slots h o.there in
+    record {
+      there = omega (arith, o.there, length-append headers (x ∷ []));
+      from = subst (λ (s : HeaderSlots). s.from ≤ slot) (sym same) o.from;
+      to = subst (λ (s : HeaderSlots). slot < s.to) (sym same) o.to;
+    }
+
+-- a header with the slots behind the others
+pub parts_with_header : (widths more : List ℕ) (owners : List (Option ℕ)) (headers : List HeaderSlots) (x : HeaderSlots) → AreParts widths owners headers → All (λ width. width ≤ 128) more → x.from ≡ length widths → x.to ≡ length widths + length more → AreParts (widths ++ more) owners (headers ++ x ∷ [])
+parts_with_header widths more owners headers x parts narrow from to =
+    let wider = parts_wider widths more owners headers parts narrow in
+    let one : AreWithin (length (widths ++ more)) x = record { order = omega (arith, from, to); within = omega (arith, to, length-append widths more) } in
+    record {
+      narrow = wider.narrow;
+      slots = All-append (AreWithin (length (widths ++ more))) headers (x ∷ []) wider.slots (all_one x one);
+      owned = owned_more owners headers x parts.owned;
+    }
+  where
+    all_one : (y : HeaderSlots) → AreWithin (length (widths ++ more)) y → All (AreWithin (length (widths ++ more))) (y ∷ [])
+    all_one y is zero d lt = is
+    all_one y is (suc k) d lt = absurd (omega (arith, lt))
+
+number_of : Option ℕ → ℕ
+number_of None = 0
+number_of (Some n) = n
+
+-- and these are its fields
+pub parts_all : (widths more : List ℕ) (owners : List (Option ℕ)) (headers : List HeaderSlots) (x : HeaderSlots) (header n : ℕ) → AreParts widths owners headers → All (λ width. width ≤ 128) more → x.from ≡ length widths → x.to ≡ length widths + length more → length owners ≡ length widths → header ≡ length headers → n ≡ length more → AreParts (widths ++ more) (owners ++ replicate n (Some header)) (headers ++ x ∷ [])
+parts_all widths more owners headers x header n parts narrow from to long is count =
+    let before = parts_with_header widths more owners headers x parts narrow from to in
+    record { narrow = before.narrow; slots = before.slots; owned = λ slot h e. by before.owned slot h e (ltb slot (length owners)) refl }
+  where
+    last : get_or (headers ++ x ∷ []) (length headers) no_slots ≡ x
+    last =
+        let first : length headers - length headers ≡ 0 = omega arith in
+        get_or-append_right headers (x ∷ []) (length headers) (length headers) no_slots refl (omega arith) ∙ ap (λ (k : ℕ). get_or (x ∷ []) k no_slots) first
+
+    within : (slot h : ℕ) → length owners ≤ slot → slot - length owners < n → header ≡ h → IsOwned (headers ++ x ∷ []) slot h
+    within slot h le lt same =
+        let its : get_or (headers ++ x ∷ []) h no_slots ≡ x = ap (λ (k : ℕ). get_or (headers ++ x ∷ []) k no_slots) (sym same ∙ is) ∙ last in
+        record {
+          there = omega (arith, same, is, length-append headers (x ∷ []));
+          from = subst (λ (s : HeaderSlots). s.from ≤ slot) (sym its) (omega (arith, from, long, le));
+          to = subst (λ (s : HeaderSlots). slot < s.to) (sym its) (omega (arith, to, long, le, lt, count));
+        }
+
+    far : (slot h k : ℕ) → length owners ≤ slot → k ≡ slot - length owners → get_or (replicate n (Some header)) k None ≡ Some h → (b : Bool) → ltb k n ≡ b → IsOwned (headers ++ x ∷ []) slot h
+    far slot h k le behind e true q =
+        let lt : k < n = ltb-true k n q in
+        let there : get_or (replicate n (Some header)) k None ≡ Some header = get_or-replicate n k (Some header) None lt in
+        let same : Some header ≡ Some h = sym there ∙ e in
+        within slot h le (omega (arith, lt, behind)) (ap number_of same)
+    far slot h k le behind e false q =
+        let past : length (replicate n (Some header)) ≤ k = omega (arith, length-replicate {A = Option ℕ} n (Some header), ltb-false k n q) in
+        let none : get_or (replicate n (Some header)) k None ≡ None = get_or_past (replicate n (Some header)) k None past in
+        absurd (cc (sym none ∙ e))
+
+    by : AreOwned owners (headers ++ x ∷ []) → (slot h : ℕ) → get_or (owners ++ replicate n (Some header)) slot None ≡ Some h → (b : Bool) → ltb slot (length owners) ≡ b → IsOwned (headers ++ x ∷ []) slot h
+    by owned slot h e true q = owned slot h (sym (get_or_append_left owners (replicate n (Some header)) None slot (ltb-true slot (length owners) q)) ∙ e)
+    by owned slot h e false q =
+        let le = ltb-false slot (length owners) q in
+        far slot h (slot - length owners) le refl (sym (get_or-append_right owners (replicate n (Some header)) (length owners) slot None refl le) ∙ e) (ltb (slot - length owners) n) refl
+
+-- owners that are filled up
+pub owners_more : (owners new : List (Option ℕ)) (to k n : ℕ) (owner : Option ℕ) → new ≡ take to owners ++ replicate (to - k) owner → k ≡ length owners → to ≡ k + n → new ≡ owners ++ replicate n owner
+owners_more owners new to k n owner is long count =
+    let left : to - k ≡ n = omega arith in
+    is ∙ ap (λ (l : List (Option ℕ)). l ++ replicate (to - k) owner) (take_all to owners (omega arith)) ∙ ap (λ (i : ℕ). owners ++ replicate i owner) left
 
 -- marks
 

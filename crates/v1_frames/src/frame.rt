@@ -28,14 +28,14 @@ pub struct Frame<'l> {
 }
 
 impl<'l> Model for Frame<'l> {
-    ghost use Rattle.v1_frames.specs.Cells.{Cells, AreWhole};
-    ghost use Rattle.v1_frames.specs.internal.Parts.{cells_with};
+    ghost use Rattle.v1_frames.specs.Cells.{Cells};
+    ghost use Rattle.v1_frames.specs.internal.Parts.{cells_with, AreKept};
 
     ghost Value = { Cells };
 
     ghost view = { λ f. cells_with f.layout.now f.numbers.items f.valids.items f.places.items f.requests f.events.items };
 
-    ghost invariant = { λ f. AreWhole (cells_with f.layout.now f.numbers.items f.valids.items f.places.items f.requests f.events.items) };
+    ghost invariant = { λ f. AreKept (cells_with f.layout.now f.numbers.items f.valids.items f.places.items f.requests f.events.items) };
 }
 
 /// No request of any kind.
@@ -109,11 +109,14 @@ pub fn what_is_set_is_got()
 
 impl<'l> Frame<'l> {
     /// A frame with these parts in which all slots are 0, all headers are invalid, all stacks are at place 0, nothing is
-    /// requested and no table was applied. The one error is want of memory.
+    /// requested and no table was applied. The one error is want of memory, which also one of the layout counts as.
     #[tactic(auto, using(crate::proofs::Frames::whole_first))]
     pub fn of_layout(alloc: Global, layout: &'l FrameLayout) -> Result<Self, OutOfMemory>
         ensures { IfOk result (λ frame. frame ≡ new_cells layout.now) }
     {
+        if !layout.is_whole() {
+            return Err(OutOfMemory);
+        }
         let numbers = zero_numbers(alloc, layout.slots())?;
         let valids = no_marks(alloc, layout.headers())?;
         let places = first_places(alloc, layout.stacks())?;
@@ -154,13 +157,14 @@ impl<'l> Frame<'l> {
         let _ = &self.layout;
     }
 
-    /// Makes it what `of_layout` gives of a layout, where that has as many slots, headers and stacks; else nothing changes. It tells
-    /// whether it did. It takes no memory.
+    /// Makes it what `of_layout` gives of a layout, where that has as many slots, headers and stacks and met no want of memory; else
+    /// nothing changes. It tells whether it did. It takes no memory.
     pub fn renew(&mut self, layout: &'l FrameLayout) -> bool
         ensures made { result ≡ true → self.new ≡ new_cells layout.now }
         ensures kept { result ≡ false → self.new ≡ self.old }
     {
-        if self.numbers.len() != layout.slots()
+        if !layout.is_whole()
+            || self.numbers.len() != layout.slots()
             || self.valids.len() != layout.headers()
             || self.places.len() != layout.stacks()
         {
@@ -176,19 +180,17 @@ impl<'l> Frame<'l> {
     }
 
     /// The number in a slot; 0 in that of a field of an invalid header.
+    #[tactic(auto, using(crate::proofs::Frames::reads_value))]
     pub fn get(&self, slot: u32) -> u128
         requires { slot < length self.now.layout.widths }
         ensures is { result ≡ slot_value self.now slot }
         ensures fits { result < 2 ^ slice_index self.now.layout.widths slot }
     {
-        if is_live(&self.valids, self.layout.owner(slot)) {
-            self.numbers[slot as usize]
-        } else {
-            0
-        }
+        self.numbers[slot as usize]
     }
 
     /// Puts a number into a slot; that of a field of an invalid header keeps its own.
+    #[tactic(auto, using(crate::proofs::Frames::kept_put))]
     pub fn set(&mut self, slot: u32, value: u128)
         requires slot { slot < length self.old.layout.widths }
         requires value { value < 2 ^ slice_index self.old.layout.widths slot }

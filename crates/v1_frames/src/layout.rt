@@ -1,6 +1,7 @@
 // The parts of a frame.
-ghost use Rattle.std.specs.Prelude.{◌≡◌, ◌<◌, ◌≤◌, length, slice_index, slice_index_or, All, OnOk, None};
+ghost use Rattle.std.specs.Prelude.{◌≡◌, ◌<◌, ◌≤◌, true, length, slice_index, slice_index_or, All, OnOk, None};
 ghost use Rattle.v1_frames.specs.Layouts.{no_slots, no_parts, with_lone_slot, with_header_part, with_stack_part};
+ghost use Rattle.v1_frames.specs.internal.Parts.{AreOwned};
 
 use name_numbers::narrow;
 use p4x_bits::OutOfMemory;
@@ -67,9 +68,18 @@ impl FrameLayout {
         self.widths[slot as usize]
     }
 
+    /// Whether it tells of each slot whether that is a field, as it does but after want of memory. A field of a header is among the
+    /// header's slots.
+    pub(crate) fn is_whole(&self) -> bool
+        ensures owners { result ≡ true → length self.now.owners ≡ length self.now.widths }
+        ensures owned { AreOwned self.now.owners self.now.headers }
+    {
+        self.owners.len() == self.widths.len()
+    }
+
     /// The header of which a slot is a field, where it is one.
     pub(crate) fn owner(&self, slot: u32) -> Option<u32>
-        requires { slot < length self.now.widths }
+        requires { slot < length self.now.owners }
         ensures { result ≡ slice_index_or self.now.owners slot None }
     {
         self.owners[slot as usize]
@@ -112,24 +122,26 @@ impl FrameLayout {
         requires { width ≤ 128 }
         ensures { OnOk result (self.new ≡ with_lone_slot self.old width) }
     {
-        self.owners.push(None)?;
         self.widths.push(width)?;
+        self.owners.push(None)?;
         Ok(())
     }
 
-    /// One header more, with fields of so many bits each. The one error is want of memory.
+    /// One header more, with fields of so many bits each. The one error is want of memory, which also an earlier one counts as.
+    #[tactic(auto, using(crate::proofs::Frames::owners_more))]
     pub fn add_header(&mut self, widths: &[u8]) -> Result<(), OutOfMemory>
         requires { All (λ width. width ≤ 128) widths.now }
         ensures { OnOk result (self.new ≡ with_header_part self.old widths.now) }
     {
         let header = narrow(self.headers.len())?;
         let from = self.widths.len();
-        for width in widths {
-            self.owners.push(Some(header))?;
-            self.widths.push(*width)?;
+        if self.owners.len() != from {
+            return Err(OutOfMemory);
         }
+        self.widths.extend_from_slice(widths)?;
         let to = self.widths.len();
         self.headers.push(HeaderSlots { from, to })?;
+        self.owners.resize(to, Some(header))?;
         Ok(())
     }
 

@@ -1,13 +1,13 @@
 -- A layout and a frame by their parts.
-use Rattle.std.specs.Prelude.{ℕ, ◌≤◌, Bool, List, length, Option, All}
+use Rattle.std.specs.Prelude.{◌≡◌, ℕ, ◌<◌, ◌≤◌, Bool, false, List, length, slice_index, slice_index_or, Option, Some, None, All}
 use Rattle.fabric.specs.declared.items.Event.{Event}
 use Rattle.fabric.specs.declared.items.RequestKind.{RequestKind}
 use Rattle.fabric.specs.declared.items.RequestKind.TheVariants.{CloneI2E, CloneE2E, Resubmit, Recirculate}
 use Rattle.v1_sem.specs.Frames.{Request}
 use Rattle.v1_frames.specs.declared.layout.HeaderSlots.{HeaderSlots}
 use Rattle.v1_frames.specs.declared.requests.Requests.{Requests}
-use Rattle.v1_frames.specs.Layouts.{Layout}
-use Rattle.v1_frames.specs.Cells.{Cells}
+use Rattle.v1_frames.specs.Layouts.{Layout, no_slots}
+use Rattle.v1_frames.specs.Cells.{Cells, is_live, AreWhole}
 
 abbrev pub layout_with : List ℕ → List (Option ℕ) → List HeaderSlots → List ℕ → Layout
 layout_with widths owners headers sizes =
@@ -43,8 +43,25 @@ pub record AreWithin (count : ℕ) (s : HeaderSlots) : Type 0 where
   pub order : s.from ≤ s.to
   pub within : s.to ≤ count
 
--- no slot has more than 128 bits, and each has an owner or none
+-- a slot is among those of a header that is there
+pub record IsOwned (headers : List HeaderSlots) (slot header : ℕ) : Type 0 where
+  pub there : header < length headers
+  pub from : (slice_index_or headers header no_slots).from ≤ slot
+  pub to : slot < (slice_index_or headers header no_slots).to
+
+abbrev pub AreOwned : List (Option ℕ) → List HeaderSlots → Type 0
+AreOwned owners headers =
+    (slot header : ℕ) → slice_index_or owners slot None ≡ Some header → IsOwned headers slot header
+
+-- no slot has more than 128 bits, and what is a field of a header is among its slots; after want of memory, owners may lack
 pub record AreParts (widths : List ℕ) (owners : List (Option ℕ)) (headers : List HeaderSlots) : Type 0 where
   pub narrow : All (λ width. width ≤ 128) widths
-  pub owned : length widths ≤ length owners
   pub slots : All (AreWithin (length widths)) headers
+  pub owned : AreOwned owners headers
+
+-- what is kept in a frame: the number of a slot that is a field of an invalid header is 0, so that it is read as it stands
+pub record AreKept (c : Cells) : Type 0 where
+  pub whole : AreWhole c
+  pub owners : length c.layout.owners ≡ length c.layout.widths
+  pub owned : AreOwned c.layout.owners c.layout.headers
+  pub quiet : (slot : ℕ) → is_live c slot ≡ false → slice_index c.numbers slot ≡ 0

@@ -1,0 +1,13 @@
+use Rattle.std.proofs.Common.{◌++◌, ◌∷◌, []}
+use Rattle.v1_frames.proofs.Frames.{parts_wider, parts_lone, narrow_one}
+use Rattle.v1_frames.proofs.layout.FrameLayout.add_number.Goals as goal
+
+pub invariant_of-self-in_err-push-2 : goal.invariant_of-self-in_err-push-2
+invariant_of-self-in_err-push-2 c =
+    rw (c.in_ok-push.ensures.items, c.in_err-push-2.ensures.items)
+    (parts_wider c.self.inside.widths.items (c.args.width ∷ []) c.self.inside.owners.items c.self.inside.headers.items c.self.invariant (narrow_one c.args.width c.requires))
+
+pub invariant_of-self-2 : goal.invariant_of-self-2
+invariant_of-self-2 c =
+    rw (c.in_ok-push.ensures.items, c.in_ok-push-2.ensures.items)
+    (parts_lone (c.self.inside.widths.items ++ c.args.width ∷ []) c.self.inside.owners.items c.self.inside.headers.items (parts_wider c.self.inside.widths.items (c.args.width ∷ []) c.self.inside.owners.items c.self.inside.headers.items c.self.invariant (narrow_one c.args.width c.requires)))
