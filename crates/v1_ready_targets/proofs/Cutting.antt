@@ -19,5 +19,11 @@ small_power w h = let p : 2 ^ w ≤ 2 ^ 127 = pow_mono {j = 127} (omega arith) i
 pub masked : (n w : ℕ) → w < 128 → bit_and n ((1 * 2 ^ w) % 2 ^ 128 - 1) ≡ n % 2 ^ w
 masked n w h = rw small_power (and_mask n w)
 
+small_word : (w : ℕ) → w < 64 → (1 * 2 ^ w) % 2 ^ 64 ≡ 2 ^ w
+small_word w h = let p : 2 ^ w ≤ 2 ^ 63 = pow_mono {j = 63} (omega arith) in omega arith
+
+pub masked_word : (n w : ℕ) → w < 64 → bit_and n ((1 * 2 ^ w) % 2 ^ 64 - 1) ≡ n % 2 ^ w
+masked_word n w h = rw small_word (and_mask n w)
+
 pub three : (a b c : ℕ) → ((a + b % 2 ^ 128) % 2 ^ 128 + c) % 2 ^ 128 ≡ (a + b + c) % 2 ^ 128
 three a b c = omega arith

@@ -1,5 +1,5 @@
 -- Numbers that gather in one.
-use Rattle.std.proofs.Common.{◌≡◌, ℕ, ◌+◌, ◌*◌, ◌^◌, ◌<◌, Bool, List, [], ◌++◌, refl, sym, ap, ◌∙◌, append_assoc}
+use Rattle.std.proofs.Common.{◌≡◌, ℕ, ◌+◌, ◌*◌, ◌^◌, ◌<◌, ◌≤◌, Bool, List, [], ◌++◌, refl, sym, ap, ◌∙◌, arith, append_assoc, append-nil}
 use Rattle.p4x_bits.specs.BitLists.{bits}
 use Rattle.p4x_bits.proofs.BitLists.{bits-append}
 
@@ -13,3 +13,9 @@ with_room others now w v a b n same below is =
     ∙ ap (λ k. others ++ bits (w + v) k) is
     ∙ ap (λ l. others ++ l) (sym (bits-append w v a b below))
     ∙ sym (append_assoc others (bits w a) (bits v b))
+
+-- where there are no bits, nothing comes behind others
+pub none_behind : (others more : List Bool) (w n : ℕ) → w ≤ 0 → bits w n ≡ more → others ≡ others ++ more
+none_behind others more w n none is =
+    let zero_wide : w ≡ 0 = omega (arith, none) in
+    sym (ap (λ l. others ++ l) (sym is ∙ ap (λ k. bits k n) zero_wide ∙ no_bits n) ∙ append-nil others)

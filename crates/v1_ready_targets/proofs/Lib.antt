@@ -2,3 +2,4 @@ mod Cutting
 mod Turns
 mod Packing
 mod Joining
+mod Windows

@@ -1,2 +1,3 @@
 -- What calls ask of the parts of a frame.
 pub mod Parts
+pub mod Windows

@@ -56,10 +56,13 @@ impl BitBuffer {
     }
 
     /// Puts these bits behind others. The one error is want of memory.
+    #[tactic(auto, using(crate::proofs::Joining::none_behind))]
     pub fn flush(&self, others: &mut Bits) -> Result<(), OutOfMemory>
         ensures { OnOk result (others.new ≡ others.old ++ self.now) }
     {
-        others.push_number(self.width, self.number)?;
+        if self.width > 0 {
+            others.push_number(self.width, self.number)?;
+        }
         Ok(())
     }
 }

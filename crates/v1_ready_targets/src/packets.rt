@@ -1,9 +1,10 @@
 // Headers that are extracted and emitted (`core.p4`, `packet_in.extract` and `packet_out.emit`).
-ghost use Rattle.std.specs.Prelude.{◌≡◌, ◌+◌, ◌*◌, ◌^◌, ◌++◌, ◌<◌, ◌≤◌, true, false, min, nat_lt, length, MatchOption, OnOk};
-ghost use Rattle.p4x_bits.specs.BitLists.{octet_bits};
+ghost use Rattle.std.specs.Prelude.{◌≡◌, ◌+◌, ◌*◌, ◌^◌, ◌%◌, ◌++◌, ◌<◌, ◌≤◌, true, false, min, nat_lt, length, take, drop, MatchOption, OnOk};
+ghost use Rattle.p4x_bits.specs.BitLists.{num, octet_bits};
 ghost use Rattle.v1_ready_blocks.specs.Packets.{element_bits, filled, header_bits, moved_on, slot_bits, total_width};
 ghost use Rattle.v1_ready_blocks.specs.Nodes.{IsRange, IsRangePlace};
 ghost use Rattle.v1_ready_targets.specs.Parts.{HasExtracted, IsHeader};
+ghost use Rattle.v1_ready_targets.specs.Windows.{Holds};
 
 use crate::buffers::BitBuffer;
 use crate::stacks::element_of;
@@ -27,8 +28,63 @@ fn total_width(frame: &Frame<'_>, count: u32, slot: u32) -> u64
     total
 }
 
+/// Bits that were read ahead: the last so many of a word.
+#[derive(Drop)]
+struct Window {
+    word: u64,
+    held: u8,
+}
+
+/// The number of the last bits of a word, so many.
+#[tactic(auto, using(crate::proofs::Cutting::masked_word))]
+fn last_bits(word: u64, width: u8) -> u64
+    requires { width < 64 }
+    ensures { result ≡ word % 2 ^ width }
+{
+    word & ((1 << width) - 1)
+}
+
+/// Where a window doesn't hold as many bits as a field has, it holds those up to the end of eight octets, if so many are there.
+#[tactic(auto, using(crate::proofs::Windows::fits_word, crate::proofs::Windows::holds_read))]
+fn look_ahead(window: &mut Window, octets: &[u8], at: usize, width: u8)
+    requires within { at ≤ 8 * length octets.now }
+    requires few { window.old.held < 64 }
+    requires holds { Holds window.old (drop at (octet_bits octets.now)) }
+    ensures holds { Holds window.new (drop at (octet_bits octets.now)) }
+    ensures room { window.new.held < 64 + width }
+{
+    if width <= window.held || octets.len() - at / 8 < 8 {
+        return;
+    }
+    let count = 64 - (at % 8) as u8;
+    window.word = read_octet_field(octets, at, count) as u64;
+    window.held = count;
+}
+
+/// The number of the field of so many bits at a place in octets; what it had to read further it keeps in a window.
+#[tactic(auto, using(crate::proofs::Windows::field_held, crate::proofs::Windows::holds_rest, crate::proofs::Windows::holds_none))]
+fn read_ahead(window: &mut Window, octets: &[u8], at: usize, width: u8) -> u128
+    requires width { width ≤ 128 }
+    requires within { at + width ≤ 8 * length octets.now }
+    requires few { window.old.held < 64 }
+    requires holds { Holds window.old (drop at (octet_bits octets.now)) }
+    ensures is { result ≡ num (take width (drop at (octet_bits octets.now))) }
+    ensures few { window.new.held < 64 }
+    ensures holds { Holds window.new (drop (at + width) (octet_bits octets.now)) }
+{
+    if width < 57 {
+        look_ahead(window, octets, at, width);
+        if width <= window.held {
+            window.held -= width;
+            return u128::from(last_bits(window.word >> window.held, width));
+        }
+    }
+    window.held = 0;
+    read_octet_field(octets, at, width)
+}
+
 /// So many slots get the numbers that lie one after another in octets.
-#[tactic(auto, using(crate::proofs::Packing::fill_width, crate::proofs::Packing::fill_fits, crate::proofs::Packing::fill_ends))]
+#[tactic(auto, using(crate::proofs::Windows::ahead_width, crate::proofs::Windows::ahead_few, crate::proofs::Windows::ahead_holds, crate::proofs::Windows::ahead_ends, crate::proofs::Packing::fill_fits))]
 fn fill(frame: &mut Frame<'_>, octets: &[u8], count: u32, slot: u32)
     requires slots { slot + count ≤ length frame.old.layout.widths }
     requires narrow { slot + count < 2 ^ 32 }
@@ -36,10 +92,11 @@ fn fill(frame: &mut Frame<'_>, octets: &[u8], count: u32, slot: u32)
     ensures is { frame.new ≡ filled count slot (octet_bits octets.now) frame.old }
     ensures layout { frame.new.layout ≡ frame.old.layout }
 {
+    let mut window = Window { word: 0, held: 0 };
     let mut at = 0usize;
     for i in 0..count {
         let width = frame.width(slot + i);
-        frame.set(slot + i, read_octet_field(octets, at, width));
+        frame.set(slot + i, read_ahead(&mut window, octets, at, width));
         at += usize::from(width);
     }
 }

@@ -1,17 +1,28 @@
 // Where single values are written, and places that the place of a stack tells (P4_16 1.2, "L-values", "Operations on header
 // stacks").
-ghost use Rattle.std.specs.Prelude.{◌≡◌, ◌+◌, ◌*◌, ◌^◌, ◌<◌, ◌≤◌, true, false, length, slice_index, IfSome, MatchOption};
+ghost use Rattle.std.specs.Prelude.{◌≡◌, ◌+◌, ◌*◌, ◌^◌, ◌<◌, ◌≤◌, true, false, length, slice_index, Some, IfSome, MatchOption};
 ghost use Rattle.v1_frames.specs.Cells.{stack_place, stack_size};
 ghost use Rattle.v1_ready_expressions.specs.Ready.{element_by, is_past};
 ghost use Rattle.v1_ready_expressions.specs.Nodes.{IsElement};
 ghost use Rattle.v1_ready_targets.specs.Parts.{IsHeader};
-ghost use Rattle.v1_ready_blocks.specs.Nodes.{IsHeaderPlace, IsRange, IsRangePlace, IsSlot, IsSliceOf, IsSlotPlace, IsTarget, IsToldRange};
+ghost use Rattle.v1_ready_blocks.specs.Nodes.{IsHeaderPlace, IsRange, IsRangePlace, IsSlice, IsSlot, IsSliceOf, IsSlotPlace, IsTarget, IsToldRange};
 ghost use Rattle.v1_ready_blocks.specs.Places.{element_range, put, put_at, range_at, slot_at, told_range, told_slot};
 
 use crate::numbers::{low, splice};
 use v1_frames::Frame;
 use v1_ready_blocks::{Range, RangePlace, Slice, SlotPlace, Target, ToldRange};
 use v1_ready_expressions::{Element, Which};
+
+/// Puts a number into a slice of a slot, cut to what is there; a field of an invalid header keeps its own.
+#[inline(never)]
+fn put_slice(frame: &mut Frame<'_>, slot: u32, slice: Slice, number: u128)
+    requires slot { IsSlot frame.old.layout slot }
+    requires slice { IsSlice slice }
+    ensures { frame.new ≡ put slot (Some slice) number frame.old }
+{
+    let old = frame.get(slot);
+    frame.set(slot, splice(frame.width(slot), slice, old, number));
+}
 
 /// Puts a number into a slot, or into a slice of it, cut to what is there; a field of an invalid header keeps its own.
 pub fn put(frame: &mut Frame<'_>, slot: u32, slice: Option<Slice>, number: u128)
@@ -20,10 +31,7 @@ pub fn put(frame: &mut Frame<'_>, slot: u32, slice: Option<Slice>, number: u128)
     ensures { frame.new ≡ put slot slice number frame.old }
 {
     match slice {
-        Some(slice) => {
-            let old = frame.get(slot);
-            frame.set(slot, splice(frame.width(slot), slice, old, number));
-        }
+        Some(slice) => put_slice(frame, slot, slice, number),
         None => frame.set(slot, low(number, frame.width(slot))),
     }
 }

@@ -1,6 +1,5 @@
-use Rattle.p4x_bits.specs.BitLists.{octet_bits}
-use Rattle.v1_ready_targets.proofs.Packing.{Filling}
+use Rattle.v1_ready_targets.proofs.Windows.{FillingAhead}
 use Rattle.v1_ready_targets.proofs.packets.fill.Given as goal
 
 abbrev pub invariant-loop-i : goal.invariant-loop-i
-invariant-loop-i l = Filling (octet_bits l.octets) l.count l.slot l.i l.at l.fn.frame l.frame
+invariant-loop-i l = FillingAhead l.octets l.window l.count l.slot l.i l.at l.fn.frame l.frame
