@@ -1,10 +1,10 @@
 // The values of ready expressions over a frame (P4_16 1.2, "Expressions").
-ghost use Rattle.std.specs.Prelude.{◌≡◌, ◌+◌, ◌*◌, ◌^◌, ◌<◌, ◌≤◌, true, false, length, slice_index, MatchOption, IfSome, IfOk};
+ghost use Rattle.std.specs.Prelude.{◌≡◌, ℕ, ◌+◌, ◌*◌, ◌^◌, ◌<◌, ◌≤◌, true, false, List, length, slice_index, MatchOption, IfSome, IfOk};
 ghost use Rattle.v1_sem.specs.Values.{a_truth};
 ghost use Rattle.v1_frames.specs.Cells.{header_valid, stack_place, stack_size};
 ghost use Rattle.v1_ready_expressions.specs.declared.node.Content.TheVariants as content;
 ghost use Rattle.v1_ready_expressions.specs.Scalars.{seen_scalar, FitsScalar};
-ghost use Rattle.v1_ready_expressions.specs.Ready.{bits_ahead, element_by, is_past, part_number, ready_value, value_in, within_stack};
+ghost use Rattle.v1_ready_expressions.specs.Ready.{bits_ahead, element_by, given, is_past, part_number, ready_value, value_in, within_stack};
 ghost use Rattle.v1_ready_expressions.specs.Ready as ready;
 ghost use Rattle.v1_ready_expressions.specs.Nodes.{IsElement, IsWidth, ready_at};
 ghost use Rattle.v1_ready_expressions.specs.Kept.{trees};
@@ -146,6 +146,41 @@ impl Expressions<'_> {
         }
     }
 
+    /// The value of the expression at a place, where it is seen to be a slot, a number or whether a header is valid; None tells
+    /// nothing.
+    fn leaf(&self, place: usize, frame: &Frame<'_>) -> Option<Scalar>
+        requires place { place < length self.now.nodes }
+        requires layout { frame.now.layout ≡ self.now.layout }
+        ensures is { (octets : List ℕ) → IfSome result (λ x. given (seen_scalar x) ≡ ready_value frame.now octets (ready_at (trees self.now) place)) }
+        ensures fits { IfSome result FitsScalar }
+    {
+        match self.node(place) {
+            Node::Slot(of, slot) => Some(slot_value(frame, of, slot)),
+            Node::Number(width, number) => Some(Scalar::Number(width, number)),
+            Node::Valid(header) => Some(Scalar::Truth(frame.valid(header))),
+            _ => None,
+        }
+    }
+
+    /// The same as `value`, for an operand that may be one of these.
+    #[cycle(value)]
+    fn operand(
+        &self,
+        place: usize,
+        frame: &Frame<'_>,
+        unparsed: &[u8],
+    ) -> Result<Scalar, ParserError>
+        requires place { place < length self.now.nodes }
+        requires layout { frame.now.layout ≡ self.now.layout }
+        ensures is { seen_end result ≡ ready_value frame.now unparsed.now (ready_at (trees self.now) place) }
+        ensures fits { IfOk result FitsScalar }
+    {
+        match self.leaf(place, frame) {
+            Some(found) => Ok(found),
+            None => self.value(place, frame, unparsed),
+        }
+    }
+
     /// The same, for an expression of any node.
     #[cycle(value)]
     #[inline(never)]
@@ -200,7 +235,7 @@ impl Expressions<'_> {
     {
         let left = self.value(a, frame, unparsed)?;
         if left.is_true() {
-            self.value(b, frame, unparsed)
+            self.operand(b, frame, unparsed)
         } else {
             Ok(left)
         }
@@ -247,8 +282,8 @@ impl Expressions<'_> {
         ensures is { seen_end result ≡ ready_value frame.now unparsed.now (ready.binary operator (ready_at (trees self.now) a) (ready_at (trees self.now) b)) }
         ensures fits { IfOk result FitsScalar }
     {
-        let left = self.value(a, frame, unparsed)?;
-        let right = self.value(b, frame, unparsed)?;
+        let left = self.operand(a, frame, unparsed)?;
+        let right = self.operand(b, frame, unparsed)?;
         Ok(binary(operator, left, right))
     }
 
