@@ -59,6 +59,16 @@ module _ (b : ReadyBlock) (at : Level) (ran : Option ℕ) (place : ℕ) (before 
       few = omega (arith, taken, so.few);
     }
 
+  pub first_there : (x y : ℕ) → place < count_of b → (x < place) × (y < place) → x < count_of b
+  first_there x y here are = omega (arith, here, are.0)
+
+  pub last_there : (x y : ℕ) → place < count_of b → (x < place) × (y < place) → y < count_of b
+  last_there x y here are = omega (arith, here, are.1)
+
+  -- one alone
+  pub opens_alone : (x y : ℕ) → place < count_of b → AreThere (count_of b) before → stands place ≡ sequence (stands x) (stands y) → (x < place) × (y < place) → stands x ≡ nothing → Opens b at ran place before y before
+  opens_alone x y here there tree are none = opens_last place x y before tree are (opens here there) none
+
   pub was_opened : (runs : ℕ → Moment → Applied) (first : ℕ) (mid after : List Task) (old now : Moment) → Opens b at ran place before first mid → Leads runs b (task.Run at first ran ∷ mid) after old now 0 → Leads runs b (task.Run at place ran ∷ before) after old now 0
   was_opened runs first mid after old now opened leads = record {
     over = leads.over;

@@ -38,7 +38,7 @@ fn first_within(
 
 /// The first statement of those at a place, where this action ran, if they are a list of cases; what stands behind it is to be done
 /// after it. The one error is want of memory.
-#[tactic(auto, using(crate::proofs::Opening::opens))]
+#[tactic(auto, using(crate::proofs::Opening::opens, crate::proofs::Opening::opens_alone, crate::proofs::Opening::first_there, crate::proofs::Opening::last_there))]
 pub fn first_of(
     block: &ReadyBlock<'_>,
     level: Level,
@@ -50,8 +50,13 @@ pub fn first_of(
     requires there { AreThere (count_of block.now) tasks.old }
     ensures { IfOk result (λ first. Opens block.now level ran place tasks.old first tasks.new) }
 {
-    if sequence_parts(&block.code, place).is_none() {
+    let Some((first, last)) = sequence_parts(&block.code, place) else {
         return Ok(place);
+    };
+    if is_nothing(&block.code, first) {
+        if sequence_parts(&block.code, last).is_none() {
+            return Ok(last);
+        }
     }
     first_within(block, level, place, ran, tasks)
 }
