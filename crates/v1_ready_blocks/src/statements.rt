@@ -89,6 +89,15 @@ impl<'l> Statements<'l> {
         self.nodes[place]
     }
 
+    /// The node at a place, lent.
+    pub fn node_at(&self, place: usize) -> &Node
+        requires { place < length self.now.nodes }
+        ensures tree { (es : List Ready) → at (trees es self.now.nodes) place ≡ tree_of es (trees es self.now.nodes) result.now }
+        ensures fits { IsNode self.now.ground place result.now }
+    {
+        &self.nodes[place]
+    }
+
     /// Whether a node of an expression may be put behind the others, where there are so many expressions.
     fn fits_test(&self, expressions: usize, node: TestNode) -> bool
         ensures { result ≡ true → IsTest expressions (length self.now.nodes) node }
