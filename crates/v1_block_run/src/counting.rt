@@ -113,54 +113,54 @@ fn switch<T: Tables>(
 fn begin_seldom<T: Tables>(
     block: &ReadyBlock<'_>,
     at: &AtLevel<'_, T>,
-    node: StatementNode,
+    node: &StatementNode,
     tasks: &mut Stack<Task>,
     frame: &mut Frame<'_>,
     store: &mut Store,
     unparsed: &[u8],
     run: &mut Run<'_>,
 ) -> Result<(), OutOfMemory>
-    requires seldom { is_often node ≡ false }
-    requires node { IsStatement (ground_of block.now.code).layout (ground_of block.now.code).shapes (count_of block.now) node }
+    requires seldom { is_often node.now ≡ false }
+    requires node { IsStatement (ground_of block.now.code).layout (ground_of block.now.code).shapes (count_of block.now) node.now }
     requires runnable { IsRunnable block.now }
     requires tables { T.base at.now.tables.now ≡ ground_of block.now.code }
     requires there { AreThere (count_of block.now) tasks.old }
     requires over { IsOver (ground_of block.now.code) (moment frame.old store.old unparsed.now run.old) }
     ensures { OnOk result (Leads (T.applies at.now.tables.now) block.now tasks.old tasks.new
-        (begun (world_at (T.applies at.now.tables.now) (seen_block block.now) at.now.level) (trees_of block.now.code) node (moment frame.old store.old unparsed.now run.old))
+        (begun (world_at (T.applies at.now.tables.now) (seen_block block.now) at.now.level) (trees_of block.now.code) node.now (moment frame.old store.old unparsed.now run.old))
         (moment frame.new store.new unparsed.now run.new)
-        (steps (body_steps (seen_block block.now) (calls_at (seen_block block.now) at.now.level)) (statement_of (trees_of block.now.code) node))) }
+        (steps (body_steps (seen_block block.now) (calls_at (seen_block block.now) at.now.level)) (statement_of (trees_of block.now.code) node.now))) }
 {
     let code = &block.code;
     match node {
         StatementNode::AssignParts(to, a) => {
-            assign_parts(code, at, to, a, frame, store, unparsed, run)?;
+            assign_parts(code, at, *to, *a, frame, store, unparsed, run)?;
             Ok(())
         }
         StatementNode::SetValid(header, on) => {
-            set_header(at, header, on, frame, store, unparsed, run);
+            set_header(at, *header, *on, frame, store, unparsed, run);
             Ok(())
         }
         StatementNode::PushFront(stack, count) => {
-            push_elements(at, stack, count, frame, store, unparsed, run);
+            push_elements(at, *stack, *count, frame, store, unparsed, run);
             Ok(())
         }
         StatementNode::PopFront(stack, count) => {
-            pop_elements(at, stack, count, frame, store, unparsed, run);
+            pop_elements(at, *stack, *count, frame, store, unparsed, run);
             Ok(())
         }
         StatementNode::LetGo(a) => {
-            let_go(code, at, a, frame, store, unparsed, run)?;
+            let_go(code, at, *a, frame, store, unparsed, run)?;
             Ok(())
         }
         StatementNode::Call(action, apart, a, b) => {
             call(
-                block, at, action, apart, a, b, tasks, frame, store, unparsed, run,
+                block, at, *action, *apart, *a, *b, tasks, frame, store, unparsed, run,
             )?;
             Ok(())
         }
         StatementNode::Switch(table, a) => {
-            switch(block, at, table, a, tasks, frame, store, unparsed, run)?;
+            switch(block, at, *table, *a, tasks, frame, store, unparsed, run)?;
             Ok(())
         }
         _ => Ok(()),
@@ -173,47 +173,47 @@ fn begin_seldom<T: Tables>(
 pub fn begin<T: Tables>(
     block: &ReadyBlock<'_>,
     at: &AtLevel<'_, T>,
-    node: StatementNode,
+    node: &StatementNode,
     tasks: &mut Stack<Task>,
     frame: &mut Frame<'_>,
     store: &mut Store,
     unparsed: &[u8],
     run: &mut Run<'_>,
 ) -> Result<usize, OutOfMemory>
-    requires node { IsStatement (ground_of block.now.code).layout (ground_of block.now.code).shapes (count_of block.now) node }
+    requires node { IsStatement (ground_of block.now.code).layout (ground_of block.now.code).shapes (count_of block.now) node.now }
     requires runnable { IsRunnable block.now }
     requires tables { T.base at.now.tables.now ≡ ground_of block.now.code }
     requires there { AreThere (count_of block.now) tasks.old }
     requires over { IsOver (ground_of block.now.code) (moment frame.old store.old unparsed.now run.old) }
     ensures leads { IfOk result (λ taken. Leads (T.applies at.now.tables.now) block.now tasks.old tasks.new
-        (begun (world_at (T.applies at.now.tables.now) (seen_block block.now) at.now.level) (trees_of block.now.code) node (moment frame.old store.old unparsed.now run.old))
+        (begun (world_at (T.applies at.now.tables.now) (seen_block block.now) at.now.level) (trees_of block.now.code) node.now (moment frame.old store.old unparsed.now run.old))
         (moment frame.new store.new (drop taken unparsed.now) run.new)
-        (steps (body_steps (seen_block block.now) (calls_at (seen_block block.now) at.now.level)) (statement_of (trees_of block.now.code) node))) }
+        (steps (body_steps (seen_block block.now) (calls_at (seen_block block.now) at.now.level)) (statement_of (trees_of block.now.code) node.now))) }
     ensures within { IfOk result (λ taken. taken ≤ length unparsed.now) }
 {
     let code = &block.code;
     match node {
         StatementNode::Assign(to, slice, a) => {
-            assign(code, at, to, slice, a, frame, store, unparsed, run)?;
+            assign(code, at, *to, *slice, *a, frame, store, unparsed, run)?;
             Ok(0)
         }
         StatementNode::Extract(header) => {
-            Ok(extract_header(at, header, frame, store, unparsed, run))
+            Ok(extract_header(at, *header, frame, store, unparsed, run))
         }
         StatementNode::Emit(a) => {
-            emit_headers(code, at, a, frame, store, unparsed, run)?;
+            emit_headers(code, at, *a, frame, store, unparsed, run)?;
             Ok(0)
         }
         StatementNode::Execute(what, a) => {
-            call_extern(code, at, what, a, frame, store, unparsed, run)?;
+            call_extern(code, at, *what, *a, frame, store, unparsed, run)?;
             Ok(0)
         }
         StatementNode::Apply(table) => {
-            apply(at, table, frame, store, unparsed, run)?;
+            apply(at, *table, frame, store, unparsed, run)?;
             Ok(0)
         }
         StatementNode::Branch(c, a, b) => {
-            branch(block, at, c, a, b, tasks, frame, store, unparsed, run)?;
+            branch(block, at, *c, *a, *b, tasks, frame, store, unparsed, run)?;
             Ok(0)
         }
         _ => {

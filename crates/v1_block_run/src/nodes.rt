@@ -10,12 +10,12 @@ use v1_ready_steps::Code;
 
 /// The node of a statement; None where another one stands there.
 #[tactic(auto, using(crate::proofs::Reading::is_statement, crate::proofs::Reading::fits_statement))]
-pub fn statement_node(code: &Code<'_>, place: usize) -> Option<StatementNode>
+pub fn statement_node<'c>(code: &'c Code<'_>, place: usize) -> Option<&'c StatementNode>
     requires { place < length code.now.statements.nodes }
-    ensures tree { MatchOption result (statement_at (trees_of code.now) place ≡ nothing) (λ node. statement_at (trees_of code.now) place ≡ statement_of (trees_of code.now) node) }
-    ensures fits { IfSome result (IsStatement (ground_of code.now).layout (ground_of code.now).shapes (length code.now.statements.nodes)) }
+    ensures tree { MatchOption result (statement_at (trees_of code.now) place ≡ nothing) (λ node. statement_at (trees_of code.now) place ≡ statement_of (trees_of code.now) node.now) }
+    ensures fits { IfSome result (λ node. IsStatement (ground_of code.now).layout (ground_of code.now).shapes (length code.now.statements.nodes) node.now) }
 {
-    match code.statements.node(place) {
+    match code.statements.node_at(place) {
         Node::Statement(node) => Some(node),
         _ => None,
     }
@@ -27,7 +27,7 @@ pub fn is_nothing(code: &Code<'_>, place: usize) -> bool
     requires { place < length code.now.statements.nodes }
     ensures { result ≡ true → statement_at (trees_of code.now) place ≡ nothing }
 {
-    match code.statements.node(place) {
+    match code.statements.node_at(place) {
         Node::Statement(StatementNode::Nothing) => true,
         _ => false,
     }
@@ -40,16 +40,16 @@ pub fn sequence_parts(code: &Code<'_>, place: usize) -> Option<(usize, usize)>
     ensures tree { IfSome result (λ parts. statement_at (trees_of code.now) place ≡ sequence (statement_at (trees_of code.now) parts.0) (statement_at (trees_of code.now) parts.1)) }
     ensures before { IfSome result (λ parts. (parts.0 < place) × (parts.1 < place)) }
 {
-    match code.statements.node(place) {
-        Node::Statement(StatementNode::Sequence(first, last)) => Some((first, last)),
+    match code.statements.node_at(place) {
+        Node::Statement(StatementNode::Sequence(first, last)) => Some((*first, *last)),
         _ => None,
     }
 }
 
 /// Whether a statement counts as one that begins to run: blocks, empty statements, cases, and variables without an initial value
 /// don't.
-pub fn is_counted(node: StatementNode) -> bool
-    ensures { result ≡ is_counted node }
+pub fn is_counted(node: &StatementNode) -> bool
+    ensures { result ≡ is_counted node.now }
 {
     match node {
         StatementNode::Nothing => false,

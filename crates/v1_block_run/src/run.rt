@@ -59,7 +59,7 @@ fn run_statement<T: Tables>(
         return Ok(0);
     };
     if !is_counted(node) {
-        arrange(block, at, node, ran, tasks, frame, store, unparsed, run)?;
+        arrange(block, at, *node, ran, tasks, frame, store, unparsed, run)?;
         return Ok(0);
     }
     if is_stopped(run) {
