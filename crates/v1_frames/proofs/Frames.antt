@@ -12,8 +12,8 @@ use Rattle.v1_sem.specs.Numbers.{is_same_truth}
 use Rattle.v1_frames.specs.declared.layout.HeaderSlots.{HeaderSlots}
 use Rattle.v1_frames.specs.declared.requests.Requests.{Requests}
 use Rattle.v1_frames.specs.Layouts.{Layout, no_slots}
-use Rattle.v1_frames.specs.Cells.{Cells, owner_valid, is_live, slot_value, with_slot, request_of, AreWhole}
-use Rattle.v1_frames.specs.internal.Parts.{cells_with, request_in, AreWithin, AreOwned, IsOwned, AreParts, AreKept}
+use Rattle.v1_frames.specs.Cells.{Cells, owner_valid, is_live, slot_value, with_slot, header_slots, cleared_numbers, with_validity, request_of, AreWhole}
+use Rattle.v1_frames.specs.internal.Parts.{cells_with, request_in, AreWithin, AreOwned, AreFields, IsOwned, AreParts, AreKept}
 
 -- what is past the last mark is none
 pub past_marks : (marks : List Bool) (i : ℕ) → length marks ≤ i → false ≡ get_or marks i false
@@ -56,11 +56,13 @@ whole_first layout n m k numbers valids places requests events zeros marks none 
   within = λ stack. rw (none, zero_at k stack) (omega arith);
 }
 
-pub kept_first : (layout : Layout) (n m k : ℕ) (numbers : List ℕ) (valids : List Bool) (places : List ℕ) (requests : Requests) (events : List Event) → length layout.owners ≡ length layout.widths → AreOwned layout.owners layout.headers → numbers ≡ replicate n 0 → valids ≡ replicate m false → places ≡ replicate k 0 → n ≡ length layout.widths → m ≡ length layout.headers → k ≡ length layout.sizes → AreKept (cells_with layout numbers valids places requests events)
-kept_first layout n m k numbers valids places requests events owners owned zeros marks none slots headers stacks = record {
+pub kept_first : (layout : Layout) (n m k : ℕ) (numbers : List ℕ) (valids : List Bool) (places : List ℕ) (requests : Requests) (events : List Event) → length layout.owners ≡ length layout.widths → All (AreWithin (length layout.widths)) layout.headers → AreOwned layout.owners layout.headers → AreFields layout.owners layout.headers → numbers ≡ replicate n 0 → valids ≡ replicate m false → places ≡ replicate k 0 → n ≡ length layout.widths → m ≡ length layout.headers → k ≡ length layout.sizes → AreKept (cells_with layout numbers valids places requests events)
+kept_first layout n m k numbers valids places requests events owners within owned fields zeros marks none slots headers stacks = record {
   whole = whole_first layout n m k numbers valids places requests events zeros marks none slots headers stacks;
   owners = owners;
+  slots = within;
   owned = owned;
+  fields = fields;
   quiet = λ slot off. rw zeros (zero_at n slot);
 }
 
@@ -75,7 +77,9 @@ kept_put layout numbers new valids places requests events slot n kept live fits 
     within = kept.whole.within;
   };
   owners = kept.owners;
+  slots = kept.slots;
   owned = kept.owned;
+  fields = kept.fields;
   quiet = λ i off. rw put (is_zero i off (eqb i slot) refl);
 } where
   in_width : (i : ℕ) → i < length layout.widths → (b : Bool) → eqb i slot ≡ b → get_or (set numbers slot n) i 0 < 2 ^ get_or layout.widths i 0
@@ -158,7 +162,9 @@ pub kept_cleared : (layout : Layout) (numbers new : List ℕ) (valids : List Boo
 kept_cleared layout numbers new valids places requests events header on slots kept is within many clears less = record {
   whole = whole_less layout numbers new valids places requests events header on kept.whole many less;
   owners = kept.owners;
+  slots = kept.slots;
   owned = kept.owned;
+  fields = kept.fields;
   quiet = λ i off. by i (get_or layout.owners i None) refl off;
 } where
   same_header : (i h : ℕ) → get_or layout.owners i None ≡ Some h → h ≡ header → get_or new i 0 ≡ 0
@@ -192,6 +198,7 @@ parts_wider widths more owners headers parts narrow = record {
   narrow = All-append (λ width. width ≤ 128) widths more parts.narrow narrow;
   slots = within_more (length widths) (length (widths ++ more)) headers (omega (arith, length-append widths more)) parts.slots;
   owned = parts.owned;
+  fields = parts.fields;
 }
 
 pub narrow_one : (width : ℕ) → width ≤ 128 → All (λ width. width ≤ 128) (width ∷ [])
@@ -199,20 +206,30 @@ narrow_one width le zero d lt = le
 narrow_one width le (suc k) d lt = absurd (omega (arith, lt))
 
 -- one that is no field of a header
-pub parts_lone : (widths : List ℕ) (owners : List (Option ℕ)) (headers : List HeaderSlots) → AreParts widths owners headers → AreParts widths (owners ++ None ∷ []) headers
-parts_lone widths owners headers parts = record {
-  narrow = parts.narrow;
-  slots = parts.slots;
-  owned = λ slot h e. by slot h e (ltb slot (length owners)) refl;
-} where
-  by : (slot h : ℕ) → get_or (owners ++ None ∷ []) slot None ≡ Some h → (b : Bool) → ltb slot (length owners) ≡ b → IsOwned headers slot h
-  by slot h e true q = parts.owned slot h (sym (get_or_append_left owners (None ∷ []) None slot (ltb-true slot (length owners) q)) ∙ e)
-  by slot h e false q =
-      absurd (none (slot - length owners) (sym (get_or-append_right owners (None ∷ []) (length owners) slot None refl (ltb-false slot (length owners) q)) ∙ e))
-    where
-      none : (k : ℕ) → get_or (None ∷ []) k None ≡ Some h → ⊥
-      none zero w = cc w
-      none (suc k) w = cc w
+pub parts_lone : (widths : List ℕ) (width : ℕ) (owners : List (Option ℕ)) (headers : List HeaderSlots) → AreParts widths owners headers → width ≤ 128 → length owners ≡ length widths → AreParts (widths ++ width ∷ []) (owners ++ None ∷ []) headers
+parts_lone widths width owners headers parts narrow level =
+    let wider = parts_wider widths (width ∷ []) owners headers parts (narrow_one width narrow) in
+    record {
+      narrow = wider.narrow;
+      slots = wider.slots;
+      owned = λ slot h e. by slot h e (ltb slot (length owners)) refl;
+      fields = λ slot h there from to lt. field slot h there from to (ltb slot (length owners)) refl;
+    }
+  where
+    by : (slot h : ℕ) → get_or (owners ++ None ∷ []) slot None ≡ Some h → (b : Bool) → ltb slot (length owners) ≡ b → IsOwned headers slot h
+    by slot h e true q = parts.owned slot h (sym (get_or_append_left owners (None ∷ []) None slot (ltb-true slot (length owners) q)) ∙ e)
+    by slot h e false q =
+        absurd (none (slot - length owners) (sym (get_or-append_right owners (None ∷ []) (length owners) slot None refl (ltb-false slot (length owners) q)) ∙ e))
+      where
+        none : (k : ℕ) → get_or (None ∷ []) k None ≡ Some h → ⊥
+        none zero w = cc w
+        none (suc k) w = cc w
+
+    field : (slot h : ℕ) → h < length headers → (get_or headers h no_slots).from ≤ slot → slot < (get_or headers h no_slots).to → (b : Bool) → ltb slot (length owners) ≡ b → get_or (owners ++ None ∷ []) slot None ≡ Some h
+    field slot h there from to true q =
+        let lt : slot < length owners = ltb-true slot (length owners) q in
+        get_or_append_left owners (None ∷ []) None slot lt ∙ parts.fields slot h there from to lt
+    field slot h there from to false q = absurd (omega (arith, to, (parts.slots h no_slots there).within, level, ltb-false slot (length owners) q))
 
 owned_more : (owners : List (Option ℕ)) (headers : List HeaderSlots) (x : HeaderSlots) → AreOwned owners headers → AreOwned owners (headers ++ x ∷ [])
 owned_more owners headers x owned = λ slot h e.
@@ -224,20 +241,37 @@ owned_more owners headers x owned = λ slot h e.
       to = subst (λ (s : HeaderSlots). slot < s.to) (sym same) o.to;
     }
 
+last_header : (headers : List HeaderSlots) (x : HeaderSlots) → get_or (headers ++ x ∷ []) (length headers) no_slots ≡ x
+last_header headers x =
+    let first : length headers - length headers ≡ 0 = omega arith in
+    get_or-append_right headers (x ∷ []) (length headers) (length headers) no_slots refl (omega arith) ∙ ap (λ (k : ℕ). get_or (x ∷ []) k no_slots) first
+
 -- a header with the slots behind the others
-pub parts_with_header : (widths more : List ℕ) (owners : List (Option ℕ)) (headers : List HeaderSlots) (x : HeaderSlots) → AreParts widths owners headers → All (λ width. width ≤ 128) more → x.from ≡ length widths → x.to ≡ length widths + length more → AreParts (widths ++ more) owners (headers ++ x ∷ [])
-parts_with_header widths more owners headers x parts narrow from to =
+pub parts_with_header : (widths more : List ℕ) (owners : List (Option ℕ)) (headers : List HeaderSlots) (x : HeaderSlots) → AreParts widths owners headers → All (λ width. width ≤ 128) more → length owners ≡ length widths → x.from ≡ length widths → x.to ≡ length widths + length more → AreParts (widths ++ more) owners (headers ++ x ∷ [])
+parts_with_header widths more owners headers x parts narrow level from to =
     let wider = parts_wider widths more owners headers parts narrow in
     let one : AreWithin (length (widths ++ more)) x = record { order = omega (arith, from, to); within = omega (arith, to, length-append widths more) } in
     record {
       narrow = wider.narrow;
       slots = All-append (AreWithin (length (widths ++ more))) headers (x ∷ []) wider.slots (all_one x one);
       owned = owned_more owners headers x parts.owned;
+      fields = λ slot h there low high lt. field slot h there low high lt (ltb h (length headers)) refl;
     }
   where
     all_one : (y : HeaderSlots) → AreWithin (length (widths ++ more)) y → All (AreWithin (length (widths ++ more))) (y ∷ [])
     all_one y is zero d lt = is
     all_one y is (suc k) d lt = absurd (omega (arith, lt))
+
+    field : (slot h : ℕ) → h < length (headers ++ x ∷ []) → (get_or (headers ++ x ∷ []) h no_slots).from ≤ slot → slot < (get_or (headers ++ x ∷ []) h no_slots).to → slot < length owners → (b : Bool) → ltb h (length headers) ≡ b → get_or owners slot None ≡ Some h
+    field slot h there low high lt true q =
+        let old : h < length headers = ltb-true h (length headers) q in
+        let same : get_or (headers ++ x ∷ []) h no_slots ≡ get_or headers h no_slots = get_or_append_left headers (x ∷ []) no_slots h old in
+        parts.fields slot h old (subst (λ (s : HeaderSlots). s.from ≤ slot) same low) (subst (λ (s : HeaderSlots). slot < s.to) same high) lt
+    field slot h there low high lt false q =
+        let new : h ≡ length headers = omega (arith, there, length-append headers (x ∷ []), ltb-false h (length headers) q) in
+        let its : get_or (headers ++ x ∷ []) h no_slots ≡ x = ap (λ (k : ℕ). get_or (headers ++ x ∷ []) k no_slots) new ∙ last_header headers x in
+        let begins : x.from ≤ slot = subst (λ (s : HeaderSlots). s.from ≤ slot) its low in
+        absurd (omega (arith, begins, from, level, lt))
 
 number_of : Option ℕ → ℕ
 number_of None = 0
@@ -246,17 +280,36 @@ number_of (Some n) = n
 -- and these are its fields
 pub parts_all : (widths more : List ℕ) (owners : List (Option ℕ)) (headers : List HeaderSlots) (x : HeaderSlots) (header n : ℕ) → AreParts widths owners headers → All (λ width. width ≤ 128) more → x.from ≡ length widths → x.to ≡ length widths + length more → length owners ≡ length widths → header ≡ length headers → n ≡ length more → AreParts (widths ++ more) (owners ++ replicate n (Some header)) (headers ++ x ∷ [])
 parts_all widths more owners headers x header n parts narrow from to long is count =
-    let before = parts_with_header widths more owners headers x parts narrow from to in
-    record { narrow = before.narrow; slots = before.slots; owned = λ slot h e. by before.owned slot h e (ltb slot (length owners)) refl }
+    let before = parts_with_header widths more owners headers x parts narrow long from to in
+    record {
+      narrow = before.narrow;
+      slots = before.slots;
+      owned = λ slot h e. by before.owned slot h e (ltb slot (length owners)) refl;
+      fields = λ slot h there low high lt. field before.fields slot h there low high lt (ltb slot (length owners)) refl;
+    }
   where
-    last : get_or (headers ++ x ∷ []) (length headers) no_slots ≡ x
-    last =
-        let first : length headers - length headers ≡ 0 = omega arith in
-        get_or-append_right headers (x ∷ []) (length headers) (length headers) no_slots refl (omega arith) ∙ ap (λ (k : ℕ). get_or (x ∷ []) k no_slots) first
+    field : AreFields owners (headers ++ x ∷ []) → (slot h : ℕ) → h < length (headers ++ x ∷ []) → (get_or (headers ++ x ∷ []) h no_slots).from ≤ slot → slot < (get_or (headers ++ x ∷ []) h no_slots).to → slot < length (owners ++ replicate n (Some header)) → (b : Bool) → ltb slot (length owners) ≡ b → get_or (owners ++ replicate n (Some header)) slot None ≡ Some h
+    field fields slot h there low high lt true q =
+        let old : slot < length owners = ltb-true slot (length owners) q in
+        get_or_append_left owners (replicate n (Some header)) None slot old ∙ fields slot h there low high old
+    field fields slot h there low high lt false q =
+        let le : length owners ≤ slot = ltb-false slot (length owners) q in
+        let few : slot - length owners < n = omega (arith, lt, le, length-append owners (replicate n (Some header)), length-replicate {A = Option ℕ} n (Some header)) in
+        get_or-append_right owners (replicate n (Some header)) (length owners) slot None refl le
+        ∙ get_or-replicate n (slot - length owners) (Some header) None few
+        ∙ ap Some (is ∙ sym (its slot h there high le (ltb h (length headers)) refl))
+      where
+        its : (slot h : ℕ) → h < length (headers ++ x ∷ []) → slot < (get_or (headers ++ x ∷ []) h no_slots).to → length owners ≤ slot → (b : Bool) → ltb h (length headers) ≡ b → h ≡ length headers
+        its slot h there high le true q =
+            let old : h < length headers = ltb-true h (length headers) q in
+            let same : get_or (headers ++ x ∷ []) h no_slots ≡ get_or headers h no_slots = get_or_append_left headers (x ∷ []) no_slots h old in
+            let ends : slot < (get_or headers h no_slots).to = subst (λ (s : HeaderSlots). slot < s.to) same high in
+            absurd (omega (arith, ends, (parts.slots h no_slots old).within, long, le))
+        its slot h there high le false q = omega (arith, there, length-append headers (x ∷ []), ltb-false h (length headers) q)
 
     within : (slot h : ℕ) → length owners ≤ slot → slot - length owners < n → header ≡ h → IsOwned (headers ++ x ∷ []) slot h
     within slot h le lt same =
-        let its : get_or (headers ++ x ∷ []) h no_slots ≡ x = ap (λ (k : ℕ). get_or (headers ++ x ∷ []) k no_slots) (sym same ∙ is) ∙ last in
+        let its : get_or (headers ++ x ∷ []) h no_slots ≡ x = ap (λ (k : ℕ). get_or (headers ++ x ∷ []) k no_slots) (sym same ∙ is) ∙ last_header headers x in
         record {
           there = omega (arith, same, is, length-append headers (x ∷ []));
           from = subst (λ (s : HeaderSlots). s.from ≤ slot) (sym its) (omega (arith, from, long, le));
@@ -288,14 +341,78 @@ owners_more owners new to k n owner is long count =
 
 -- marks
 
--- a mark that is put again changes nothing
-pub same_mark : (marks : List Bool) (i : ℕ) (on : Bool) → is_same_truth (get_or marks i false) on ≡ true → set marks i on ≡ marks
-same_mark marks i on same = ap (λ (b : Bool). set marks i b) (sym (one (get_or marks i false) on same)) ∙ set-get_or marks i false where
-  one : (a b : Bool) → is_same_truth a b ≡ true → a ≡ b
-  one true true e = refl
-  one false false e = refl
-  one true false e = absurd (cc e)
-  one false true e = absurd (cc e)
+-- a header that becomes valid: its fields are 0 already
+
+none_cleared : (xs : List ℕ) (from n : ℕ) → from + n ≤ length xs → ((i : ℕ) → from ≤ i → i < from + n → get_or xs i 0 ≡ 0) → xs ≡ cleared from (from + n) xs
+none_cleared xs from zero le zeros =
+    let e : from ≡ from + 0 = omega arith in
+    nothing_cleared from xs ∙ ap (λ (k : ℕ). cleared from k xs) e
+none_cleared xs from (suc n) le zeros =
+    let before = none_cleared xs from n (omega arith) (λ i low high. zeros i low (omega (arith, high))) in
+    let here : get_or xs (from + n) 0 ≡ 0 = zeros (from + n) (omega arith) (omega arith) in
+    let put : xs ≡ set xs (from + n) 0 = sym (set-get_or xs (from + n) 0) ∙ ap (λ (v : ℕ). set xs (from + n) v) here in
+    let e : from + n + 1 ≡ from + suc n = omega arith in
+    one_cleared_more xs xs xs from (from + n) (omega arith) (omega arith) before put ∙ ap (λ (k : ℕ). cleared from k xs) e
+
+fields_quiet : (c : Cells) (header : ℕ) → AreKept c → header < length c.layout.headers → get_or c.valids header false ≡ false → c.numbers ≡ cleared (get_or c.layout.headers header no_slots).from (get_or c.layout.headers header no_slots).to c.numbers
+fields_quiet c header kept there off =
+    let s = get_or c.layout.headers header no_slots in
+    let within = kept.slots header no_slots there in
+    let e : s.from + (s.to - s.from) ≡ s.to = omega (arith, within.order) in
+    none_cleared c.numbers s.from (s.to - s.from) (omega (arith, e, within.within, kept.whole.numbers)) (λ i low high. kept.quiet i (ap (owner_valid c.valids) (kept.fields i header there low (omega (arith, high, e)) (omega (arith, high, e, within.within, kept.owners))) ∙ off))
+    ∙ ap (λ (k : ℕ). cleared s.from k c.numbers) e
+
+pub turned_on : (seen old new : Cells) (header : ℕ) → seen ≡ old → AreKept seen → header < length seen.layout.headers → new ≡ record seen { valids = set seen.valids header true } → new ≡ with_validity old header true
+turned_on seen old new header view kept there is = is ∙ by (get_or seen.valids header false) refl ∙ ap (λ (c : Cells). with_validity c header true) view where
+  by : (b : Bool) → get_or seen.valids header false ≡ b → record seen { valids = set seen.valids header true } ≡ with_validity seen header true
+  by true e = ap (λ (b : Bool). record seen { numbers = cond (is_same_truth b true) seen.numbers (cleared_numbers (header_slots seen header) seen.numbers); valids = set seen.valids header true }) (sym e)
+  by false e =
+      ap (λ (l : List ℕ). record seen { numbers = l; valids = set seen.valids header true }) (fields_quiet seen header kept there e)
+      ∙ ap (λ (b : Bool). record seen { numbers = cond (is_same_truth b true) seen.numbers (cleared_numbers (header_slots seen header) seen.numbers); valids = set seen.valids header true }) (sym e)
+
+-- one that is invalid already stays as it is
+pub stays_off : (seen old : Cells) (header : ℕ) → seen ≡ old → get_or seen.valids header false ≡ false → seen ≡ with_validity old header false
+stays_off seen old header view e =
+    let same : seen.valids ≡ set seen.valids header false = sym (set-get_or seen.valids header false) ∙ ap (λ (b : Bool). set seen.valids header b) e in
+    ap (λ (l : List Bool). record seen { valids = l }) same
+    ∙ ap (λ (b : Bool). record seen { numbers = cond (is_same_truth b false) seen.numbers (cleared_numbers (header_slots seen header) seen.numbers); valids = set seen.valids header false }) (sym e)
+    ∙ ap (λ (c : Cells). with_validity c header false) view
+
+-- and one that becomes invalid
+pub turned_off : (seen old new : Cells) (header : ℕ) → seen ≡ old → get_or seen.valids header false ≡ true → new ≡ record seen { numbers = cleared_numbers (header_slots seen header) seen.numbers; valids = set seen.valids header false } → new ≡ with_validity old header false
+turned_off seen old new header view e is =
+    is
+    ∙ ap (λ (b : Bool). record seen { numbers = cond (is_same_truth b false) seen.numbers (cleared_numbers (header_slots seen header) seen.numbers); valids = set seen.valids header false }) (sym e)
+    ∙ ap (λ (c : Cells). with_validity c header false) view
+
+-- a mark that is put, where numbers stay
+pub kept_on : (layout : Layout) (numbers : List ℕ) (valids : List Bool) (places : List ℕ) (requests : Requests) (events : List Event) (header : ℕ) → AreKept (cells_with layout numbers valids places requests events) → AreKept (cells_with layout numbers (set valids header true) places requests events)
+kept_on layout numbers valids places requests events header kept = record {
+  whole = record {
+    numbers = kept.whole.numbers;
+    valids = length-set valids header true ∙ kept.whole.valids;
+    places = kept.whole.places;
+    fits = kept.whole.fits;
+    within = kept.whole.within;
+  };
+  owners = kept.owners;
+  slots = kept.slots;
+  owned = kept.owned;
+  fields = kept.fields;
+  quiet = λ i off. by i (get_or layout.owners i None) refl off;
+} where
+  still : (h : ℕ) → h < length valids → get_or (set valids header true) h false ≡ false → (b : Bool) → eqb h header ≡ b → get_or valids h false ≡ false
+  still h there off true q =
+      let same : h ≡ header = eqb-true h header q in
+      let on : get_or (set valids header true) header false ≡ true = get_or-set_same valids header true false (omega (arith, there, same)) in
+      absurd (cc (sym on ∙ ap (λ (k : ℕ). get_or (set valids header true) k false) (sym same) ∙ off))
+  still h there off false q = sym (get_or-set_other valids header h true false (eqb-false h header q)) ∙ off
+
+  by : (i : ℕ) (o : Option ℕ) → get_or layout.owners i None ≡ o → owner_valid (set valids header true) o ≡ false → get_or numbers i 0 ≡ 0
+  by i None e off = absurd (cc off)
+  by i (Some h) e off =
+      let there : h < length valids = omega (arith, (kept.owned i h e).there, kept.whole.valids) in
+      kept.quiet i (ap (owner_valid valids) e ∙ still h there off (eqb h header) refl)
 
 -- what is set is what is got
 

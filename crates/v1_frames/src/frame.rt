@@ -46,13 +46,6 @@ const NO_REQUESTS: Requests = Requests {
     recirculate: None,
 };
 
-/// Whether two truth values aren't one.
-fn differ(a: bool, b: bool) -> bool
-    ensures { result ≡ not (is_same_truth a b) }
-{
-    a != b
-}
-
 /// Whether the header of a slot is valid, where it has one; a number of no header counts as invalid.
 #[tactic(auto, using(crate::proofs::Frames::past_marks))]
 fn is_live(valids: &[bool], owner: Option<u32>) -> bool
@@ -219,14 +212,16 @@ impl<'l> Frame<'l> {
     }
 
     /// Makes a header valid or invalid. Where that changes its validity, its fields become 0, and else nothing changes.
-    #[tactic(auto, using(crate::proofs::Frames::same_mark))]
+    #[tactic(auto, using(crate::proofs::Frames::turned_on, crate::proofs::Frames::stays_off, crate::proofs::Frames::turned_off))]
     pub fn set_valid(&mut self, header: u32, on: bool)
         requires { header < length self.old.layout.headers }
         ensures { self.new ≡ with_validity self.old header on }
     {
-        if differ(self.valids[header as usize], on) {
+        if on {
+            self.valids[header as usize] = true;
+        } else if self.valids[header as usize] {
             clear(&mut self.numbers, self.layout.header(header));
-            self.valids[header as usize] = on;
+            self.valids[header as usize] = false;
         }
     }
 

@@ -1,7 +1,7 @@
 // The parts of a frame.
 ghost use Rattle.std.specs.Prelude.{◌≡◌, ◌<◌, ◌≤◌, true, length, slice_index, slice_index_or, All, OnOk, None};
 ghost use Rattle.v1_frames.specs.Layouts.{no_slots, no_parts, with_lone_slot, with_header_part, with_stack_part};
-ghost use Rattle.v1_frames.specs.internal.Parts.{AreOwned};
+ghost use Rattle.v1_frames.specs.internal.Parts.{AreFields, AreOwned, AreWithin};
 
 use name_numbers::narrow;
 use p4x_bits::OutOfMemory;
@@ -69,10 +69,12 @@ impl FrameLayout {
     }
 
     /// Whether it tells of each slot whether that is a field, as it does but after want of memory. A field of a header is among the
-    /// header's slots.
+    /// header's slots, and these are its fields.
     pub(crate) fn is_whole(&self) -> bool
         ensures owners { result ≡ true → length self.now.owners ≡ length self.now.widths }
+        ensures slots { All (AreWithin (length self.now.widths)) self.now.headers }
         ensures owned { AreOwned self.now.owners self.now.headers }
+        ensures fields { AreFields self.now.owners self.now.headers }
     {
         self.owners.len() == self.widths.len()
     }
@@ -117,11 +119,15 @@ impl FrameLayout {
         self.sizes.len()
     }
 
-    /// One slot more, of so many bits, which is no field of a header. The one error is want of memory.
+    /// One slot more, of so many bits, which is no field of a header. The one error is want of memory, which also an earlier one counts
+    /// as.
     pub fn add_number(&mut self, width: u8) -> Result<(), OutOfMemory>
         requires { width ≤ 128 }
         ensures { OnOk result (self.new ≡ with_lone_slot self.old width) }
     {
+        if self.owners.len() != self.widths.len() {
+            return Err(OutOfMemory);
+        }
         self.widths.push(width)?;
         self.owners.push(None)?;
         Ok(())

@@ -53,15 +53,23 @@ abbrev pub AreOwned : List (Option ℕ) → List HeaderSlots → Type 0
 AreOwned owners headers =
     (slot header : ℕ) → slice_index_or owners slot None ≡ Some header → IsOwned headers slot header
 
+-- and each slot of a header that tells its header tells this one
+abbrev pub AreFields : List (Option ℕ) → List HeaderSlots → Type 0
+AreFields owners headers =
+    (slot header : ℕ) → header < length headers → (slice_index_or headers header no_slots).from ≤ slot → slot < (slice_index_or headers header no_slots).to → slot < length owners → slice_index_or owners slot None ≡ Some header
+
 -- no slot has more than 128 bits, and what is a field of a header is among its slots; after want of memory, owners may lack
 pub record AreParts (widths : List ℕ) (owners : List (Option ℕ)) (headers : List HeaderSlots) : Type 0 where
   pub narrow : All (λ width. width ≤ 128) widths
   pub slots : All (AreWithin (length widths)) headers
   pub owned : AreOwned owners headers
+  pub fields : AreFields owners headers
 
 -- what is kept in a frame: the number of a slot that is a field of an invalid header is 0, so that it is read as it stands
 pub record AreKept (c : Cells) : Type 0 where
   pub whole : AreWhole c
   pub owners : length c.layout.owners ≡ length c.layout.widths
+  pub slots : All (AreWithin (length c.layout.widths)) c.layout.headers
   pub owned : AreOwned c.layout.owners c.layout.headers
+  pub fields : AreFields c.layout.owners c.layout.headers
   pub quiet : (slot : ℕ) → is_live c slot ≡ false → slice_index c.numbers slot ≡ 0

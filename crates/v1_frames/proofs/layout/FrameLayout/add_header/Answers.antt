@@ -12,8 +12,9 @@ pub invariant_of-self-in_err-resize : goal.invariant_of-self-in_err-resize
 invariant_of-self-in_err-resize c =
     let from : c.len-from.result ≡ length c.self.inside.widths.items = omega (arith, c.len-from.ensures, c.self.inside.widths.ok.0) in
     let to : c.len-to.result ≡ length c.self.inside.widths.items + length c.args.widths.now = omega (arith, c.len-to.ensures, c.in_ok-extend_from_slice.ensures.len, c.self.inside.widths.ok.0) in
+    let level : length c.self.inside.owners.items ≡ length c.self.inside.widths.items = omega (arith, c.len-2.ensures, c.if-len-from.false, from, c.self.inside.owners.ok.0) in
     rw (c.in_ok-extend_from_slice.ensures.items, c.in_err-resize.ensures.items, c.in_ok-push.ensures.items)
-    (parts_with_header c.self.inside.widths.items c.args.widths.now c.self.inside.owners.items c.self.inside.headers.items (record { from = c.len-from.result; to = c.len-to.result }) c.self.invariant c.requires from to)
+    (parts_with_header c.self.inside.widths.items c.args.widths.now c.self.inside.owners.items c.self.inside.headers.items (record { from = c.len-from.result; to = c.len-to.result }) c.self.invariant c.requires level from to)
 
 pub invariant_of-self-2 : goal.invariant_of-self-2
 invariant_of-self-2 c =
