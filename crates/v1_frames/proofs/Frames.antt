@@ -273,7 +273,7 @@ parts_with_header widths more owners headers x parts narrow level from to =
         let begins : x.from ≤ slot = subst (λ (s : HeaderSlots). s.from ≤ slot) its low in
         absurd (omega (arith, begins, from, level, lt))
 
-number_of : Option ℕ → ℕ
+abbrev number_of : Option ℕ → ℕ
 number_of None = 0
 number_of (Some n) = n
 

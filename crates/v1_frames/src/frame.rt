@@ -212,7 +212,7 @@ impl<'l> Frame<'l> {
     }
 
     /// Makes a header valid or invalid. Where that changes its validity, its fields become 0, and else nothing changes.
-    #[tactic(auto, using(crate::proofs::Frames::turned_on, crate::proofs::Frames::stays_off, crate::proofs::Frames::turned_off))]
+    #[tactic(auto, using(crate::proofs::Frames::turned_on, crate::proofs::Frames::stays_off, crate::proofs::Frames::turned_off, crate::proofs::Frames::kept_on))]
     pub fn set_valid(&mut self, header: u32, on: bool)
         requires { header < length self.old.layout.headers }
         ensures { self.new ≡ with_validity self.old header on }

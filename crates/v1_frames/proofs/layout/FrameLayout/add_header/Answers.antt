@@ -1,5 +1,4 @@
 use Rattle.std.proofs.Common.{◌≡◌, ◌++◌, ◌+◌, length, replicate, vec_len, Some, refl, arith}
-use Rattle.v1_frames.specs.declared.layout.HeaderSlots.{HeaderSlots}
 use Rattle.v1_frames.proofs.Frames.{parts_wider, parts_with_header, parts_all, owners_more}
 use Rattle.v1_frames.proofs.layout.FrameLayout.add_header.Goals as goal
 
