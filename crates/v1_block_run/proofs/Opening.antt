@@ -16,6 +16,13 @@ use Rattle.v1_block_run.specs.Steps.{Leads, Opens}
 pub nothing_came : (b : ReadyBlock) (w : World) (ran : Option ℕ) (s : Statement) (m : Moment) → s ≡ nothing → IsOver (ground_of b.code) m → Comes (ground_of b.code) (run w ran s m) m
 nothing_came b w ran s m none over = record { over = over; comes = ap (λ (t : Statement). run w ran t m) none }
 
+-- what a statement is made of is there
+pub first_there : (count place x y : ℕ) → place < count → (x < place) × (y < place) → x < count
+first_there count place x y here are = omega (arith, here, are.0)
+
+pub last_there : (count place x y : ℕ) → place < count → (x < place) × (y < place) → y < count
+last_there count place x y here are = omega (arith, here, are.1)
+
 module _ (b : ReadyBlock) (at : Level) (ran : Option ℕ) (place : ℕ) (before : List Task) where
   abbrev stands : ℕ → Statement
   stands x = statement_at (trees_of b.code) x
@@ -58,12 +65,6 @@ module _ (b : ReadyBlock) (at : Level) (ran : Option ℕ) (place : ℕ) (before 
           ∙ so.same runs m;
       few = omega (arith, taken, so.few);
     }
-
-  pub first_there : (x y : ℕ) → place < count_of b → (x < place) × (y < place) → x < count_of b
-  first_there x y here are = omega (arith, here, are.0)
-
-  pub last_there : (x y : ℕ) → place < count_of b → (x < place) × (y < place) → y < count_of b
-  last_there x y here are = omega (arith, here, are.1)
 
   -- one alone
   pub opens_alone : (x y : ℕ) → place < count_of b → AreThere (count_of b) before → stands place ≡ sequence (stands x) (stands y) → (x < place) × (y < place) → stands x ≡ nothing → Opens b at ran place before y before
