@@ -13,5 +13,6 @@ mod run;
 mod tasks;
 
 pub use block::{Chosen, ReadyAction, ReadyBlock, ReadyTable};
+pub use nodes::is_nothing;
 pub use run::{run_action, run_statements};
 pub use tasks::{Level, Task};
