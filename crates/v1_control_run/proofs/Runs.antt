@@ -129,10 +129,22 @@ module _ (p : Prepared) (block : Block) (r : Runners) (f g : Cells) (store after
       ((are.controls block).emits control_start octets) ends
       ∙ ap (moment_at p.packets.now g after unparsed out) (sym counted)
 
+pub block_applies : (p : Prepared) (r : Runners) (block : Block) (of : FilledBlock) → AreRunners p r → of ≡ filled_of r block → CanApply of.block.now
+block_applies p r block of are is = subst (λ (x : FilledBlock). CanApply x.block.now) (sym is) ((are.controls block).applies)
+
 pub over_control : (p : Prepared) (block : Block) (r : Runners) (f : Cells) (store : Contents) (unparsed : List ℕ) (emitted : List Bool) (work : ℕ) (s : ParserMachine) (q : Run) → AreRunners p r → IsFrameOf p.packets.now f → CanBegin p store s → q ≡ begun_run emitted work s.run → IsOver (ground_of (filled_of r block).block.now.code) (moment f store unparsed q)
 over_control p block r f store unparsed emitted work s q are frame rests begins =
     over_ground (setting_of p) (ground_of (filled_of r block).block.now.code) f store unparsed q (are.controls block).ground frame
     (ap (λ (x : Run). x.waiting.layout) begins ∙ rests.waiting) rests.shapes
+
+-- a control whose block leaves everything as it is does nothing
+pub nothing_runs : (p : Prepared) (block : Block) (r : Runners) (of : FilledBlock) (f : Cells) (store : Contents) (unparsed emitted : List ℕ) (work : ℕ) (s : ParserMachine) → AreRunners p r → IsFrameOf p.packets.now f → CanBegin p store s → of ≡ filled_of r block → ((m : Moment) → ready_run of.fill.now (seen_block of.block.now) m ≡ m) → AreWhole s.run.waiting → IsOctets emitted → control16 (setting_of p) block (moment_at p.packets.now f store unparsed emitted work) ≡ moment_at p.packets.now f store unparsed emitted work
+nothing_runs p block r of f store unparsed emitted work s are frame rests is none whole octets =
+    let q = begun_run (octet_bits emitted) work s.run in
+    let still : (m : Moment) → ready_run (filled_of r block).fill.now (seen_block (filled_of r block).block.now) m ≡ m = subst (λ (x : FilledBlock). (m : Moment) → ready_run x.fill.now (seen_block x.block.now) m ≡ m) is none in
+    control_runs p block r f f store store unparsed emitted work s q q are frame rests refl whole
+    (record { over = over_control p block r f store unparsed (octet_bits emitted) work s q are frame rests refl; comes = still (moment f store unparsed q) })
+    work emitted octets (record { emitted = refl; octets = octets; stopped = refl; hit = refl }) refl
 
 pub rests_behind : (p : Prepared) (block : Block) (r : Runners) (due : Moment) (f : Cells) (store : Contents) (unparsed : List ℕ) (s : ParserMachine) → AreRunners p r → Comes (ground_of (filled_of r block).block.now.code) due (moment f store unparsed s.run) → CanBegin p store s
 rests_behind p block r due f store unparsed s are comes = record {

@@ -1,5 +1,5 @@
 -- What a block does, by what contracts see of what runs it.
-use Rattle.std.proofs.Common.{◌≡◌, ℕ, List, [], Result, OnOk, sym, subst}
+use Rattle.std.proofs.Common.{◌≡◌, ℕ, List, [], None, Result, OnOk, ap, sym, subst, ◌∙◌}
 use Rattle.p4x_bits.specs.BitLists.{octet_bits}
 use Rattle.state_store.specs.State.{Contents}
 use Rattle.v1_sem.specs.declared.block.Block.{Block}
@@ -9,10 +9,15 @@ use Rattle.v1_sem.specs.Parsing.{Parsed, parse16}
 use Rattle.v1_sem.specs.Blocks.{control16}
 use Rattle.v1_frames.specs.Cells.{Cells}
 use Rattle.v1_ready_blocks.specs.Moments.{Moment}
-use Rattle.v1_ready_blocks.specs.Blocks.{ready_run}
+use Rattle.v1_ready_blocks.specs.Nodes.{statement_at}
+use Rattle.v1_ready_blocks.specs.Statements.{Statement, nothing, run}
+use Rattle.v1_ready_blocks.specs.Tables.{Fill}
+use Rattle.v1_ready_blocks.specs.Blocks.{ready_run, world_of}
 use Rattle.v1_ready_externs.specs.declared.run.Run.{Run}
-use Rattle.v1_ready_steps.specs.Steps.{Comes, ground_of}
+use Rattle.v1_ready_steps.specs.Steps.{Comes, ground_of, trees_of}
+use Rattle.v1_block_run.specs.declared.block.ReadyBlock.{ReadyBlock}
 use Rattle.v1_block_run.specs.Blocks.{seen_block}
+use Rattle.v1_block_tables.specs.declared.parts.FilledBlock.{FilledBlock}
 use Rattle.v1_passes.specs.Moments.{moment_at}
 use Rattle.v1_control_run.specs.declared.runners.Runners.{Runners}
 use Rattle.v1_control_run.specs.Running.{Running}
@@ -38,3 +43,11 @@ ran_so result r block b before after is ran =
 pub slice_begins : (slice emitted : List ℕ) (work : ℕ) (before q : Run) → slice ≡ emitted → q ≡ begun_run (octet_bits slice) work before → q ≡ begun_run (octet_bits emitted) work before
 slice_begins slice emitted work before q same begins =
     subst (λ (x : List ℕ). q ≡ begun_run (octet_bits x) work before) same begins
+
+-- the block of a control, by the control
+pub filled_so : (r : Runners) (block b : Block) (of : FilledBlock) → block ≡ b → of ≡ filled_of r b → of ≡ filled_of r block
+filled_so r block b of is same = same ∙ ap (filled_of r) (sym is)
+
+-- a block without statements leaves everything as it is
+pub nothing_ran : (fill : Fill) (b : ReadyBlock) → statement_at (trees_of b.code) b.body ≡ nothing → (m : Moment) → ready_run fill (seen_block b) m ≡ m
+nothing_ran fill b none m = ap (λ (s : Statement). run (world_of fill (seen_block b)) None s m) none

@@ -9,8 +9,8 @@ ghost use Rattle.v1_control_run.specs.Prepared.{IsPrepared, setting_of};
 ghost use Rattle.v1_control_run.specs.internal.Runs.{AreRunners, CanBegin, filled_of};
 
 use crate::prepared::Prepared;
-use crate::runners::Runners;
-use crate::spare::{begin, end, end_silently};
+use crate::runners::{Runners, is_empty};
+use crate::spare::{are_octets, begin, end, end_silently};
 use p4x_bits::{Octets, OutOfMemory};
 use state_store::Store;
 use v1_frames::Frame;
@@ -54,7 +54,7 @@ pub fn parse_packet(
 }
 
 /// Runs a control on a packet: what `control16` of the definitions says. The one error is want of memory.
-#[tactic(auto, using(crate::proofs::Runs::over_control, crate::proofs::Runs::are_still, crate::proofs::Runs::rests_behind, crate::proofs::Runs::control_frame, crate::proofs::Runs::control_runs))]
+#[tactic(auto, using(crate::proofs::Runs::block_applies, crate::proofs::Runs::over_control, crate::proofs::Runs::are_still, crate::proofs::Runs::rests_behind, crate::proofs::Runs::control_frame, crate::proofs::Runs::control_runs))]
 pub fn run_control(
     program: Prepared<'_>,
     runners: &mut Runners<'_>,
@@ -75,6 +75,11 @@ pub fn run_control(
     ensures runs { OnOk result (control16 (setting_of program.entry) block (moment_at program.entry.packets.now frame.old store.old unparsed.now emitted.old work.old) ≡ moment_at program.entry.packets.now frame.new store.new unparsed.now emitted.new work.new) }
 {
     let _packets = program.packets;
+    if is_empty(runners.block(block)) {
+        are_octets(emitted.as_slice());
+        spare.run.waiting.is_whole();
+        return Ok(());
+    }
     begin(&mut spare.run, emitted.as_slice(), *work)?;
     runners.run(block, frame, store, unparsed, &mut spare.run)?;
     end(&spare.run, emitted)?;

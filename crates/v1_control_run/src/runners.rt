@@ -1,6 +1,7 @@
 // The controls of a program, each with the room that its statements take.
-ghost use Rattle.std.specs.Prelude.{◌≡◌, OnOk};
+ghost use Rattle.std.specs.Prelude.{◌≡◌, true, OnOk};
 ghost use Rattle.v1_sem.specs.declared.block.Block.{Block as Control};
+ghost use Rattle.v1_ready_blocks.specs.Moments.{Moment};
 ghost use Rattle.v1_ready_blocks.specs.Blocks.{ready_run};
 ghost use Rattle.v1_ready_externs.specs.Seen.{moment};
 ghost use Rattle.v1_ready_steps.specs.Steps.{Comes, IsOver, ground_of};
@@ -13,7 +14,7 @@ use crate::prepared::Prepared;
 use p4x_bits::OutOfMemory;
 use state_store::Store;
 use std::alloc::Global;
-use v1_block_run::ReadyBlock;
+use v1_block_run::{ReadyBlock, is_nothing};
 use v1_block_tables::{BlockRunner, FilledBlock, FilledTables};
 use v1_frames::Frame;
 use v1_ready_externs::Run;
@@ -42,6 +43,15 @@ fn runner<'r>(
     BlockRunner::new(alloc, FilledBlock { block, fill })
 }
 
+/// Whether a block has no statements, so that running it leaves everything as it is.
+#[tactic(auto, using(crate::proofs::Seen::nothing_ran))]
+pub fn is_empty(of: FilledBlock<'_, '_>) -> bool
+    requires { CanApply of.block.now }
+    ensures { result ≡ true → (m : Moment) → ready_run of.entry.fill.now (seen_block of.entry.block.now) m ≡ m }
+{
+    is_nothing(&of.block.code, of.block.body)
+}
+
 impl<'r> Runners<'r> {
     /// What runs the controls of a prepared program. It takes no memory.
     #[tactic(auto, using(crate::proofs::Runs::are_runners))]
@@ -55,6 +65,20 @@ impl<'r> Runners<'r> {
             egress: runner(alloc, of.egress, of.fill),
             compute: runner(alloc, of.compute, of.fill),
             deparse: runner(alloc, of.deparse, of.fill),
+        }
+    }
+
+    /// The block that is run for a control, with its tables.
+    #[tactic(auto, using(crate::proofs::Seen::filled_so))]
+    pub fn block(&self, block: Block) -> FilledBlock<'r, 'r>
+        ensures { result ≡ filled_of self.now block }
+    {
+        match block {
+            Block::Verify => self.verify.tables.of,
+            Block::Ingress => self.ingress.tables.of,
+            Block::Egress => self.egress.tables.of,
+            Block::Compute => self.compute.tables.of,
+            Block::Deparse => self.deparse.tables.of,
         }
     }
 

@@ -35,6 +35,13 @@ pub fn spare_machine<'r>(
     })
 }
 
+/// What holds of octets: each is one. It does nothing.
+pub fn are_octets(octets: &[u8])
+    ensures { IsOctets octets.now }
+{
+    let _ = octets;
+}
+
 /// The bits are those of these octets. For want of memory they are none.
 fn put_bits(bits: &mut Bits, octets: &[u8]) -> Result<(), OutOfMemory>
     ensures put { OnOk result (bits.new ≡ octet_bits octets.now) }
