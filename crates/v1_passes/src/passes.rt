@@ -413,10 +413,21 @@ impl<'r, B: Blocks<'r> + Drop> Passes16<'r, B> {
         ensures work { self.new.work ≡ self.old.work }
         ensures events { OnOk result (self.new.events ≡ events.now) }
     {
-        self.events.clear();
         if events.is_empty() {
+            self.events.clear();
             return Ok(());
         }
+        self.note_some(events)
+    }
+
+    /// The same, where there may be some.
+    #[inline(never)]
+    fn note_some(&mut self, events: &[Event]) -> Result<(), OutOfMemory>
+        ensures blocks { self.new.blocks ≡ self.old.blocks }
+        ensures work { self.new.work ≡ self.old.work }
+        ensures events { OnOk result (self.new.events ≡ events.now) }
+    {
+        self.events.clear();
         self.events.extend_from_slice(events)
     }
 }
