@@ -104,6 +104,7 @@ impl<'r> Blocks<'r> for PreparedBlocks<'r> {
         Ok(end)
     }
 
+    #[inline(always)]
     #[tactic(auto, using(crate::proofs::Runs::can_begin, crate::proofs::Runs::ready_without, crate::proofs::Runs::ready_again))]
     fn control(
         &mut self,

@@ -54,7 +54,8 @@ pub fn parse_packet(
 }
 
 /// Runs a control on a packet: what `control16` of the definitions says. The one error is want of memory.
-#[tactic(auto, using(crate::proofs::Runs::block_applies, crate::proofs::Runs::over_control, crate::proofs::Runs::are_still, crate::proofs::Runs::rests_behind, crate::proofs::Runs::control_frame, crate::proofs::Runs::control_runs))]
+#[inline(always)]
+#[tactic(auto, using(crate::proofs::Runs::block_applies))]
 pub fn run_control(
     program: Prepared<'_>,
     runners: &mut Runners<'_>,
@@ -80,6 +81,34 @@ pub fn run_control(
         spare.run.waiting.is_whole();
         return Ok(());
     }
+    run_some(
+        program, runners, spare, block, frame, store, unparsed, emitted, work,
+    )
+}
+
+/// The same of a control that may have statements.
+#[inline(never)]
+#[tactic(auto, using(crate::proofs::Runs::block_applies, crate::proofs::Runs::over_control, crate::proofs::Runs::are_still, crate::proofs::Runs::rests_behind, crate::proofs::Runs::control_frame, crate::proofs::Runs::control_runs))]
+fn run_some(
+    program: Prepared<'_>,
+    runners: &mut Runners<'_>,
+    spare: &mut ParserMachine<'_>,
+    block: Block,
+    frame: &mut Frame<'_>,
+    store: &mut Store,
+    unparsed: &[u8],
+    emitted: &mut Octets,
+    work: &mut u64,
+) -> Result<(), OutOfMemory>
+    requires runners { AreRunners program runners.old }
+    requires frame { IsFrameOf program.packets.now frame.old }
+    requires spare { CanBegin program store.old spare.old }
+    ensures runners { (b : Control) → filled_of runners.new b ≡ filled_of runners.old b }
+    ensures spare { OnOk result (CanBegin program.entry store.new spare.new) }
+    ensures frame { OnOk result (IsFrameOf program.entry.packets.now frame.new) }
+    ensures runs { OnOk result (control16 (setting_of program.entry) block (moment_at program.entry.packets.now frame.old store.old unparsed.now emitted.old work.old) ≡ moment_at program.entry.packets.now frame.new store.new unparsed.now emitted.new work.new) }
+{
+    let _packets = program.packets;
     begin(&mut spare.run, emitted.as_slice(), *work)?;
     runners.run(block, frame, store, unparsed, &mut spare.run)?;
     end(&spare.run, emitted)?;
