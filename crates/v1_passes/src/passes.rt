@@ -196,6 +196,7 @@ fn copied(alloc: Global, room: &mut Octets, octets: &[u8]) -> Result<Octets, Out
 }
 
 /// What is held of a packet that goes on to egress.
+#[inline(always)]
 fn hand_on<'r>(
     alloc: Global,
     packets: &'r Packets<'r>,
