@@ -8,4 +8,6 @@ mod pieces;
 #[cfg(test)]
 mod ports;
 #[cfg(test)]
+mod records;
+#[cfg(test)]
 mod setting;
