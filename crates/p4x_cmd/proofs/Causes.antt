@@ -18,7 +18,7 @@ use Rattle.file_work.proofs.Laws.{IsDone, left_fronts, left_ends, left_as_due, l
 use Rattle.file_work.proofs.Loose.{comes_loose, first_loose, loose_or, loose_says, of_ok, not_loose}
 use Rattle.file_work.proofs.Order.{due_status}
 use Rattle.p414_one_table.specs.declared.program.OneTable14.{OneTable14}
-use Rattle.p4x_cmd.specs.Calls.{OnTold, OnForm, AreTold, Carried, Done, CarryStatuses, Statuses, AcceptsAll, Usages, CarryKept, Kept, CarryLeft, Left, FilesLeft, Translated, IsEnd, PacketsFit, CarryWorks, WorksFor, inputs_in, outputs_in, RefusesCapture, OverCapture}
+use Rattle.p4x_cmd.specs.Calls.{OnTold, OnForm, AreTold, Carried, Done, IsCarryStatus, CarryStatuses, Statuses, AcceptsAll, Usages, CarryKept, Kept, CarryLeft, Left, FilesLeft, Translated, IsEnd, PacketsFit, CarryWorks, WorksFor, inputs_in, outputs_in, RefusesCapture, OverCapture}
 use Rattle.p4x_cmd.specs.Carries.{SameRuns}
 use Rattle.p4x_cmd.specs.Carry.{CarryDue, ComesOnce, carry_lines, carried_word, Begins, KeepsInOrder, StopsBefore, Written, capture_reports, delivered, program_read}
 use Rattle.p4x_cmd.specs.Entries.{no_entries}
@@ -29,6 +29,7 @@ use Rattle.run_stream.proofs.Whole.{Whole, whole_capture, empty_reports}
 use Rattle.p4x_cmd.proofs.Filling.{no_entries_fit, signature_is}
 use Rattle.run14_cmd.proofs.Causes.{run14_statuses, run14_kept, run14_left, run14_ran, run14_ends}
 use Rattle.run16_cmd.proofs.Causes.{run16_statuses, run16_kept, run16_left, run16_ran, run16_ends}
+use Rattle.p4x_cmd.proofs.Only.{status_of}
 use Rattle.p4x_cmd.proofs.Judging.{program_first, entries_first, ports_first}
 use Rattle.program_commands.proofs.Stops.{one_program}
 use Rattle.p4x_cmd.proofs.ProgramCauses.{no_usage, program_ends, program_statuses, program_done, program_left}
@@ -175,6 +176,10 @@ module _ (f : CarryFiles) (files : List ℕ → Option (List ℕ)) (old new : De
       refused = λ told. (all told).refused;
       limit = λ told. (all told).limit;
       accepted = λ told. (all told).accepted;
+      only = elim e.says.said [
+        | inl whole ↦ subst (λ (n : ℕ). IsCarryStatus n) (sym whole.0) (status_of e.end e.is.order.only)
+        | inr cut ↦ inr (inl cut.0)
+      ];
     }
 
   -- where the desk tells all inputs, the outputs are kept wherever the work stops before it writes

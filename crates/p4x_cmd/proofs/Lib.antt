@@ -9,6 +9,7 @@ pub mod Lawful
 pub mod Left
 pub mod Lowered
 pub mod Named
+pub mod Only
 pub mod Order
 pub mod Packets
 pub mod Pass16

@@ -4,7 +4,7 @@ use Rattle.std.specs.declared.alloc.Global.{Global}
 use Rattle.p4x_io.specs.Desk.{DeskView}
 use Rattle.command_words.specs.Words.{CarryFiles, carry_outputs}
 use Rattle.file_work.specs.declared.stop.Stop.{Stop}
-use Rattle.file_work.specs.declared.stop.Stop.TheVariants.{Fault, Unfit, Memory}
+use Rattle.file_work.specs.declared.stop.Stop.TheVariants.{Fault, Program, Unfit, Memory}
 use Rattle.file_work.specs.Phases.{Loosely, line_view}
 use Rattle.file_work.specs.Works.{Tells, AllKept}
 use Rattle.file_work.proofs.Order.{loosely_as, loosely_loose}
@@ -13,7 +13,9 @@ use Rattle.p414_one_table.specs.declared.program.OneTable14.{OneTable14}
 use Rattle.p4x_cmd.specs.Carry.{ProgramIs, ComesOnce, HasProgram, entries_stop, not_taken, OfProgram, OfEntries, OfPorts, InOrder, KeepsInOrder}
 use Rattle.p4x_cmd.specs.internal.Phases.{AnswersFile}
 use Rattle.command_inputs.specs.PortsFile.{ports_end, IsPortsStop}
+use Rattle.program_commands.specs.Programs.{IsProgramStop}
 use Rattle.p4x_cmd.proofs.Judging.{entries_not}
+use Rattle.p4x_cmd.proofs.Only.{loose_only, program_only, entries_only, ports_only}
 use Rattle.p4x_cmd.proofs.Programs.{rank, rank_program, alone_once, taken_goes_on}
 use Rattle.p4x_cmd.proofs.Statuses.{begins_not}
 
@@ -60,15 +62,17 @@ module _ (A : Type 0) (f : CarryFiles) (old : DeskView) where
     program = λ files told. loosely_loose stop _ loose;
     entries = λ files told. loosely_loose stop _ loose;
     ports = λ files told. loosely_loose stop _ loose;
+    only = loose_only stop loose;
   }
 
   -- the program stops the work
-  pub order_program : (stop : Stop) → ((file : Option (List ℕ)) → old.told f.program ≡ Some file → AnswersFile file (Err stop)) → InOrder {A = A} f old (Err stop)
-  order_program stop gives = record {
+  pub order_program : (stop : Stop) → (stop ≡ Program) ⊎ IsProgramStop stop → ((file : Option (List ℕ)) → old.told f.program ≡ Some file → AnswersFile file (Err stop)) → InOrder {A = A} f old (Err stop)
+  order_program stop only gives = record {
     once = λ files told. loosely_as stop _ _ (alone_once (files f.program) (Err stop)) (gives (files f.program) told.0);
     program = λ files told. loosely_as stop _ _ (λ is. inl is.0) (gives (files f.program) told.0);
     entries = λ files told. loosely_as stop _ _ (λ is. inl (inl is.0)) (gives (files f.program) told.0);
     ports = λ files told. loosely_as stop _ _ (λ is. inl (inl is.0)) (gives (files f.program) told.0);
+    only = program_only stop only;
   }
 
   module _ (p : OneTable14) (answers : (file : Option (List ℕ)) → old.told f.program ≡ Some file → AnswersFile file (Ok p)) where
@@ -85,6 +89,7 @@ module _ (A : Type 0) (f : CarryFiles) (old : DeskView) where
       program = λ files told. inr (inr (inr ((p, taken (files f.program) told.0), not_program stop (behind_program stop only))));
       entries = λ files told. loosely_as stop _ _ (λ is. inl (inr (p, taken (files f.program) told.0, is))) (gives (files f.entries) told.1.0);
       ports = λ files told. loosely_as stop _ _ (λ is. inl (inr (inl (p, taken (files f.program) told.0, is)))) (gives (files f.entries) told.1.0);
+      only = entries_only stop only;
     }
 
     module _ (empty : (file : Option (List ℕ)) → old.told f.entries ≡ Some file → entries_stop file ≡ None) where
@@ -98,6 +103,7 @@ module _ (A : Type 0) (f : CarryFiles) (old : DeskView) where
         program = λ files told. inr (inr (inr ((p, taken (files f.program) told.0), not_program stop (omega (arith, behind_entries stop only)))));
         entries = λ files told. inr (inr (inr ((p, has files told.0 told.1.0), not_entries stop (behind_entries stop only))));
         ports = λ files told. loosely_as stop _ _ (λ is. inl (inr (inr (p, has files told.0 told.1.0, is)))) (gives files told.1.1);
+        only = ports_only stop only;
       }
 
       -- nothing stops it before it writes
@@ -107,20 +113,22 @@ module _ (A : Type 0) (f : CarryFiles) (old : DeskView) where
         program = λ files told. (p, taken (files f.program) told.0);
         entries = λ files told. (p, has files told.0 told.1.0);
         ports = λ files told. (p, ports, (has files told.0 told.1.0, gives files told.1.1));
+        only = tt;
       }
 
 -- what stopped the first part of the work stops all of it
 pub order_stopped : (A B : Type 0) (f : CarryFiles) (old : DeskView) (stop : Stop) → InOrder {A = A} f old (Err stop) → InOrder {A = B} f old (Err stop)
-order_stopped A B f old stop order = record { once = order.once; program = order.program; entries = order.entries; ports = order.ports }
+order_stopped A B f old stop order = record { once = order.once; program = order.program; entries = order.entries; ports = order.ports; only = order.only }
 
 -- the capture is run behind it
 pub order_run : (A : Type 0) (f : CarryFiles) (old : DeskView) (begun : A) → InOrder {A = A} f old (Ok begun) → (result : Result (Vec ℕ Global) Stop) → IfErr result (λ e. StopsRun e) → InOrder f old (line_view result)
-order_run A f old begun order (Ok line) stops = record { once = order.once; program = order.program; entries = order.entries; ports = order.ports }
+order_run A f old begun order (Ok line) stops = record { once = order.once; program = order.program; entries = order.entries; ports = order.ports; only = tt }
 order_run A f old begun order (Err stop) stops = record {
   once = λ files told. inr (inr (order.once files told));
   program = λ files told. inr (inr (inr (order.program files told, not_program stop (omega (arith, behind_ports stop stops)))));
   entries = λ files told. inr (inr (inr (order.entries files told, not_entries stop (omega (arith, behind_ports stop stops)))));
   ports = λ files told. inr (inr (inr (order.ports files told, not_ports stop (behind_ports stop stops))));
+  only = inr stops;
 }
 
 -- what is known of the program's file then is known at the end

@@ -160,8 +160,13 @@ pub record PortStatuses (f : CarryFiles) (files : Held) (status : ℕ) : Type 0 
   pub refused : ComesFirst status 5 (RefusesPorts f files) (TakesPorts f files)
   pub limit : ComesFirst status 6 (OverText f.program files ⊎ OverPorts f files) (TakesPorts f files)
 
+-- the statuses that `carry` can have
+abbrev pub IsCarryStatus : ℕ → Type 0
+IsCarryStatus status =
+    (status ≡ 0) ⊎ (status ≡ 1) ⊎ (status ≡ 3) ⊎ (status ≡ 4) ⊎ (status ≡ 5) ⊎ (status ≡ 6) ⊎ (status ≡ 7)
+
 -- The statuses of `carry`, each with its cause: the first in the order of the work. A cause asks of the desk only that
--- it tells the files that are read until it is found.
+-- it tells the files that are read until it is found. It has no others, whatever the desk tells.
 pub record CarryStatuses (f : CarryFiles) (old : DeskView) (files : Held) (status : ℕ) : Type 0 where
   pub program : Tells (program_read f) old files → FirstStatuses f files status
   pub entries : Tells (entries_read f) old files → ComesWhere status 4 (RefusesEntries f files)
@@ -171,6 +176,7 @@ pub record CarryStatuses (f : CarryFiles) (old : DeskView) (files : Held) (statu
   pub limit : Tells (carry_inputs f) old files
       → ComesWhere status 6 (OverText f.program files ⊎ OverPorts f files ⊎ OverCapture f files)
   pub accepted : Tells (carry_inputs f) old files → ComesWhere status 0 (Accepts f files)
+  pub only : IsCarryStatus status
 
 -- the statuses that a command which reads a program and writes no file can have
 abbrev pub IsProgramStatus : ℕ → Type 0
@@ -287,7 +293,7 @@ DueOf (order program) files d = OrderDue program files d
 DueOf (run14 f) files d = Run14Due f files d
 DueOf (run16 f) files d = Run16Due f files d
 
--- how the work of a command ends by the files that it reads first; or, where it reads a program alone, what can stop it
+-- how the work of a command ends by the files that it reads first, and what can stop it; where it reads a program alone, what can stop it
 abbrev pub EndsInOrder : Command → DeskView → Result (List ℕ) Stop → Type 0
 EndsInOrder (carry f) old end = InOrder f old end
 EndsInOrder (check program) old end = IfErr end IsProgramStop

@@ -1,5 +1,5 @@
 -- The command `carry`: what is due for what its input files hold (this project's own).
-use Rattle.std.specs.Prelude.{◌≡◌, ◌⊎◌, ℕ, true, List, [], ◌∷◌, codes, Option, Some, None, option_to_list, Result, Ok, Err}
+use Rattle.std.specs.Prelude.{◌≡◌, ◌⊎◌, ℕ, true, List, [], ◌∷◌, codes, Option, Some, None, option_to_list, Result, Ok, Err, IfErr}
 use Rattle.state_store.specs.State.{Contents}
 use Rattle.p416_ast.specs.declared.program.Syntax16.{Syntax16}
 use Rattle.p416_reader.specs.Reading.{Reads16}
@@ -18,7 +18,7 @@ use Rattle.p4x_cmd.specs.Carries.{Carries}
 use Rattle.p4x_cmd.specs.FirstCut.{is_first_cut}
 use Rattle.file_work.specs.Phases.{Unless, StopsOrGoesOn}
 use Rattle.file_work.specs.Works.{Held, Due, Tells, AllKept}
-use Rattle.run_stream.specs.Captured.{EndLines, Reports, reports_over, lined}
+use Rattle.run_stream.specs.Captured.{EndLines, Reports, reports_over, lined, StopsRun}
 use Rattle.run_stream.specs.Reports.{work_line}
 use Rattle.command_inputs.specs.PortsFile.{ports_end}
 use Rattle.p4x_cmd.specs.Runs.{this_run}
@@ -101,8 +101,12 @@ OfEntries stop = OfProgram stop ⊎ ((fault : Refusal) × (stop ≡ Unfit fault)
 abbrev pub OfPorts : Stop → Type 0
 OfPorts stop = OfEntries stop ⊎ (stop ≡ Limit limited.Ports)
 
+-- what can stop the command at all: these; or what stops a run of the capture, among it a refusal of the ports
+abbrev pub OfCarry : Stop → Type 0
+OfCarry stop = OfPorts stop ⊎ StopsRun stop
+
 -- How the work ends by the files that it reads first, whatever the desk tells of the others: it stops at them, or they
--- are taken and it goes on. The program's file comes to one thing only.
+-- are taken and it goes on. The program's file comes to one thing only. Whatever the desk tells, nothing else stops it.
 pub record InOrder {A : Type 0} (f : CarryFiles) (old : DeskView) (end : Result A Stop) : Type 0 where
   pub once : (files : Held) → Tells (program_read f) old files → Unless (ComesOnce (files f.program)) end
   pub program : (files : Held) → Tells (program_read f) old files
@@ -111,6 +115,7 @@ pub record InOrder {A : Type 0} (f : CarryFiles) (old : DeskView) (end : Result 
       → StopsOrGoesOn (StopsAtEntries f files) (TakesEntries f files) OfEntries end
   pub ports : (files : Held) → Tells (ports_read f) old files
       → StopsOrGoesOn (StopsBefore f files) (TakesPorts f files) OfPorts end
+  pub only : IfErr end OfCarry
 
 -- No output is made or changed where the work stops before it writes: by how it ends, or by the files that it reads
 -- first, whatever the desk tells of the others.

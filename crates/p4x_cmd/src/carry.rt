@@ -5,9 +5,9 @@ ghost use Rattle.fabric.specs.Numbers.{IsBound};
 ghost use Rattle.p4x_io.specs.Desk.{Rose, Moves, put};
 ghost use Rattle.p414_one_table.specs.declared.program.OneTable14.{OneTable14};
 ghost use Rattle.p4x_cmd.specs.Calls.{PacketsFit};
-ghost use Rattle.p4x_cmd.specs.Carry.{ProgramIs, entries_stop, not_taken, StopsBefore, Begins, CarryDue, InOrder, KeepsInOrder};
+ghost use Rattle.p4x_cmd.specs.Carry.{entries_stop, not_taken, StopsBefore, Begins, CarryDue, InOrder, KeepsInOrder};
 ghost use Rattle.p414_one_table.specs.Programs.{is_one_table};
-ghost use Rattle.program_commands.specs.Programs.{ReadsOnce};
+ghost use Rattle.program_commands.specs.Programs.{IsProgramStop, ReadsOnce};
 ghost use Rattle.one_table_text.specs.Programs.{program16};
 ghost use Rattle.p4x_cmd.specs.internal.Lowering.{lowered};
 ghost use Rattle.p4x_cmd.specs.internal.Phases.{AnswersFile, IsTextOf};
@@ -57,6 +57,7 @@ fn read_one_table<D: Desk>(alloc: Global, desk: &mut D, name: &str) -> Result<On
     ensures gives { (file : Option (List ℕ)) → (D.view desk.old).told name.now ≡ Some file → AnswersFile file result }
     ensures once { OnOk result ((text : List ℕ) → (D.view desk.old).told name.now ≡ Some (Some text) → ReadsOnce text) }
     ensures form { IfOk result (λ p. is_one_table p ≡ true) }
+    ensures only { IfErr result (λ e. (e ≡ Stop.Program) ⊎ IsProgramStop e) }
     ensures cause { Blames result (Rose ((D.view desk.old).reads name.now) ((D.view desk.new).reads name.now)) }
 {
     let program = read_program(alloc, desk, name)?;

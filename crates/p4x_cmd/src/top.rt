@@ -55,6 +55,7 @@ pub fn p4x<D: Desk, K: Sink>(alloc: Global, words: &[String], desk: &mut D, out:
     ensures carried { OnTold (form (map string_bytes words.now)) (D.view desk.old) (λ c files. AreTold (outputs_of c) (D.view desk.old)
         → result ≡ 0 → Done c files (D.view desk.new) (K.view out.old) (K.view out.new)) }
     // Which cause gives 0, 3, 4, 5, 6 and 8, where the desk tells the files that are read until it is found; 1 or 7 may come in their place.
+    // A command has no statuses but its own, whatever the desk tells: 3 isn't `run16`'s, and 8 is its alone.
     ensures statuses { OnForm (form (map string_bytes words.now)) (λ c files. Statuses c (D.view desk.old) files result) }
     // All input files are taken and no own count rose: 0, or 7.
     ensures complete { OnTold (form (map string_bytes words.now)) (D.view desk.old) (λ c files. AcceptsAll c files

@@ -110,8 +110,8 @@ impl RecordReader {
 
     /// The end of the capture: Ok where the octets that were fed are a whole one and each record was taken.
     ///
-    /// It is K1 where fewer than 24 octets were fed, K4 where a record isn't whole, and the rule that `fault` tells, if
-    /// it does. It is never `Memory`.
+    /// It is K1 where fewer than 24 octets were fed, K4 where a record isn't whole or wasn't taken, and the rule that `fault`
+    /// tells, if it does. It is never `Memory`.
     pub fn end(&self) -> Result<(), CaptureFault>
         ensures { result ≡ answer (refusal_in self.now) }
     {
@@ -122,7 +122,8 @@ impl RecordReader {
         }
     }
 
-    /// The rule that the octets so far break, if they break one of K2, K3 and K5.
+    /// The rule that the octets break as far as `feed` and `next` have read them, if they break one of K2, K3 and K5. Once
+    /// `next` gave None, that is as far as they were fed.
     pub fn fault(&self) -> Option<Fault>
         ensures { result ≡ self.now.fault }
     {

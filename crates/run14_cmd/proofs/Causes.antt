@@ -23,8 +23,9 @@ use Rattle.p414_ast.specs.declared.syntax.Syntax14.{Syntax14}
 use Rattle.program_commands.specs.Answers.{ComesOnce}
 use Rattle.program_commands.specs.Programs.{ReadsOnce}
 use Rattle.program_commands.proofs.Stops.{one_program}
-use Rattle.run14_cmd.specs.Calls.{RanSo, FirstStatuses, EntriesStatuses, PortStatuses, Run14Statuses, RanBefore, Run14Kept, Run14Left, PacketsFit, EntriesFit, Run14Works, RefusesCapture, OverCapture}
+use Rattle.run14_cmd.specs.Calls.{RanSo, FirstStatuses, EntriesStatuses, PortStatuses, Run14Statuses, RanBefore, Run14Kept, Run14Left, PacketsFit, EntriesFit, Run14Works, RefusesCapture, OverCapture, IsRun14Status}
 use Rattle.run14_cmd.specs.Run14.{Run14Due, Begins, KeepsInOrder, capture_reports, delivered, program_read, setting_for, this_run, own_lines, ran_word}
+use Rattle.run14_cmd.proofs.Only.{status_of}
 use Rattle.run14_cmd.proofs.Judging.{program_first, entries_first, ports_first}
 use Rattle.run14_cmd.proofs.Statuses.{AllStatuses, KnownSo, due_ends, statuses_are, statuses_loose, begins_not}
 
@@ -180,6 +181,10 @@ module _ (f : Run14Files) (files : List ℕ → Option (List ℕ)) (old new : De
       refused = λ told. (all told).refused;
       limit = λ told. (all told).limit;
       accepted = λ told. (all told).accepted;
+      only = elim e.says.said [
+        | inl whole ↦ subst (λ (n : ℕ). IsRun14Status n) (sym whole.0) (status_of e.end e.is.order.only)
+        | inr cut ↦ inr (inl cut.0)
+      ];
     }
 
     pub run14_ran : Tells (run14_inputs f) old files → (old.told f.sent ≡ None → ⊥) × (old.told f.report ≡ None → ⊥) → status ≡ 0 → RanSo f files new before after

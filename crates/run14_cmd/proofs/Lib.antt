@@ -3,6 +3,7 @@ pub mod Causes
 pub mod Judging
 pub mod Left
 pub mod Named
+pub mod Only
 pub mod Order
 pub mod Packets
 pub mod Phases

@@ -14,10 +14,11 @@ use Rattle.command_inputs.specs.PortsFile.{ports_end, IsPortsStop}
 use Rattle.run_stream.specs.Captured.{StopsRun}
 use Rattle.p414_ast.specs.declared.syntax.Syntax14.{Syntax14}
 use Rattle.program_commands.specs.Answers.{AnswersFile, ComesOnce}
-use Rattle.program_commands.specs.Programs.{ProgramIs}
+use Rattle.program_commands.specs.Programs.{ProgramIs, IsProgramStop}
 use Rattle.program_commands.proofs.Stops.{alone_once, taken_goes_on}
 use Rattle.run14_cmd.specs.Run14.{HasProgram, OfPorts, InOrder, KeepsInOrder, filled}
 use Rattle.run14_cmd.proofs.Judging.{entries_not}
+use Rattle.run14_cmd.proofs.Only.{loose_only, program_only, entries_only, ports_only}
 use Rattle.run14_cmd.proofs.Ranks.{behind_program, behind_entries, behind_ports, not_program, not_entries, not_ports}
 use Rattle.run14_cmd.proofs.Statuses.{begins_not}
 
@@ -29,15 +30,17 @@ module _ (A : Type 0) (f : Run14Files) (old : DeskView) where
     program = λ files told. loosely_loose stop _ loose;
     entries = λ files told. loosely_loose stop _ loose;
     ports = λ files told. loosely_loose stop _ loose;
+    only = loose_only stop loose;
   }
 
   -- the program stops the work
-  pub order_program : (stop : Stop) → ((file : Option (List ℕ)) → old.told f.program ≡ Some file → AnswersFile file (Err stop)) → InOrder {A = A} f old (Err stop)
-  order_program stop gives = record {
+  pub order_program : (stop : Stop) → IsProgramStop stop → ((file : Option (List ℕ)) → old.told f.program ≡ Some file → AnswersFile file (Err stop)) → InOrder {A = A} f old (Err stop)
+  order_program stop only gives = record {
     once = λ files told. loosely_as stop _ _ (alone_once (files f.program) (Err stop)) (gives (files f.program) told.0);
     program = λ files told. loosely_as stop _ _ (λ is. inl is.0) (gives (files f.program) told.0);
     entries = λ files told. loosely_as stop _ _ (λ is. inl (inl is.0)) (gives (files f.program) told.0);
     ports = λ files told. loosely_as stop _ _ (λ is. inl (inl (inl is.0))) (gives (files f.program) told.0);
+    only = program_only stop only;
   }
 
   module _ (s : Syntax14) (answers : (file : Option (List ℕ)) → old.told f.program ≡ Some file → AnswersFile file (Ok s)) where
@@ -54,6 +57,7 @@ module _ (A : Type 0) (f : Run14Files) (old : DeskView) where
       program = λ files told. inr (inr (inr ((s, taken (files f.program) told.0), not_program stop (behind_program stop only))));
       entries = λ files told. loosely_as stop _ _ (λ is. inl (inr (s, taken (files f.program) told.0, is))) (gives files told.1.0);
       ports = λ files told. loosely_as stop _ _ (λ is. inl (inl (inr (s, taken (files f.program) told.0, is)))) (gives files told.1.0);
+      only = entries_only stop only;
     }
 
     module _ (e : Entries) (fill : (files : List ℕ → Option (List ℕ)) → old.told f.entries ≡ Some (files f.entries) → filled f files s ≡ Ok e) where
@@ -67,6 +71,7 @@ module _ (A : Type 0) (f : Run14Files) (old : DeskView) where
         program = λ files told. inr (inr (inr ((s, taken (files f.program) told.0), not_program stop (omega (arith, behind_entries stop only)))));
         entries = λ files told. inr (inr (inr ((s, e, has files told.0 told.1.0), not_entries stop (behind_entries stop only))));
         ports = λ files told. loosely_as stop _ _ (λ is. inl (inr (s, e, has files told.0 told.1.0, is))) (gives files told.1.1);
+        only = ports_only stop only;
       }
 
       -- nothing stops it before it writes
@@ -76,20 +81,22 @@ module _ (A : Type 0) (f : Run14Files) (old : DeskView) where
         program = λ files told. (s, taken (files f.program) told.0);
         entries = λ files told. (s, e, has files told.0 told.1.0);
         ports = λ files told. (s, e, ports, (has files told.0 told.1.0, gives files told.1.1));
+        only = tt;
       }
 
 -- what stopped the first part of the work stops all of it
 pub order_stopped : (A B : Type 0) (f : Run14Files) (old : DeskView) (stop : Stop) → InOrder {A = A} f old (Err stop) → InOrder {A = B} f old (Err stop)
-order_stopped A B f old stop order = record { once = order.once; program = order.program; entries = order.entries; ports = order.ports }
+order_stopped A B f old stop order = record { once = order.once; program = order.program; entries = order.entries; ports = order.ports; only = order.only }
 
 -- the capture is run behind it
 pub order_run : (A : Type 0) (f : Run14Files) (old : DeskView) (begun : A) → InOrder {A = A} f old (Ok begun) → (result : Result (Vec ℕ Global) Stop) → IfErr result (λ e. StopsRun e) → InOrder f old (line_view result)
-order_run A f old begun order (Ok line) stops = record { once = order.once; program = order.program; entries = order.entries; ports = order.ports }
+order_run A f old begun order (Ok line) stops = record { once = order.once; program = order.program; entries = order.entries; ports = order.ports; only = tt }
 order_run A f old begun order (Err stop) stops = record {
   once = λ files told. inr (inr (order.once files told));
   program = λ files told. inr (inr (inr (order.program files told, not_program stop (omega (arith, behind_ports stop stops)))));
   entries = λ files told. inr (inr (inr (order.entries files told, not_entries stop (omega (arith, behind_ports stop stops)))));
   ports = λ files told. inr (inr (inr (order.ports files told, not_ports stop (behind_ports stop stops))));
+  only = inr stops;
 }
 
 -- what is known of the program's file then is known at the end

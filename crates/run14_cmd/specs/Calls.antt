@@ -118,8 +118,13 @@ pub record PortStatuses (f : Run14Files) (files : Held) (status : ℕ) : Type 0 
   pub refused : ComesFirst status 5 (RefusesPorts f files) (TakesPorts f files)
   pub limit : ComesFirst status 6 (OverText f.program files ⊎ OverEntries f files ⊎ OverPorts f files) (TakesPorts f files)
 
+-- the statuses that `run14` can have
+abbrev pub IsRun14Status : ℕ → Type 0
+IsRun14Status status =
+    (status ≡ 0) ⊎ (status ≡ 1) ⊎ (status ≡ 3) ⊎ (status ≡ 4) ⊎ (status ≡ 5) ⊎ (status ≡ 6) ⊎ (status ≡ 7)
+
 -- The statuses of `run14`, each with its cause: the first in the order of the work. A cause asks of the desk only that
--- it tells the files that are read until it is found.
+-- it tells the files that are read until it is found. It has no others, whatever the desk tells.
 pub record Run14Statuses (f : Run14Files) (old : DeskView) (files : Held) (status : ℕ) : Type 0 where
   pub program : Tells (program_read f) old files → FirstStatuses f files status
   pub entries : Tells (entries_read f) old files → EntriesStatuses f files status
@@ -128,6 +133,7 @@ pub record Run14Statuses (f : Run14Files) (old : DeskView) (files : Held) (statu
   pub limit : Tells (run14_inputs f) old files
       → ComesWhere status 6 (OverText f.program files ⊎ OverEntries f files ⊎ OverPorts f files ⊎ OverCapture f files)
   pub accepted : Tells (run14_inputs f) old files → ComesWhere status 0 (Accepts f files)
+  pub only : IsRun14Status status
 
 -- The capture was refused: the sent file and the report hold what the whole records before the refused one give. They are
 -- empty where nothing of the capture is run.

@@ -22,8 +22,9 @@ use Rattle.p416_ast.specs.declared.program.Syntax16.{Syntax16}
 use Rattle.program16_file.specs.Answers.{ComesOnce}
 use Rattle.program16_file.specs.Programs.{ReadsOnce}
 use Rattle.program16_file.proofs.Stops.{one_program}
-use Rattle.run16_cmd.specs.Calls.{RanSo, FirstStatuses, EntriesStatuses, PortStatuses, Run16Statuses, RanBefore, Run16Kept, Run16Left, PacketsFit, EntriesFit, Run16Works, RefusesCapture, OverCapture}
+use Rattle.run16_cmd.specs.Calls.{RanSo, FirstStatuses, EntriesStatuses, PortStatuses, Run16Statuses, RanBefore, Run16Kept, Run16Left, PacketsFit, EntriesFit, Run16Works, RefusesCapture, OverCapture, IsRun16Status}
 use Rattle.run16_cmd.specs.Run16.{Run16Due, Begins, KeepsInOrder, capture_reports, delivered, program_read, setting_for, this_run, own_lines, ran_word}
+use Rattle.run16_cmd.proofs.Only.{status_of}
 use Rattle.run16_cmd.proofs.Judging.{program_first, entries_first, ports_first}
 use Rattle.run16_cmd.proofs.Statuses.{AllStatuses, KnownSo, due_ends, statuses_are, statuses_loose, begins_not}
 
@@ -174,6 +175,10 @@ module _ (f : Run16Files) (files : List ℕ → Option (List ℕ)) (old new : De
       refused = λ told. (all told).refused;
       limit = λ told. (all told).limit;
       accepted = λ told. (all told).accepted;
+      only = elim e.says.said [
+        | inl whole ↦ subst (λ (n : ℕ). IsRun16Status n) (sym whole.0) (status_of e.end e.is.order.only)
+        | inr cut ↦ inr (inl cut.0)
+      ];
     }
 
     pub run16_ran : Tells (run16_inputs f) old files → (old.told f.sent ≡ None → ⊥) × (old.told f.report ≡ None → ⊥) → status ≡ 0 → RanSo f files new before after

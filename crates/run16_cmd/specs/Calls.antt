@@ -114,8 +114,13 @@ pub record PortStatuses (f : Run16Files) (files : Held) (status : ℕ) : Type 0 
   pub refused : ComesFirst status 5 (RefusesPorts f files) (TakesPorts f files)
   pub limit : ComesFirst status 6 (OverText f.text files ⊎ OverEntries f files ⊎ OverPorts f files) (TakesPorts f files)
 
+-- the statuses that `run16` can have
+abbrev pub IsRun16Status : ℕ → Type 0
+IsRun16Status status =
+    (status ≡ 0) ⊎ (status ≡ 1) ⊎ (status ≡ 4) ⊎ (status ≡ 5) ⊎ (status ≡ 6) ⊎ (status ≡ 7) ⊎ (status ≡ 8)
+
 -- The statuses of `run16`, each with its cause: the first in the order of the work. A cause asks of the desk only that
--- it tells the files that are read until it is found.
+-- it tells the files that are read until it is found. It has no others, whatever the desk tells.
 pub record Run16Statuses (f : Run16Files) (old : DeskView) (files : Held) (status : ℕ) : Type 0 where
   pub program : Tells (program_read f) old files → FirstStatuses f files status
   pub entries : Tells (entries_read f) old files → EntriesStatuses f files status
@@ -124,6 +129,7 @@ pub record Run16Statuses (f : Run16Files) (old : DeskView) (files : Held) (statu
   pub limit : Tells (run16_inputs f) old files
       → ComesWhere status 6 (OverText f.text files ⊎ OverEntries f files ⊎ OverPorts f files ⊎ OverCapture f files)
   pub accepted : Tells (run16_inputs f) old files → ComesWhere status 0 (Accepts f files)
+  pub only : IsRun16Status status
 
 -- The capture was refused: the sent file and the report hold what the whole records before the refused one give. They are
 -- empty where nothing of the capture is run.

@@ -17,7 +17,7 @@ returns-in_err-program-clause-stops g c = λ files told.
 pub returns-in_err-program-clause-order : goal.returns-in_err-program-clause-order
 returns-in_err-program-clause-order g c =
     let p = err_from_is_err_and c.from_residual.result c.from_residual.ensures.1 in
-    rw (p.1, p.2) (order_program _ (run14_files_of c.args.names.now) _ _ c.in_err-program.ensures.gives)
+    rw (p.1, p.2) (order_program _ (run14_files_of c.args.names.now) _ _ c.in_err-program.ensures.only c.in_err-program.ensures.gives)
 
 pub returns-in_err-signature-clause-order : goal.returns-in_err-signature-clause-order
 returns-in_err-signature-clause-order g c =
