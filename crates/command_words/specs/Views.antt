@@ -1,4 +1,4 @@
--- How contracts see the commands of the code.
+-- How contracts see the commands of the code (this project's own).
 use Rattle.std.specs.Prelude.{option_map}
 use Rattle.command_words.specs.declared.command.CarryNames.{CarryNames}
 use Rattle.command_words.specs.declared.command.Run14Names.{Run14Names}

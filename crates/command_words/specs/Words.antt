@@ -137,6 +137,7 @@ bound_of word = if nat_lt 10 (length word) then None else positive (decimal_up_t
 abbrev pub default_passes : ℕ
 default_passes = 256
 
+-- the bound by the word that was found for it, or the one where none is given
 abbrev pub passes_in : Option (List ℕ) → Option ℕ
 passes_in None = Some default_passes
 passes_in (Some word) = bound_of word
@@ -208,6 +209,7 @@ carry_by program entries capture ports None (Some passes) (Some text) (Some sent
     carry_with program entries capture ports passes text sent report
 carry_by program entries capture ports rule passes text sent report = None
 
+-- the files by the options that were found
 abbrev pub carry_found : List ℕ → List ℕ → List ℕ → Options → Option CarryFiles
 carry_found program entries capture o =
     carry_by program entries capture o.ports o.rule (passes_in o.passes) o.text o.sent o.report
@@ -240,6 +242,7 @@ run14_by program entries capture ports None (Some rule) (Some passes) (Some sent
     run14_with program entries capture ports rule passes sent report
 run14_by program entries capture ports text rule passes sent report = None
 
+-- the files by the options that were found
 abbrev pub run14_found : List ℕ → List ℕ → List ℕ → Options → Option Run14Files
 run14_found program entries capture o =
     run14_by program entries capture o.ports o.text (rule_in o.rule) (passes_in o.passes) o.sent o.report
@@ -271,6 +274,7 @@ run16_by text entries capture ports None None (Some passes) (Some sent) (Some re
     run16_with text entries capture ports passes sent report
 run16_by text entries capture ports written rule passes sent report = None
 
+-- the files by the options that were found
 abbrev pub run16_found : List ℕ → List ℕ → List ℕ → Options → Option Run16Files
 run16_found text entries capture o =
     run16_by text entries capture o.ports o.text o.rule (passes_in o.passes) o.sent o.report

@@ -32,7 +32,7 @@ pub enum Stop {
     Fault,
     /// The words are no form of a command: status 2.
     Usage,
-    /// The program isn't one that is taken: status 3.
+    /// The program breaks no rule and isn't of the form that `carry` takes, which is told as C25: status 3.
     Program,
     /// The program breaks an L, S or C rule: status 3.
     Judged(Fault),

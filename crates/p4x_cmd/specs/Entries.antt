@@ -1,4 +1,4 @@
--- What stands in the tables of a program.
+-- What stands in the tables of a program (P4_16 1.2, "Match-action unit invocation"; the form of entries is this project's own).
 use Rattle.std.specs.Prelude.{ℕ, [], map, None, slice_index_or}
 use Rattle.match_core.specs.declared.signatures.Signature.{Signature}
 use Rattle.match_core.specs.declared.entries.TableFill.{TableFill}

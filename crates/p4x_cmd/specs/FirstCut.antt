@@ -54,6 +54,7 @@ is_simple_call c (call (name text) (argument no_arguments (name of))) =
     bytes_eq text (codes "mark_to_drop") && bytes_eq of c.standard
 is_simple_call c _ = false
 
+-- blocks, assignments, such calls, and `if` with `else`
 abbrev pub is_simple : Scope → Stmt16 → Bool
 is_simple c no_statements = true
 is_simple c ((then) before last) = is_simple c before && is_simple c last
@@ -85,6 +86,7 @@ is_keyless (Actions names) = true
 is_keyless (DefaultAction a no_arguments) = true
 is_keyless _ = false
 
+-- actions without parameters, and tables without keys
 abbrev pub is_simple_local : Scope → Local → Bool
 is_simple_local c (Action a) =
     list_all is_plain_note a.notes && length a.parameters == 0 && is_simple c a.body
@@ -98,6 +100,7 @@ is_single kind.Bool = true
 is_single (kind.Named text None) = true
 is_single _ = false
 
+-- a field that is no stack
 abbrev pub is_simple_field : StructField → Bool
 is_simple_field f = list_all is_plain_note f.notes && is_single f.of
 
@@ -106,6 +109,7 @@ abbrev pub scope_of : Syntax16 → Control16 → Scope
 scope_of s c =
     if bytes_eq c.name (main_at s 5) then deparser_scope s c.parameters else control_scope s c.parameters
 
+-- header types, structs, parsers of one state, and controls of such statements
 abbrev pub is_simple_decl : Syntax16 → Decl16 → Bool
 is_simple_decl s (Header h) = true
 is_simple_decl s (Struct t) = list_all is_simple_field t.fields

@@ -36,11 +36,12 @@ fn run<D: Desk, K: Sink>(alloc: Global, words: &[String], desk: &mut D, out: &mu
     say_end(out, end)
 }
 
-/// Runs a command line over a desk of files, prints one line to a sink and answers the status.
+/// Runs a command line over a desk of files, prints the line of its end to a sink, of `order` a line for each name, and answers the status.
 ///
 /// The words are `carry PROGRAM ENTRIES CAPTURE --text F --sent F --report F [--ports F] [--passes N]`, with the options in any order,
 /// `check PROGRAM`, `order PROGRAM`, `run14 PROGRAM ENTRIES CAPTURE --sent F --report F [--ports F] [--rule R] [--passes N]`, or
-/// `run16 TEXT ENTRIES CAPTURE --sent F --report F [--ports F] [--passes N]`. The status is 0
+/// `run16 TEXT ENTRIES CAPTURE --sent F --report F [--ports F] [--passes N]`. N is 1 to 65,536 passes for each packet and what comes of it,
+/// 256 where it isn't given; R is `sequential`, as where it isn't given, or `parallel`. The status is 0
 /// where the program was carried or ran, or is accepted; 1 after a fault of a file that the words name or of the sink;
 /// 2 where the words are no form of a command; 3 where the P4_14 program isn't taken: where its text breaks one of the rules L1 to L4, S1
 /// and C1 to C28, and by `carry` also where it isn't of the one-table form; 4 by `carry` where the entries file has an octet, and by
@@ -69,7 +70,7 @@ pub fn p4x<D: Desk, K: Sink>(alloc: Global, words: &[String], desk: &mut D, out:
         (D.view desk.old) (D.view desk.new) (K.view out.old) (K.view out.new) }
     // No file but the outputs changes, and what these hold by the status.
     ensures files { FilesLeft (form (map string_bytes words.now)) (D.view desk.old) (D.view desk.new) result }
-    // One line is printed, that of the status; or a front of it, with status 1, where the sink failed.
+    // What the end says is printed: one line, or of `order` the lines of its names; or a front of it, with status 1, where the sink failed.
     ensures line { Ended (IsEnd (form (map string_bytes words.now)) (D.view desk.old)) (K.view out.old) (K.view out.new) result }
     // All of it in one: the work ends with its files, and then its line is printed.
     ensures outcome { Ended (WorksFor (form (map string_bytes words.now)) (D.view desk.old) (D.view desk.new)) (K.view out.old)

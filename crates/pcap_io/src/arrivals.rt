@@ -11,7 +11,7 @@ use p4x_bits::{OutOfMemory, Rows};
 use std::alloc::Global;
 use std::collections::VecDeque;
 
-/// The packet of a record, as it comes in on the first of the ports, and on port 0 where there is none; and
+/// The packet of a record, as it comes in on the first of the ports, each 0 to 510, and on port 0 where there is none; and
 /// the ports behind the first, on which the packets of the records behind it come in. It takes no memory.
 pub fn arrive(one: Record, ports: &[u128]) -> (Arrival, &[u128])
     requires { All IsPort ports.now }

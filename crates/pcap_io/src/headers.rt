@@ -36,7 +36,7 @@ pub fn file_header(link: u32, nano: bool) -> [u8; 24]
     ]
 }
 
-/// The header of a record with these times and this length, which is both the captured and the original
+/// The header of a record with these times and this length in octets, which is both the captured and the original
 /// one. It takes no memory.
 #[tactic(auto, using(crate::proofs::Written::record_octets))]
 pub fn record_header(seconds: u32, fraction: u32, length: u32) -> [u8; 16]

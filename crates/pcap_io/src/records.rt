@@ -19,7 +19,7 @@ pub const LONGEST_RECORD: u32 = 65_535;
 pub struct Record {
     /// What was captured of it, at most `LONGEST_RECORD` octets.
     pub octets: Octets,
-    /// The seconds of its time.
+    /// The seconds of its time, since the beginning of 1970 (pcap-savefile(5), "Packet Header").
     pub seconds: u32,
     /// The fraction of its time: microseconds or nanoseconds.
     pub fraction: u32,

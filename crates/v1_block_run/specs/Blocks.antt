@@ -1,4 +1,4 @@
--- Which block a ready block is, and which one can be run.
+-- Which block a ready block is, and which one can be run (this project's own).
 use Rattle.std.specs.Prelude.{ℕ, ◌<◌, List, length, map, All, option_map}
 use Rattle.v1_ready_expressions.specs.Nodes.{ready_at}
 use Rattle.v1_ready_blocks.specs.Nodes.{statement_at}
@@ -11,9 +11,11 @@ use Rattle.v1_block_run.specs.declared.block.ReadyAction.{ReadyAction}
 use Rattle.v1_block_run.specs.declared.block.ReadyTable.{ReadyTable}
 use Rattle.v1_block_run.specs.declared.block.ReadyBlock.{ReadyBlock}
 
+-- the call that a table's default is
 abbrev pub seen_chosen : Chosen → tables.Chosen
 seen_chosen k = record { action = k.action; number = k.number; arguments = k.arguments }
 
+-- which table of the definitions a ready table is
 abbrev pub seen_table : ReadyBlock → ReadyTable → tables.Table
 seen_table b t = record {
   number = t.number;
@@ -23,12 +25,15 @@ seen_table b t = record {
   default = option_map seen_chosen t.default;
 }
 
+-- the statement that an action's body is
 abbrev pub seen_body : ReadyBlock → ReadyAction → Statement
 seen_body b a = statement_at (trees_of b.code) a.body
 
+-- the slots of an action's parameters
 abbrev pub seen_parameters : ReadyAction → List ℕ
 seen_parameters a = a.parameters
 
+-- which block of the definitions a ready block is
 abbrev pub seen_block : ReadyBlock → Block
 seen_block b = record {
   bodies = map (seen_body b) b.actions;
@@ -42,10 +47,10 @@ abbrev pub count_of : ReadyBlock → ℕ
 count_of b = length b.code.statements.nodes
 
 -- what is named by its place is there
-
 pub record HasBody (count : ℕ) (a : ReadyAction) : Type 0 where
   pub body : a.body < count
 
+-- a block that can be run: its nodes are in order, and each body is there
 pub record IsRunnable (b : ReadyBlock) : Type 0 where
   pub code : IsCode b.code
   pub bodies : All (HasBody (count_of b)) b.actions

@@ -1,4 +1,4 @@
--- What a node of a statement does, and what a step comes to.
+-- What a node of a statement does, and what a step comes to (P4_16 1.2, "Statements").
 use Rattle.std.specs.Prelude.{◌≡◌, ℕ, ◌+◌, ◌<◌, ◌%◌, ◌^◌, Bool, true, false, if◌then◌else◌, List, ◌∷◌, Option, Some, None, IfSome}
 use Rattle.v1_sem.specs.Values.{is_true}
 use Rattle.v1_ready_blocks.specs.declared.nodes.StatementNode.{StatementNode}
@@ -47,13 +47,16 @@ arranged w ran ts _ m = m
 
 -- what one does that counts, once it is counted
 
+-- what a branch leaves
 abbrev pub branched : World → Test → Statement → Statement → Moment → Moment
 branched w c positive negative m =
     with_test (test_value w.apply c m) (λ v n. if is_true v then run w None positive n else run w None negative n)
 
+-- what a switch leaves
 abbrev pub switched : World → ℕ → Statement → Moment → Moment
 switched w table cases m = let a = w.apply table m in run w a.action cases a.moment
 
+-- what a node that counts leaves
 abbrev pub begun : World → List Tree → StatementNode → Moment → Moment
 begun w ts (node.Assign to slice a) m = done w.apply (assign to slice (test_at ts a)) m
 begun w ts (node.AssignParts to a) m = done w.apply (assign_parts to (source_at ts a)) m
@@ -92,10 +95,12 @@ pub record Opens (b : ReadyBlock) (at : Level) (ran : Option ℕ) (place : ℕ) 
 
 -- calls
 
+-- what a task leaves, if there is one
 abbrev pub done_by : (ℕ → Moment → Applied) → ReadyBlock → Option Task → Moment → Moment
 done_by runs b None m = m
 done_by runs b (Some t) m = task_done runs b t m
 
+-- how many steps a task takes at most, if there is one
 abbrev pub steps_of : ReadyBlock → Option Task → ℕ
 steps_of b None = 0
 steps_of b (Some t) = task_steps b t

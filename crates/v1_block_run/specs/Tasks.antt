@@ -1,4 +1,4 @@
--- What tasks come to, one after another, and how many steps they take at most.
+-- What tasks come to, one after another, and how many steps they take at most (this project's own).
 use Rattle.std.specs.Prelude.{ℕ, zero, suc, ◌+◌, ◌<◌, List, [], ◌∷◌, length}
 use Rattle.v1_ready_blocks.specs.Moments.{Moment, going_on}
 use Rattle.v1_ready_blocks.specs.Tests.{World, Applied, no_table_applies}
@@ -60,15 +60,18 @@ steps body (switch table cases) = 1 + steps body cases
 steps body (labelled action a cases) = 1 + steps body a + steps body cases
 steps body (otherwise a) = 1 + steps body a
 
+-- how many steps the body of an action takes at most, where calls nest so deep
 abbrev pub body_steps : Block → ℕ → ℕ → ℕ
 body_steps b zero action = 0
 body_steps b (suc calls) action = steps (body_steps b calls) (body_of b action)
 
+-- how many steps a task takes at most
 abbrev pub task_steps : ReadyBlock → Task → ℕ
 task_steps b (task.Run at place ran) =
     steps (body_steps (seen_block b) (calls_at (seen_block b) at)) (statement_at (trees_of b.code) place)
 task_steps b (task.Return place) = 1
 
+-- how many steps tasks take together at most
 abbrev pub load : ReadyBlock → List Task → ℕ
 load b [] = 0
 load b (t ∷ tasks) = task_steps b t + load b tasks

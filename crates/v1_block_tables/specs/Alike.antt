@@ -1,4 +1,4 @@
--- Tables and what fills them.
+-- Tables and what fills them (this project's own).
 use Rattle.std.specs.Prelude.{◌≡◌, ℕ, List, slice_index_or}
 use Rattle.match_core.specs.Best.{Filled}
 use Rattle.match_core.specs.declared.entries.TableFill.{TableFill}

@@ -1,4 +1,4 @@
--- What parts of an application come to.
+-- What parts of an application come to (P4_16 1.2, "Match-action unit execution semantics").
 use Rattle.std.specs.Prelude.{ℕ, List, slice_index_or, Option}
 use Rattle.match_core.specs.declared.entries.Entry.{Entry}
 use Rattle.match_core.specs.declared.entries.DefaultCall.{DefaultCall}

@@ -1,4 +1,4 @@
--- Which parts of a block its tables ask for, and what a look-up finds.
+-- Which parts of a block its tables ask for, and what a look-up finds (this project's own).
 use Rattle.std.specs.Prelude.{ℕ, ◌<◌, List, length, All}
 use Rattle.v1_frames.specs.Cells.{Cells}
 use Rattle.v1_frames.specs.Layouts.{Layout}

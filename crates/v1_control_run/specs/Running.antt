@@ -1,4 +1,4 @@
--- What contracts see of what runs the blocks of a program.
+-- What contracts see of what runs the blocks of a program (this project's own).
 use Rattle.std.specs.Prelude.{refl}
 use Rattle.std.specs.Coded.{Coded, code_by, coded×}
 use Rattle.state_store.specs.contracts.state.Store as objects

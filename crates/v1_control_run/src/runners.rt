@@ -23,10 +23,15 @@ use v1_sem::Block;
 /// What runs the controls of a program on one packet after another.
 #[derive(Drop)]
 pub struct Runners<'r> {
+    /// The control that verifies checksums.
     pub verify: BlockRunner<'r, 'r>,
+    /// The ingress.
     pub ingress: BlockRunner<'r, 'r>,
+    /// The egress.
     pub egress: BlockRunner<'r, 'r>,
+    /// The control that computes checksums.
     pub compute: BlockRunner<'r, 'r>,
+    /// The deparser.
     pub deparse: BlockRunner<'r, 'r>,
 }
 

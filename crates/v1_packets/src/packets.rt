@@ -26,7 +26,8 @@ use v1_frames::{Frame, FrameLayout};
 use v1_pass_slots::{PassSlots, pass_slots};
 
 /// What the passes of a packet under a program do to its frame between two blocks. It borrows the program and the layout of its
-/// frames. Contracts see the program's syntax.
+/// frames (`v1model.p4`, `standard_metadata_t`; the kinds and what is preserved are this project's own). Contracts see the program's
+/// syntax.
 #[derive(Drop)]
 pub struct Packets<'p> {
     syntax: &'p Syntax16,
@@ -229,8 +230,8 @@ impl<'p> Packets<'p> {
         }
     }
 
-    /// A frame as a pass begins: of so many octets that came in on this port, of this kind, with what is kept of metadata, by the
-    /// numbers in its slots. All other numbers are 0, all headers are invalid, and all stacks are at place 0. The one error is want
+    /// A frame as a pass begins: of so many octets that came in on this port, 0 to 510, of this kind, as
+    /// `standard_metadata.instance_type` tells it, with what is kept of metadata, by the numbers in its slots. All other numbers are 0, all headers are invalid, and all stacks are at place 0. The one error is want
     /// of memory.
     #[tactic(auto, using(crate::proofs::Begun::begun))]
     pub fn begin(
@@ -298,7 +299,7 @@ impl<'p> Packets<'p> {
         frame.get(found.fields.packet_length) as u32
     }
 
-    /// The frame as egress begins, on this port, of this kind.
+    /// The frame as egress begins, on this port, 0 to 510, of this kind.
     #[tactic(auto, using(crate::proofs::Begun::slot_there, crate::proofs::Begun::number_there))]
     pub fn enter_egress(&self, frame: &mut Frame<'_>, port: u16, kind: u32)
         requires frame { IsFrameOf self.now frame.old }
@@ -331,7 +332,7 @@ impl<'p> Packets<'p> {
         Ok(kept)
     }
 
-    /// The frame of a clone made behind egress, of a packet that came in on this port. The one error is want of memory.
+    /// The frame of a clone made behind egress, of a packet that came in on this port, 0 to 510. The one error is want of memory.
     pub fn clone_frame(
         &self,
         alloc: Global,

@@ -1,4 +1,4 @@
--- What the states of a parser are made of, by its places.
+-- What the states of a parser are made of, by its places (this project's own).
 use Rattle.std.specs.Prelude.{ℕ, ◌<◌, ◌^◌, List, length, slice_index, Option, Some, None, All}
 use Rattle.state_store.specs.declared.shapes.Shape.{Shape}
 use Rattle.v1_sem.specs.declared.parser_error.ParserError.{ParserError}
@@ -21,6 +21,7 @@ pub record Made : Type 0 where
   pub expressions : List Ready
   pub statements : List Tree
 
+-- the state, the states and the parser of the definitions that ready ones are
 abbrev pub made_state : Made → ReadyState → State
 made_state made r = state_of made.expressions made.statements r
 
@@ -40,6 +41,7 @@ pub record HoldsErrors (l : Layout) (slot : ℕ) : Type 0 where
   pub there : IsSlot l slot
   pub wide : (e : ParserError) → error_number e < 2 ^ slice_index l.widths slot
 
+-- all that a ready parser names by its place is there
 pub record FitsParser (made : Made) (r : ReadyParser) : Type 0 where
   pub headers : IsRange made.layout r.headers
   pub error : HoldsErrors made.layout r.error

@@ -1,4 +1,4 @@
--- When a parser's machine works on a packet, what the parser is made of, and which moment that is.
+-- When a parser's machine works on a packet, what the parser is made of, and which moment that is (this project's own).
 use Rattle.std.specs.Prelude.{ℕ, ◌≤◌, List, drop, length, Option, Some, None}
 use Rattle.state_store.specs.State.{Contents}
 use Rattle.v1_sem.specs.declared.parser_error.ParserError.{ParserError}

@@ -1,4 +1,4 @@
--- The codes of the values of v1_sem. Proofs tell values apart by them.
+-- The codes of the values of v1_sem. Proofs tell values apart by them (this project's own).
 use Rattle.std.proofs.Common.{inl, inr}
 use Rattle.std.specs.Prelude.{◌⊎◌, ℕ, Bool, true, false, List, [], ◌∷◌, ◌++◌, Option, refl}
 use Rattle.std.specs.Coded.{Coded, code_by, coded×, coded⊎, coded_ℕ, coded_bool, coded_list, coded_option}

@@ -40,10 +40,11 @@ pub record IsBitsAt (syntax : Syntax16) (part : FramePart) (width slot : ℕ) : 
   pub found : part_seat syntax part ≡ Some (record { depth = depth; form = slot_form (some_bits width); start = start; owner = owner })
   pub at : start.slot ≡ slot
 
--- there is a slot with this number; and this number fits it
+-- there is a slot with this number
 pub record HasSlot (syntax : Syntax16) (slot : ℕ) : Type 0 where
   pub there : slot < length (layout16 syntax).widths
 
+-- this number fits the slot
 pub record SlotHolds (syntax : Syntax16) (slot n : ℕ) : Type 0 where
   pub fits : n < 2 ^ slice_index (layout16 syntax).widths slot
 

@@ -1,4 +1,4 @@
--- What stands between two packets of a run, and what one packet more leaves.
+-- What stands between two packets of a run, and what one packet more leaves (this project's own).
 use Rattle.std.specs.Prelude.{ℕ, List}
 use Rattle.state_store.specs.State.{Contents}
 use Rattle.fabric.specs.declared.items.Event.{Event}
@@ -8,6 +8,7 @@ use Rattle.v1_sem.specs.Surroundings.{Setting}
 use Rattle.v1_sem.specs.Runs.{machine16}
 use Rattle.v1_sem.specs.Passes.{Between}
 
+-- what stands between two packets, by its parts
 abbrev pub between_of : Contents → ℕ → List Event → Between
 between_of store work events = record { store = store; work = work; events = events }
 

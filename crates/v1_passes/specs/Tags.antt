@@ -18,10 +18,12 @@ use Rattle.v1_sem.specs.Surroundings.{Setting}
 use Rattle.v1_sem.specs.Passes.{Between, Held, none_preserved, ingress16, reparse16, egress16}
 use Rattle.v1_passes.specs.Codes.{coded_value, coded_held}
 
+-- a value with the program that it is of
 pub record Tagged (A : Type 0) : Type 0 where
   pub program : Syntax16
   pub value : A
 
+-- codes of such values, by which proofs tell them apart
 abbrev pub coded_tagged : {A : Type 0} → Coded A → Coded (Tagged A)
 coded_tagged {A = A} coded =
     code_by (Syntax16 × A) (coded× declaration.the_row.coded coded) (λ t. (t.program, t.value)) (λ p. record { program = p.0; value = p.1 }) (λ _. refl)
@@ -32,9 +34,11 @@ coded_kept = coded_tagged coded_value
 abbrev pub coded_hold : Coded (Tagged Held)
 coded_hold = coded_tagged coded_held
 
+-- a value with the program of a setting
 abbrev pub tagged : {A : Type 0} → Setting → A → Tagged A
 tagged c x = record { program = c.syntax; value = x }
 
+-- the same of a clone, and of the ends of ingress and of egress
 abbrev pub tagged_clone : {A : Type 0} → Setting → ℕ × A → ℕ × Tagged A
 tagged_clone c asked = (asked.0, tagged c asked.1)
 

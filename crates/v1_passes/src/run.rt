@@ -25,7 +25,7 @@ pub struct Runner16<'r, B: Blocks<'r> + Drop> {
     pub passes: Passes16<'r, B>,
     /// The clone sessions.
     pub sessions: &'r [Session],
-    /// How many passes a packet and all that comes of it make at most.
+    /// How many passes a packet and all that comes of it make at most, 1 to 65,536.
     pub bound: u32,
 }
 
@@ -47,10 +47,11 @@ impl<'r, B: Blocks<'r> + Drop> Runner16<'r, B> {
         }
     }
 
-    /// A packet comes in: it makes its passes, and so does what comes of it. It gives what was sent and how many items were cut.
+    /// A packet comes in, on a port from 0 to 510: it makes its passes, and so does what comes of it. It gives what was sent and how
+    /// many items were cut.
     ///
     /// # Errors
-    /// It fails for want of memory alone.
+    /// It fails for want of memory alone, and then the runner isn't used again.
     #[tactic(auto, using(crate::proofs::Twins::one_fate))]
     pub fn one(&mut self, arrival: &Arrival) -> Result<Fate, OutOfMemory>
         requires sessions { AreSessions self.old.sessions.now }
@@ -75,7 +76,7 @@ impl<'r, B: Blocks<'r> + Drop> Runner16<'r, B> {
     /// taken: behind it others stand there, of no account but for the memory that they have.
     ///
     /// # Errors
-    /// It fails for want of memory alone.
+    /// It fails for want of memory alone, and then the runner isn't used again.
     pub fn one_into(&mut self, arrival: &mut Arrival, fate: &mut Fate) -> Result<(), OutOfMemory>
         requires sessions { AreSessions self.old.sessions.now }
         requires bound { IsBound self.old.bound }

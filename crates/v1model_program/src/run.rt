@@ -44,7 +44,8 @@ fn run_over<'r>(
 /// What a program does with packets that come in one after another, with these entries, where each packet and all that comes of it
 /// make at most `bound` passes: what it sends, the counters, registers and meters that it leaves, how many items were cut, and how
 /// many statements and transitions began, the last two modulo 2^64 (`v1model.p4`, `V1Switch`; the fabric and the count are this
-/// project's own). The run begins with all cells 0 and the meter colours of the entries.
+/// project's own). The run begins with all cells 0 and the meter colours of the entries. A bound is 1 to 65,536 passes, and packets
+/// come in on ports 0 to 510.
 ///
 /// # Errors
 /// It fails for want of memory alone, which a program of 2^32 tables or more counts as.

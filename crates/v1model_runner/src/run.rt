@@ -42,7 +42,8 @@ fn first_blocks<'s>(
 /// What a program does with packets that come in one after another, where each packet and all that comes of it make at most `bound`
 /// passes: what it sends, the counters, registers and meters that it leaves, how many items were cut, and how many statements and
 /// transitions began, the last two modulo 2^64 (`v1model.p4`, `V1Switch`; the fabric and the count are this project's own). All
-/// counters and registers are 0 at first, and the meters have the colours of the entries.
+/// counters and registers are 0 at first, and the meters have the colours of the entries. A bound is 1 to 65,536 passes, and packets
+/// come in on ports 0 to 510.
 ///
 /// # Errors
 /// It fails for want of memory alone.
@@ -70,8 +71,8 @@ pub fn run_ready16(
     Ok(run)
 }
 
-/// A program that runs on one packet after another, where a packet and all that comes of it make at most `bound` passes, before its
-/// first packet. The one error is want of memory.
+/// A program that runs on one packet after another, where a packet and all that comes of it make at most `bound` passes, 1 to 65,536,
+/// before its first packet. The one error is want of memory.
 #[tactic(auto, using(crate::proofs::Running::begins))]
 pub fn runner16<'s>(
     alloc: Global,
@@ -91,7 +92,7 @@ pub fn runner16<'s>(
     Ok(Runner16::new(alloc, blocks, sessions, bound))
 }
 
-/// A packet more: what `Runner16::one` does, over the packets so far. Behind it the runner stands where the run over the packets so
+/// A packet more, on a port from 0 to 510: what `Runner16::one` does, over the packets so far. Behind it the runner stands where the run over the packets so
 /// far and this one ends, and what was sent and how many items were cut is what that run has more. The one error is want of memory,
 /// after which the runner isn't used again.
 #[tactic(auto, using(crate::proofs::Running::comes_next, crate::proofs::Running::behind_next))]

@@ -1,4 +1,4 @@
--- How contracts see the options that were found.
+-- How contracts see the options that were found (this project's own).
 use Rattle.std.specs.Prelude.{option_map}
 use Rattle.command_words.specs.declared.options.Found.{Found}
 use Rattle.command_words.specs.Words.{Options}

@@ -1,4 +1,4 @@
--- What the phases of `carry` answer.
+-- What the phases of `carry` answer (this project's own).
 use Rattle.std.specs.Prelude.{◌≡◌, ℕ, List, Option, Result, Ok, Err}
 use Rattle.p416_ast.specs.declared.program.Syntax16.{Syntax16}
 use Rattle.p416_reader.specs.Reading.{Reads16}

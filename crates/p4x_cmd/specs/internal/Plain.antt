@@ -1,4 +1,4 @@
--- What a program of the one-table form comes to with one packet: the plain program beside its meaning.
+-- What a program of the one-table form comes to with one packet: the plain program beside its meaning (this project's own).
 use Rattle.std.specs.Prelude.{◌≡◌, ℕ, ◌*◌, ◌%◌, ◌==◌, ◌≤◌, nat_lt, if◌then◌else◌, List, [], ◌∷◌, length, sum_by, Option, None, Some}
 use Rattle.std.proofs.Common.{refl, leb-true}
 use Rattle.state_store.specs.Ports.{drop_port}

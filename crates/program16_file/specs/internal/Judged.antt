@@ -1,4 +1,4 @@
--- What private functions answer.
+-- What private functions answer (this project's own).
 use Rattle.std.specs.Prelude.{◌≡◌, List, ℕ, Result, Ok, Err}
 use Rattle.p416_ast.specs.declared.program.Syntax16.{Syntax16}
 use Rattle.file_work.specs.declared.stop.Stop.{Stop}

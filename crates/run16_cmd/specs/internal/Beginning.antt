@@ -1,4 +1,4 @@
--- What the work has before anything is written, and what it is blamed on behind that.
+-- What the work has before anything is written, and what it is blamed on behind that (this project's own).
 use Rattle.std.specs.Prelude.{◌⊎◌}
 use Rattle.p4x_io.specs.Desk.{DeskView, Rose}
 use Rattle.command_words.specs.Words.{Run16Files}

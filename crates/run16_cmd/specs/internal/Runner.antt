@@ -1,4 +1,4 @@
--- The program of a command as a runner of packets.
+-- The program of a command as a runner of packets (this project's own).
 use Rattle.std.specs.Prelude.{ℕ, List, ◌++◌, ◌≤◌}
 use Rattle.std.proofs.Common.{arith, min}
 use Rattle.state_store.specs.declared.ports.Session.{Session}

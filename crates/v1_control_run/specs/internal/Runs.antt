@@ -1,4 +1,4 @@
--- What runs the blocks keeps from packet to packet, and how a run begins and ends.
+-- What runs the blocks keeps from packet to packet, and how a run begins and ends (this project's own).
 use Rattle.std.specs.Prelude.{◌≡◌, ℕ, Bool, true, List, None}
 use Rattle.p4x_bits.specs.BitLists.{octet_bits, IsOctets}
 use Rattle.state_store.specs.State.{Contents}

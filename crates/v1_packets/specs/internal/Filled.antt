@@ -1,4 +1,4 @@
--- What putting numbers into slots one after another changes.
+-- What putting numbers into slots one after another changes (this project's own).
 use Rattle.std.specs.Prelude.{◌≡◌, ℕ, ◌-◌, ◌<◌, ◌≤◌, ◌⊎◌, List, length, slice_index_or, None}
 use Rattle.v1_frames.specs.Layouts.{Layout}
 use Rattle.v1_frames.specs.Cells.{Cells, slot_value}

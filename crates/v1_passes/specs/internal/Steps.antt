@@ -1,4 +1,4 @@
--- The ends of ingress and of egress by the frame that they leave.
+-- The ends of ingress and of egress by the frame that they leave (this project's own).
 use Rattle.std.specs.Prelude.{◌≡◌, ℕ, Bool, ◌==◌, if◌then◌else◌, List, ◌++◌, Option, Some, None, option_map, codes}
 use Rattle.state_store.specs.Ports.{drop_port}
 use Rattle.state_store.specs.State.{Contents}
