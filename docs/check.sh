@@ -123,7 +123,7 @@ carry 0 'carried 1 1 0' text 54 34 p1.p4 entries.txt in.pcap
 printf 'sent 3 14\nin 1\nout 1\ncut 0\nwork 6\n' | cmp -s - report.txt || wrong 'the report is another'
 awk '/^## The written text$/ { here = 1 } here && /^```$/ { inside = !inside; next } inside' "$top/docs/LANGUAGE16.md" | sed -n "1,$(wc -l <text)p" | cmp -s - text ||
     wrong 'docs/LANGUAGE16.md has another text'
-sed -n '/^```$/,/^```$/p' "$top/README.md" | sed -n 2,7p | cmp -s - p1.p4 || wrong 'README.md has another program'
+awk '/^These six lines of P4_14/ { here = 1 } here && /^```$/ { if (inside) exit; inside = 1; next } inside' "$top/README.md" | cmp -s - p1.p4 || wrong 'README.md has another program'
 carry 5 'refused P2 at 2:1' none none none p1.p4 entries.txt in.pcap --ports ports.txt
 cp in.pcap kept.pcap
 words='an output that is the capture'
