@@ -146,7 +146,7 @@ fn is_so(alloc: Global, ran: Ran, row: &'static [u8]) -> Result<bool, Fail> {
 fn check_row(rt: &(impl Abort + AllocGlobal), ran: Ran, row: &'static [u8]) -> Result<(), Fail> {
     let (name, row) = cell(row);
     let so = is_so(rt.alloc(), ran, row)?;
-    assert!(rt; so, "{}", name_of(name));
+    assert!(rt; so, "{}: {}", ran.word(), name_of(name));
     Ok(())
 }
 
