@@ -16,8 +16,8 @@ loose_only stop (inr memory) = inr (inr (inl memory))
 pub program_only : (stop : Stop) → IsProgramStop stop → OfRun14 stop
 program_only stop (inl fault) = inr (inl fault)
 program_only stop (inr (inl memory)) = inr (inr (inl memory))
-program_only stop (inr (inr (inl refused))) = inl (inl (inl (inl refused)))
-program_only stop (inr (inr (inr limit))) = inl (inl (inl (inr limit)))
+program_only stop (inr (inr (inl judged))) = inl (inl (inl (inr (inl judged))))
+program_only stop (inr (inr (inr limit))) = inl (inl (inl (inr (inr limit))))
 
 pub entries_only : (stop : Stop) → IsEntriesStop stop → OfRun14 stop
 entries_only stop (inl fault) = inr (inl fault)
@@ -34,8 +34,9 @@ ports_only stop (inr (inr (inr limit))) = inl (inr limit)
 -- the status of what can stop it
 pub status_of : (end : Result (List ℕ) Stop) → IfErr end OfRun14 → IsRun14Status (code_of end)
 status_of (Ok line) only = inl refl
-status_of (Err stop) (inl (inl (inl (inl (fault, is))))) = inr (inr (inl (ap stop_code is)))
-status_of (Err stop) (inl (inl (inl (inr is)))) = inr (inr (inr (inr (inr (inl (ap stop_code is))))))
+status_of (Err stop) (inl (inl (inl (inl is)))) = inr (inr (inl (ap stop_code is)))
+status_of (Err stop) (inl (inl (inl (inr (inl (fault, is)))))) = inr (inr (inl (ap stop_code is)))
+status_of (Err stop) (inl (inl (inl (inr (inr is))))) = inr (inr (inr (inr (inr (inl (ap stop_code is))))))
 status_of (Err stop) (inl (inl (inr (inl (fault, is))))) = inr (inr (inr (inl (ap stop_code is))))
 status_of (Err stop) (inl (inl (inr (inr is)))) = inr (inr (inr (inr (inr (inl (ap stop_code is))))))
 status_of (Err stop) (inl (inr is)) = inr (inr (inr (inr (inr (inl (ap stop_code is))))))
