@@ -78,11 +78,14 @@ class Expressions(Speller):
             return None
         name = self.pick(list(roots))
         steps, kind = self.pick(roots[name])
-        moving = scope.block == "P" and self.chance(0.3)
-        made = ("name", name)
+        return self.steps_to(("name", name), steps, scope.block == "P" and self.chance(0.3)), kind
+
+    def steps_to(self, whole, steps, moving=False):
+        """The part of a value to which the steps go, with `next` and `last` for the elements of stacks where `moving` holds."""
+        made = whole
         for step, of in steps:
             made = ("member", made, self.pick(("next", "last"))) if step == "element" and moving else (step, made, of)
-        return made, kind
+        return made
 
     def bits_place(self, scope, width=None, written=False):
         return self.place(scope, lambda kind: kind[0] == "bit" and width in (None, kind[1]), written)

@@ -195,8 +195,7 @@ class Generator(Expressions):
         statements = self.first_statements(scope) if block in ("I", "E") else []
         inner = scope.within({})
         statements += [self.statement(inner, 3) for _ in range(self.upto(1, 7))]
-        if block == "D" and inner.means("p", "packet") and inner.means("hdr", "variable", HEADERS, False):
-            statements += ["p.emit(hdr.%s);" % name for name, _ in self.structs["hs"] if self.chance(0.5)]
+        statements += self.last_statements(inner)
         return "control %s(%s) { %s apply { %s } }" % (block, ", ".join(written), "\n  ".join(declared), " ".join(statements))
 
     def first_statements(self, scope):
@@ -211,6 +210,36 @@ class Generator(Expressions):
             set_first = ["meta.%s = %s;" % (place, self.number(self.below(width))) for place, width in places if self.chance(0.7)]
             made.append("if (sm.instance_type == 0) { %s }" % " ".join(set_first + [self.request(scope)]))
         return made
+
+    def last_statements(self, scope):
+        """What makes the values that are there show: in a register, the metadata, a header or what is emitted."""
+        made, name = [], self.name("u")
+        if scope.block in ("I", "E", "IE") and self.witness:
+            made.append("bit<128> {0}; {1}.read({0}, 15); {1}.write(15, {2});".format(name, self.witness, self.mixed(scope, 128, ("name", name))))
+        elif scope.block in ("V", "VC", "C"):
+            name, kind = ("meta", METADATA) if scope.block == "V" else ("hdr", HEADERS)
+            if scope.means(name, "variable", kind, True):
+                steps, (_, width) = self.pick([part for part in self.parts(kind) if part[1][0] == "bit"])
+                target = self.steps_to(("name", name), steps)
+                made.append("%s = %s;" % (self.spell(target, BEHIND), self.mixed(scope, width, target)))
+        elif scope.block == "D" and scope.means("p", "packet"):
+            kind, fields = self.pick(list(self.headers.items()))
+            field, (_, width) = self.pick(fields)
+            target = ("member", ("name", name), field)
+            made.append("{0} {1}; {1}.setValid(); {1}.{2} = {3}; p.emit({1});".format(kind, name, field, self.mixed(scope, width, target)))
+            if scope.means("hdr", "variable", HEADERS, False):
+                made += ["p.emit(hdr.%s);" % whole for whole, _ in self.structs["hs"] if self.chance(0.7)]
+        return made
+
+    def mixed(self, scope, width, first):
+        """A value that depends on a first one and on some that are there."""
+        made = first
+        for _ in range(8):
+            found = self.bits_place(scope)
+            if found:
+                made = ("operator", "*", made, ("number", width, 3 % (1 << width)))
+                made = ("operator", "+", made, ("cast", ("bit", width), found[0]))
+        return self.spell(made)
 
     def locals(self, scope):
         """The declarations of a control."""
