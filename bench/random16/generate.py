@@ -1,458 +1,610 @@
-# Makes a P4_16 program of this project's profile from a number, with entries that fit it and packets. The program breaks none of the rules T1 to
-# T12, and has every kind of declaration, statement, expression and call among it. All names are different.
+# Makes a P4_16 program of this project's profile from a number, with entries that fit it, packets, ports and a bound of passes. The program breaks
+# none of the rules T1 to T12. Few names are used, so many hide others.
 import random
 
-WIDTHS = (1, 3, 8, 9, 13, 16, 32, 48, 64, 128)
+from express import Expressions, Scope
+from spell import BEHIND
+
 SUMS = ("csum16", "crc16", "crc32", "identity")
-STANDARD = [("sm.egress_spec", 9), ("sm.ingress_port", 9), ("sm.egress_port", 9), ("sm.packet_length", 32), ("sm.instance_type", 32), ("sm.checksum_error", 1)]
+COUNTS = ("packets", "bytes", "packets_and_bytes")
+STANDARD = [("ingress_port", 9), ("egress_spec", 9), ("egress_port", 9), ("packet_length", 32), ("instance_type", 32), ("checksum_error", 1)]
+LOCALS = ("a", "a", "b", "b", "x", "x", "y", "z", "c", "hit", "next", "last", "lookahead", "exact")
+HIDING = ("meta", "hdr", "sm", "hash", "p", "count", "t1", "a2")
+PLANES = ("V1Switch", "main", "bit", "table", "apply", "true", "default", "key", "A", "Z9", "_", "__a", "in", "out", "hit", "error", "NoAction")
+HEADERS, METADATA, STANDARD_METADATA = ("named", "hs"), ("named", "ms"), ("named", "standard_metadata_t")
+LISTS = (0, 1, 1, 1, 2, 2, 200)
+MOST = 2**32 - 1
 
 
-class Place:
-    """Where statements stand: the block, and what may be named there."""
-
-    def __init__(self, block):
-        self.block = block
-        self.bits, self.headers = [], []
-        self.objects, self.actions, self.tables = [], [], []
-        self.counter = None
-        self.in_action = False
-
-    def inner(self, in_action=False):
-        """A scope within: what is declared in it ends with it. A table is applied once at most, and in no action."""
-        made = Place(self.block)
-        made.bits, made.headers = list(self.bits), list(self.headers)
-        made.objects, made.actions = self.objects, list(self.actions)
-        made.tables = [] if in_action else self.tables
-        made.counter = self.counter
-        made.in_action = in_action or self.in_action
-        return made
-
-
-class Generator:
+class Generator(Expressions):
     def __init__(self, number):
-        self.random = random.Random(number)
+        super().__init__(random.Random("random16 %d" % number))
         self.names = 0
-        self.lines, self.entries, self.meters = [], [], []
-        self.types = [self.header_type() for _ in range(self.upto(1, 4))]
-        self.headers = [(self.name("h"), self.pick(self.types)) for _ in range(self.upto(1, 4))]
-        self.stacks = [(self.name("s"), self.pick(self.types), self.upto(1, 5)) for _ in range(self.upto(0, 2))]
-        self.inner = [(self.name("g"), self.upto(1, 128)) for _ in range(self.upto(0, 3))]
-        self.metadata = [(self.name("m"), self.width(), [n for n in (1, 2, 3) if self.chance(0.4)]) for _ in range(self.upto(0, 5))]
-        self.declare()
-
-    # What is drawn
-
-    def pick(self, of):
-        return self.random.choice(of)
-
-    def upto(self, least, most):
-        return self.random.randint(least, most)
-
-    def chance(self, share):
-        return self.random.random() < share
-
-    def width(self):
-        return self.pick(WIDTHS) if self.chance(0.7) else self.upto(1, 128)
+        self.top, self.entries, self.meters = {}, [], []
+        self.table_planes, self.object_planes = set(), set()
+        self.notes = {}
+        self.types()
 
     def name(self, letter):
         self.names += 1
         return letter + str(self.names)
 
-    def some(self, most, one, between=" "):
-        return between.join(one() for _ in range(self.upto(0, most)))
-
-    def below(self, width):
-        return self.pick([0, 1, (1 << width) - 1, self.random.randrange(1 << width)])
+    def text_of(self, *parts):
+        return " ".join(part for part in parts if part)
 
     # Types
 
-    def header_type(self):
-        fields = [(self.name("f"), self.width()) for _ in range(self.upto(1, 8))]
-        odd = sum(width for _, width in fields) % 8
-        if odd:
-            fields.append((self.name("f"), 8 - odd))
-        return self.name("h_t"), fields
+    def types(self):
+        for _ in range(self.upto(1, 3)):
+            fields = [("f%d" % number, self.pick((1, 2, 4, 7, 8, 8, 8, 9, 16, 16, 32, 48, 65, 128))) for number in range(self.upto(1, 4))]
+            odd = sum(width for _, width in fields) % 8
+            fields += [("pad", 8 - odd)] if odd else []
+            self.random.shuffle(fields)
+            self.headers[self.name("h_t")] = [(name, ("bit", width)) for name, width in fields]
+        wholes = [("h%d" % number, self.header_kind()) for number in range(self.upto(1, 3))]
+        wholes += [("s%d" % number, self.stack_kind(4)) for number in range(self.upto(0, 2))]
+        self.random.shuffle(wholes)
+        self.structs = {
+            "standard_metadata_t": [(name, ("bit", width)) for name, width in STANDARD] + [("parser_error", ("error",))],
+            "hs": wholes,
+            "inner_t": [("g%d" % number, ("bit", self.width())) for number in range(self.upto(0, 3))],
+            "ms": [("m%d" % number, ("bit", self.width())) for number in range(self.upto(1, 4))],
+            "mixed_t": [
+                ("b", ("bool",)), ("n", ("bit", self.width())), ("h", self.header_kind()), ("k", self.stack_kind(2)), ("e", ("named", "inner_t")),
+            ],
+        }
+        if self.chance(0.7):
+            self.structs["ms"].append(("st", ("named", "inner_t")))
+        for struct in ("ms", "inner_t"):
+            for name, _ in self.structs[struct]:
+                lists = ", ".join(str(self.pick(LISTS)) for _ in range(self.upto(1, 2)))
+                self.notes[struct, name] = "@field_list(%s)" % lists if self.chance(0.6) else ""
 
-    def declare(self):
-        def fields_of(fields):
-            return " ".join("bit<%d> %s;" % (width, name) for name, width in fields)
+    def header_kind(self):
+        return ("named", self.pick(list(self.headers)))
 
-        self.lines += ["#include <core.p4>", "#include <v1model.p4>"]
-        for name, fields in self.types:
-            self.lines.append("header %s { %s }" % (name, fields_of(fields)))
-        headers = ["%s %s;" % (kind[0], name) for name, kind in self.headers]
-        stacks = ["%s[%d] %s;" % (kind[0], size, name) for name, kind, size in self.stacks]
-        self.lines.append("struct hs { %s }" % " ".join(headers + stacks))
-        self.lines.append("struct inner_t { %s }" % fields_of(self.inner))
-        notes = ["@field_list(%s) " % ", ".join(map(str, lists)) if lists else "" for _, _, lists in self.metadata]
-        fields = [note + fields_of([(name, width)]) for note, (name, width, _) in zip(notes, self.metadata)]
-        self.lines.append("struct ms { %s @field_list(2) inner_t inner; }" % " ".join(fields))
-        self.parser()
-        self.sum_block("V")
-        self.control("I")
-        self.control("E")
-        self.sum_block("C")
-        emitted = [name for name, *_ in self.headers + self.stacks if self.chance(0.9)]
-        self.lines.append("control D(packet_out p, in hs hdr) { apply { %s } }" % " ".join("p.emit(hdr.%s);" % name for name in emitted))
-        self.lines.append("V1Switch(P(), V(), I(), E(), C(), D()) main;")
+    def stack_kind(self, most):
+        return ("stack", self.header_kind()[1], self.upto(1, most))
+
+    def declared_types(self):
+        for name, fields in self.headers.items():
+            yield "header %s { %s }" % (name, " ".join("%s %s;" % (self.kind(kind), field) for field, kind in fields))
+        for name, fields in self.structs.items():
+            if name != "standard_metadata_t":
+                written = [self.text_of(self.notes.get((name, field), ""), self.kind(kind), field + ";") for field, kind in fields]
+                yield "struct %s { %s }" % (name, " ".join(written))
+
+    def variable_kind(self):
+        kinds = [("bit", self.width())] * 5 + [("bool",)] * 2 + [self.header_kind()] * 2 + [self.stack_kind(3)]
+        return self.pick(kinds + [("named", self.pick(("inner_t", "ms", "hs", "mixed_t", "standard_metadata_t")))])
+
+    # The whole program
 
     def text(self):
-        return "\n".join(self.lines) + "\n"
-
-    # Blocks
+        declared = list(self.declared_types())
+        for _ in range(self.upto(0, 2)):
+            name, meaning, written = self.new_object()
+            self.top[name] = meaning
+            self.made.add("program: object at the top")
+            declared.append(written)
+        self.witness = self.name("o") if self.chance(0.7) else None
+        if self.witness:
+            self.object_planes.add(self.witness)
+            self.top[self.witness] = ("object", "register", 128)
+            declared.append("register<bit<128>>(16) %s;" % self.witness)
+        declared.append(self.parser())
+        blocks = ["V", "I", "E", "C", "D"]
+        for first, second in (("V", "C"), ("I", "E")):
+            if self.chance(0.15):
+                blocks[blocks.index(second)] = first
+                self.made.add("program: control at two places of main")
+        for block in dict.fromkeys(blocks):
+            declared.append(self.control(block, blocks.count(block) > 1))
+        if self.chance(0.5):
+            self.random.shuffle(declared)
+            self.made.add("program: declarations in any order")
+        text = "\n".join(declared + ["V1Switch(P(), %s) main;" % ", ".join(block + "()" for block in blocks)])
+        text = self.blanks(text) if self.chance(0.3) else text
+        return "#include <core.p4>\n#include <v1model.p4>\n%s\n" % text
 
     def parser(self):
-        place = Place("P")
-        declared = self.block_variable(place) if self.chance(0.3) else ""
-        states = ["start"] + [self.name("st") for _ in range(self.upto(0, 4))]
+        names = {"p": ("packet",)}
+        names.update((name, ("variable", kind, True)) for name, kind in (("hdr", HEADERS), ("meta", METADATA), ("sm", STANDARD_METADATA)))
+        scope = Scope("P", [self.top, names], in_action=True)
+        variables = " ".join(self.declared(scope, *variable) for variable in self.block_variables(scope))
+        states = ["start"] + ["q%d" % number for number in range(self.upto(0, 5))]
         written = []
         for number, state in enumerate(states):
-            behind = states if self.chance(0.5) else states[number + 1:]
-            targets = behind + ["accept", "accept", "reject"]
-            inner = place.inner()
-            statements = " ".join([self.extract()] + [self.statement(inner, 1) for _ in range(self.upto(0, 3))])
-            written.append("state %s { %s %s }" % (state, statements, self.transition(inner, targets)))
+            back = self.chance(0.4)
+            statements = [self.first_extract()] if back or self.chance(0.5) else []
+            inner = scope.within({})
+            statements += [self.statement(inner, 2) for _ in range(self.upto(0, 3))]
+            targets = (states if back else states[number + 1:]) + ["accept"] * 3 + ["reject"]
+            written.append("state %s { %s %s }" % (state, " ".join(statements), self.transition(inner, targets)))
+        self.random.shuffle(written)
         parameters = "packet_in p, out hs hdr, inout ms meta, inout standard_metadata_t sm"
-        self.lines.append("parser P(%s) { %s %s }" % (parameters, declared, " ".join(written)))
+        return "parser P(%s) { %s %s }" % (parameters, variables, "\n  ".join(written))
 
-    def transition(self, place, targets):
-        if self.chance(0.5):
-            return "transition %s;" % self.pick(targets)
-        widths = [self.width() for _ in range(self.upto(1, 3))]
-        keys = ", ".join(self.number_of(place, width, 1) for width in widths)
-        cases = ["%s : %s;" % (self.keyset(widths), self.pick(targets)) for _ in range(self.upto(0, 4))]
-        if self.chance(0.8):
-            cases.append("default : %s;" % self.pick(targets))
-        return "transition select(%s) { %s }" % (keys, " ".join(cases))
+    def first_extract(self):
+        """An extract of a state from which others come back to earlier states."""
+        name, kind = self.pick(self.structs["hs"])
+        if kind[0] != "stack":
+            return "p.extract(hdr.%s);" % name
+        first = "p.extract(hdr.%s%s);" % (name, self.pick((".next", ".next", ".next", "[0]")))
+        return first + (" p.extract(hdr.%s.last);" % name if self.chance(0.4) else "")
 
-    def keyset(self, widths):
-        forms = ("_", "{0} &&& {1}", "{0} .. {1}", "{0}")
-        simple = [self.pick(forms).format(self.literal(width), self.literal(width)) for width in widths]
-        return "(%s)" % ", ".join(simple) if len(simple) > 1 else simple[0]
+    def block_variables(self, scope):
+        """Variables of a parser or control, whose initial values may read them all: their kinds and names."""
+        made = []
+        for _ in range(self.upto(0, 5)):
+            kind, name = self.variable_kind(), self.pick(("a", "b", "x", "y", "z"))
+            if name not in scope.names[-1]:
+                scope.names[-1][name] = ("variable", kind, True)
+                made.append((kind, name))
+        return made
 
-    def extract(self):
-        wholes = ["hdr.%s" % name for name, _ in self.headers]
-        return "p.extract(%s);" % self.pick(wholes + ["hdr.%s.next" % name for name, *_ in self.stacks] * 2)
+    def declared(self, scope, kind, name):
+        value = self.expression(scope, kind, 2) if self.chance(0.6) else None
+        return "%s %s%s;" % (self.kind(kind), name, " = " + self.spell(value) if value else "")
 
-    def sum_block(self, name):
-        self.lines.append("control %s(inout hs hdr, inout ms meta) { apply %s }" % (name, self.block(Place(name), 1)))
-
-    def block_variable(self, place):
-        width, name = self.width(), self.name("v")
-        value = self.number_of(place, width, 1)
-        place.bits.append((name, width))
-        return "bit<%d> %s = %s;" % (width, name, value)
-
-    def control(self, name):
-        place = Place(name)
-        declared = [self.new_object(place) for _ in range(self.upto(0, 3))]
+    def transition(self, scope, targets):
         if self.chance(0.3):
-            declared.append(self.block_variable(place))
-        declared += [self.table(place) for _ in range(self.upto(0, 3))]
-        declared += [self.directed_action(place) for _ in range(self.upto(0, 2))]
-        statements = [self.statement(place, 2) for _ in range(self.upto(1, 6))]
-        if name == "I":
-            statements.insert(0, "sm.egress_spec = 9w3;")
-        statements += ["%s.apply();" % table for table, _ in place.tables]
-        parameters = "inout hs hdr, inout ms meta, inout standard_metadata_t sm"
-        self.lines.append("control %s(%s) { %s apply { %s } }" % (name, parameters, " ".join(declared), " ".join(statements)))
+            return "transition %s;" % self.pick(targets)
+        keys = [self.select_key(scope) for _ in range(self.upto(1, 3))]
+        cases = [self.case(keys) for _ in range(self.pick((0, 1, 2, 3, 4)))]
+        cases += ["default"] if self.chance(0.6) else []
+        written = " ".join("%s : %s;" % (case, self.pick(targets)) for case in cases)
+        return "transition select(%s) { %s }" % (", ".join(self.spell(key) for _, key in keys), written)
 
-    def new_object(self, place):
-        kind, name, width, size = self.pick(("counter", "register", "meter")), self.name("o"), self.width(), self.upto(1, 4)
-        place.objects.append((kind, name, width))
-        if kind == "counter":
-            return "counter(%d, CounterType.%s) %s;" % (size, self.pick(("packets", "bytes", "packets_and_bytes")), name)
-        if kind == "register":
-            return "register<bit<%d>>(%d) %s;" % (width, size, name)
-        self.meters.append(name)
-        return "meter(%d, MeterType.packets) %s;" % (size, name)
+    def select_key(self, scope):
+        sort = self.pick(("bits",) * 5 + ("bool", "error"))
+        if sort != "bits":
+            return sort, self.truth(scope, 2) if sort == "bool" else self.error(scope, 1)
+        width = self.pick((1, 1, 2, 3, 8, self.width()))
+        return width, self.bits(scope, width, 2)
 
-    def table(self, place):
-        name = self.name("t")
-        counter = self.name("d") if self.chance(0.4) else None
-        actions = [self.name("a") for _ in range(self.upto(1, 3))]
-        widths = {action: [self.width() for _ in range(self.upto(0, 3))] for action in actions}
-        written = ["direct_counter(CounterType.packets_and_bytes) %s;" % counter] if counter else []
-        written += [self.plain_action(place, action, widths[action], counter) for action in actions]
-        keys = self.keys()
-        key = " ".join("%s : %s;" % (self.number_of(place.inner(True), width, 1), kind) for kind, width in keys)
-        properties = ["key = { %s }" % key] if keys else []
-        properties.append("actions = { %s }" % " ".join(action + ";" for action in actions + ["NoAction"] * self.upto(0, 1)))
+    def case(self, keys):
+        if self.chance(0.1):
+            return self.pick(("default", "_"))
+        simple = ", ".join(self.simple(sort) for sort, _ in keys)
+        return simple if len(keys) == 1 and self.chance(0.5) else "(%s)" % simple
+
+    def simple(self, sort):
+        if sort == "error" or self.chance(0.2):
+            return self.pick(("_", "default"))
+        if sort == "bool":
+            return self.pick(("true", "false"))
+        first, second = (self.number(self.below(sort), self.pick((sort, None))) for _ in range(2))
+        return self.pick(("{0}", "{0}", "{0} &&& {1}", "{0} .. {1}")).format(first, second)
+
+    # Controls
+
+    def control(self, block, twice):
+        parameters = [("inout", HEADERS, "hdr"), ("inout", METADATA, "meta")]
+        if block == "D":
+            parameters = [("in", HEADERS, "hdr")]
+        elif block in ("I", "E"):
+            parameters.append(("inout", STANDARD_METADATA, "sm"))
+        names = {name: ("variable", kind, direction != "in") for direction, kind, name in parameters}
+        written = ["%s %s %s" % (direction, self.kind(kind), name) for direction, kind, name in parameters]
+        if block == "D":
+            names["p"] = ("packet",)
+            written.insert(0, "packet_out p")
+        scope = Scope({"I": "IE", "V": "VC"}[block] if twice else block, [self.top, names])
+        declared = self.locals(scope)
+        statements = self.first_statements(scope) if block in ("I", "E") else []
+        inner = scope.within({})
+        statements += [self.statement(inner, 3) for _ in range(self.upto(1, 7))]
+        statements += self.last_statements(inner)
+        return "control %s(%s) { %s apply { %s } }" % (block, ", ".join(written), "\n  ".join(declared), " ".join(statements))
+
+    def first_statements(self, scope):
+        """Most packets are to leave; the metadata as they come in are written to a register; and many packets come again."""
+        made = ["sm.egress_spec = 9w3;"] if self.chance(0.8) else []
+        places = [(name, kind[1]) for name, kind in self.structs["ms"] if kind[0] == "bit"]
+        if ("st", ("named", "inner_t")) in self.structs["ms"]:
+            places += [("st." + name, kind[1]) for name, kind in self.structs["inner_t"]]
+        if self.witness:
+            made += ["if (meta.{0} != 0) {1}.write({2}, meta.{0});".format(place, self.witness, at) for at, (place, _) in enumerate(places)]
+        if scope.block != "IE" and self.chance(0.5):
+            set_first = ["meta.%s = %s;" % (place, self.number(self.below(width))) for place, width in places if self.chance(0.7)]
+            made.append("if (sm.instance_type == 0) { %s }" % " ".join(set_first + [self.request(scope)]))
+        return made
+
+    def last_statements(self, scope):
+        """What makes the values that are there show: in a register, the metadata, a header or what is emitted."""
+        made, name = [], self.name("u")
+        if scope.block in ("I", "E", "IE") and self.witness:
+            made.append("bit<128> {0}; {1}.read({0}, 15); {1}.write(15, {2});".format(name, self.witness, self.mixed(scope, 128, ("name", name))))
+        elif scope.block in ("V", "VC", "C"):
+            name, kind = ("meta", METADATA) if scope.block == "V" else ("hdr", HEADERS)
+            if scope.means(name, "variable", kind, True):
+                steps, (_, width) = self.pick([part for part in self.parts(kind) if part[1][0] == "bit"])
+                target = self.steps_to(("name", name), steps)
+                made.append("%s = %s;" % (self.spell(target, BEHIND), self.mixed(scope, width, target)))
+        elif scope.block == "D" and scope.means("p", "packet"):
+            kind, fields = self.pick(list(self.headers.items()))
+            field, (_, width) = self.pick(fields)
+            target = ("member", ("name", name), field)
+            made.append("{0} {1}; {1}.setValid(); {1}.{2} = {3}; p.emit({1});".format(kind, name, field, self.mixed(scope, width, target)))
+            if scope.means("hdr", "variable", HEADERS, False):
+                made += ["p.emit(hdr.%s);" % whole for whole, _ in self.structs["hs"] if self.chance(0.7)]
+        return made
+
+    def mixed(self, scope, width, first):
+        """A value that depends on a first one and on some that are there."""
+        made = first
+        for _ in range(8):
+            found = self.bits_place(scope)
+            if found:
+                made = ("operator", "*", made, ("number", width, 3 % (1 << width)))
+                made = ("operator", "+", made, ("cast", ("bit", width), found[0]))
+        return self.spell(made)
+
+    def locals(self, scope):
+        """The declarations of a control."""
+        names, stateful = scope.names[-1], scope.block in ("I", "E", "IE")
+        others, actions, tables, variables = [], [], [], self.block_variables(scope)
+        for _ in range(self.upto(0, 3) if stateful else 0):
+            name, meaning, written = self.new_object()
+            names[name] = meaning
+            others.append(written)
+        for _ in range(self.upto(0, 4)):
+            directed = [(self.pick(("in", "out", "inout")), self.parameter_kind(scope)) for _ in range(self.upto(0, 3))]
+            plain = [("", ("bit", self.width()) if self.chance(0.7) else ("bool",)) for _ in range(self.upto(0, 2))]
+            if directed and plain:
+                self.made.add("program: action with parameters of both sorts")
+            actions.append(self.new_action(names, directed + plain, None))
+        shared = [action for action in actions if all(not direction and kind[0] == "bit" for direction, kind in action[1])]
+        for _ in range(self.upto(0, 3)):
+            counter = self.direct_counter(names, others) if stateful and self.chance(0.5) else None
+            own = [self.new_action(names, [("", ("bit", self.width())) for _ in range(self.upto(0, 3))], counter) for _ in range(self.upto(1, 3))]
+            actions += own
+            listed = list(own)
+            if shared and self.chance(0.3):
+                listed.append(self.pick(shared))
+                self.made.add("program: action of a table that others may call")
+            name = self.name("t")
+            names[name] = ("table", [action[0] for action in listed])
+            tables.append((name, counter, listed))
+        others += [self.action(scope, *action) for action in actions]
+        others += [self.table(scope, *table) for table in tables]
+        self.random.shuffle(others)
+        return self.between(others, [self.declared(scope, *variable) for variable in variables])
+
+    def between(self, others, variables):
+        """The variables in their order among the other declarations."""
+        places = sorted(self.upto(0, len(others)) for _ in variables)
+        made = list(others)
+        for place, variable in reversed(list(zip(places, variables))):
+            made.insert(place, variable)
+        return made
+
+    def parameter_kind(self, scope):
+        """A kind of which there may be a place, each sort of kind as often as the others."""
+        sorts = {}
+        for _, whole, _ in scope.of_sort("variable"):
+            for _, kind in self.parts(whole):
+                if kind[0] != "error":
+                    sorts.setdefault((kind[0], self.is_header(kind)), []).append(kind)
+        return self.pick(self.pick(list(sorts.values())))
+
+    def noted(self, name, planes):
+        """The control-plane name of a table or object, with the annotation that gives it."""
+        plane = self.pick(PLANES) if self.chance(0.6) else "n%d" % self.upto(0, 99)
+        note = '@name("%s")' % plane
+        if plane in planes or self.chance(0.5):
+            plane, note = name, ""
+        else:
+            self.made.add("program: @name")
+        planes.add(plane)
+        return plane, note
+
+    def new_object(self):
+        kind, name, width = self.pick(("counter", "register", "register", "meter")), self.name("o"), self.width()
+        size = self.number(self.pick((1, 2, 3, 4, 1000)), self.pick((32, None)))
+        plane, note = self.noted(name, self.object_planes)
+        if kind == "meter":
+            self.meters.append(plane)
+        written = {
+            "counter": "counter(%s, CounterType.%s)" % (size, self.pick(COUNTS)), "register": "register<bit<%d>>(%s)" % (width, size),
+            "meter": "meter(%s, MeterType.%s)" % (size, self.pick(COUNTS[:2])),
+        }
+        return name, ("object", kind, width), self.text_of(note, written[kind], name + ";")
+
+    def direct_counter(self, names, written):
+        name = self.name("d")
+        names[name] = ("object", "direct_counter", 0)
+        written.append(self.text_of(self.noted(name, self.object_planes)[1], "direct_counter(CounterType.%s)" % self.pick(COUNTS), name + ";"))
+        return name
+
+    def new_action(self, names, parameters, counter):
+        name = self.name("a")
+        plane = self.pick(PLANES) + name if self.chance(0.3) else name
+        names[name] = ("action", parameters, self.names)
+        return name, parameters, plane, counter
+
+    def action(self, scope, name, parameters, plane, counter):
+        own, written = {}, []
+        for direction, kind in parameters:
+            parameter = self.pick(("a", "b", "x"))
+            parameter = self.name("q") if parameter in own else parameter
+            own[parameter] = ("variable", kind, direction in ("out", "inout"))
+            written.append(self.text_of(direction, self.kind(kind), parameter))
+        inner = scope.within(own, in_action=True, rank=scope.names[-1][name][2], counter=counter)
+        body = self.block(inner, 1)
+        if counter and self.chance(0.7):
+            body = "%s %s.count(); }" % (body[:-1], counter)
+        note = '@name("%s")' % plane if plane != name else ""
+        return self.text_of(note, "action %s(%s) %s" % (name, ", ".join(written), body))
+
+    def table(self, scope, name, counter, listed):
+        inner = scope.within({}, in_action=True)
+        keys = [self.key(inner) for _ in range(self.upto(0, 3))]
+        if self.chance(0.3):
+            width = self.width()
+            keys.insert(self.upto(0, len(keys)), ("lpm", width, self.bits(inner, width, 2)))
+        if self.chance(0.3):
+            keys = [key for key in keys if key[0] not in ("ternary", "range")]
+        actions = [action[0] for action in listed] + (["NoAction"] if self.chance(0.4) else [])
+        self.random.shuffle(actions)
+        widths = {action[0]: [kind[1] for _, kind in action[1]] for action in listed}
+        properties = ["actions = { %s }" % " ".join(action + ";" for action in actions)]
+        if keys or self.chance(0.1):
+            written = ["%s : %s%s;" % (self.spell(key[2]), key[0], ' @name("q")' if self.chance(0.1) else "") for key in keys]
+            properties.append("key = { %s }" % " ".join(written))
         if counter:
             properties.append("counters = %s;" % counter)
+        if self.chance(0.3):
+            properties.append("size = %s;" % self.number(self.pick((5, 6, 100, 2**40))))
         if self.chance(0.5):
             action = self.pick(actions)
-            properties.append("default_action = %s(%s);" % (action, ", ".join(map(self.literal, widths[action]))))
-        written.append("table %s { %s }" % (name, " ".join(properties)))
-        place.tables.append((name, actions))
-        self.fill(name, keys, widths)
-        return " ".join(written)
+            arguments = [self.number(self.below(width), self.pick((width, None))) for width in widths.get(action, [])]
+            properties.append("default_action = %s(%s);" % (action, ", ".join(arguments)))
+        self.random.shuffle(properties)
+        plane, note = self.noted(name, self.table_planes)
+        self.fill(plane, keys, [(action[2], widths[action[0]]) for action in listed])
+        return self.text_of(note, "table %s { %s }" % (name, " ".join(properties)))
 
-    def keys(self):
-        keys = [(self.pick(("exact", "exact", "ternary", "range")), self.width()) for _ in range(self.upto(0, 3))]
-        if self.chance(0.3):
-            keys.append(("lpm", self.width()))
-        return keys
-
-    def plain_action(self, place, name, widths, counter):
-        """An action that entries may name: its parameters are read in its last statements."""
-        inner = place.inner(True)
-        inner.counter = counter
-        parameters = [(self.name("q"), width) for width in widths]
-        statements = [self.statement(inner, 1) for _ in range(self.upto(0, 3))]
-        for parameter, width in parameters:
-            target, wide = self.pick(self.all_bits(inner))
-            statements.append("%s = (bit<%d>) %s;" % (target, wide, parameter))
-        declared = ", ".join("bit<%d> %s" % (width, parameter) for parameter, width in parameters)
-        return "action %s(%s) { %s }" % (name, declared, " ".join(statements))
-
-    def directed_action(self, place):
-        name = self.name("a")
-        parameters = [(self.pick(("in", "out", "inout")), self.name("q"), self.width()) for _ in range(self.upto(0, 3))]
-        inner = place.inner(True)
-        inner.bits += [(parameter, width) for direction, parameter, width in parameters if direction != "in"]
-        declared = ", ".join("%s bit<%d> %s" % (direction, width, parameter) for direction, parameter, width in parameters)
-        written = "action %s(%s) { %s }" % (name, declared, self.some(3, lambda: self.statement(inner, 1)))
-        place.actions.append((name, [(direction, width) for direction, _, width in parameters]))
-        return written
+    def key(self, scope):
+        if self.chance(0.2):
+            return "exact", 1, self.truth(scope, 2)
+        width = self.width()
+        return self.pick(("exact", "exact", "ternary", "range")), width, self.bits(scope, width, 2)
 
     # Entries and packets
 
-    def fill(self, table, keys, widths):
-        ranked = any(kind in ("ternary", "range") for kind, _ in keys)
-        for number in range(min(self.upto(0, 4), 1 << keys[0][1]) if keys else 0):
-            action = self.pick(list(widths))
-            words = ["table_add", table, action] + [self.key(kind, width, number) for kind, width in keys] + ["=>"]
-            words += [str(self.below(width)) for width in widths[action]] + ([str(number)] if ranked else [])
-            self.entries.append(" ".join(words))
-        if self.chance(0.3):
-            action = self.pick(list(widths))
-            self.entries.append(" ".join(["table_set_default", table, action] + [str(self.below(width)) for width in widths[action]]))
+    def fill(self, table, keys, actions):
+        ranked = any(key[0] in ("ternary", "range") for key in keys)
+        there = set()
+        for _ in range(self.upto(0, 5) if keys else 0):
+            action, widths = self.pick(actions)
+            words, values = zip(*(self.entry_key(kind, width) for kind, width, _ in keys))
+            priority = self.pick((0, 1, 5, 2**31 - 1))
+            if (values, ranked and priority) in there:
+                continue
+            there.add((values, ranked and priority))
+            words = ["table_add", table, action, *words, "=>"] + [self.entry_number(self.below(width)) for width in widths]
+            self.entries.append(words + ([self.entry_number(priority)] if ranked else []))
+        for _ in range(self.pick((0, 0, 1, 2))):
+            action, widths = self.pick(actions)
+            self.entries.append(["table_set_default", table, action] + [self.entry_number(self.below(width)) for width in widths])
 
-    def key(self, kind, width, number):
-        """A key of an entry, which goes by the number of the entry where nothing else tells two entries apart."""
-        low, high = sorted((self.below(width), self.below(width)))
+    def entry_key(self, kind, width):
+        """The word of a key, and what it asks for."""
+        value = self.below(width) if self.chance(0.5) else self.upto(0, 3) % (1 << width)
         if kind == "exact":
-            return str(number % (1 << width))
+            return (("false", "true")[value] if width == 1 and self.chance(0.4) else self.entry_number(value)), value
+        if kind == "ternary":
+            mask = self.pick((0, 0, 1, self.below(width)))
+            return "%s&&&%s" % (self.entry_number(value), self.entry_number(mask)), (value & mask, mask)
         if kind == "lpm":
-            return "%d/%d" % (low, min(number, width))
-        return "%d&&&%d" % (low, high) if kind == "ternary" else "%d->%d" % (low, high)
+            length = min(width, self.pick((0, 0, 1, width, self.upto(0, width))))
+            return "%s/%d" % (self.entry_number(value), length), (value >> width - length, length)
+        low, high = sorted((value if self.chance(0.7) else 0, self.below(width)))
+        return "%s->%s" % (self.entry_number(low), self.entry_number(high)), (low, high)
+
+    def entry_number(self, value):
+        forms = ["%d" % value] * 4 + ["00%d" % value, "0x%x" % value, "0x00%X" % value, "0b" + format(value, "b")]
+        if value < 2**32:
+            forms.append(".".join(map(str, value.to_bytes(4, "big"))))
+        if value < 2**48:
+            forms.append(value.to_bytes(6, "big").hex(":"))
+        return self.pick(forms)
 
     def entry_file(self):
-        lines = self.entries + ["mirroring_add 7 9", "mirroring_add 8 10"]
-        lines += ["meter_colours %s %s" % (name, " ".join(str(self.upto(0, 2)) for _ in range(5))) for name in self.meters]
-        return "\n".join(lines) + "\n"
+        """The entries, to be asked for behind the text."""
+        lines = list(self.entries)
+        self.random.shuffle(lines)
+        lines += [["mirroring_add", session, port] for session, port in (("7", "9"), ("8", "10"), ("0x7fff", "510"), ("0", "0"))]
+        for meter in self.meters * 2:
+            lines.append(["meter_colours", meter] + [str(self.upto(0, 2)) for _ in range(self.upto(0, 4))])
+        ends = ("\n", "\n", "\r\n", " \n", "\n\n", "\n# c\n")
+        return "".join(self.pick(("", "", "", "\t ")) + self.pick((" ", " ", "\t", "  ")).join(words) + self.pick(ends) for words in lines)
 
     def packets(self):
-        sizes = [self.pick((0, 1, 5, 20, 60, 100, 300)) for _ in range(5)]
-        return [bytes(self.upto(0, 255) for _ in range(size)) for size in sizes], [self.upto(0, 510) for _ in sizes]
+        """The packets, the ports on which they come in, and the bound of passes."""
+        sizes = [self.pick((0, 1, 8, 20, 60, 100, 150, 250)) for _ in range(8)]
+        packets = [bytes(self.upto(0, 255) if self.chance(0.7) else self.pick((0, 1, 255)) for _ in range(size)) for size in sizes]
+        return packets, [self.pick((0, 1, 510, self.upto(0, 510))) for _ in sizes], self.pick((1, 2, 3, 8, 16))
 
     # Statements
 
-    def block(self, place, depth):
-        inner = place.inner()
-        return "{ %s }" % self.some(3, lambda: self.statement(inner, depth))
+    def block(self, scope, depth, most=4):
+        inner = scope.within({})
+        return "{ %s }" % " ".join(self.statement(inner, depth) for _ in range(self.upto(0, most)))
 
-    def statement(self, place, depth):
-        makers = [self.assignment] * 6 + [self.variable, self.header_variable, self.copy, self.validity, self.move]
-        if depth:
-            makers += [self.branch] * 3 + [self.block]
-        makers += {"P": [self.parser_statement] * 5, "V": [self.sum_of] * 4, "C": [self.sum_of] * 4}.get(place.block, [self.call] * 12)
-        return self.pick(makers)(place, depth - 1)
-
-    def assignment(self, place, _):
-        target, width = self.target(place)
-        return "%s = %s;" % (target, self.number_of(place, width, 3))
-
-    def variable(self, place, _):
-        width, name = self.width(), self.name("v")
-        value = " = " + self.number_of(place, width, 2) if self.chance(0.7) else ""
-        place.bits.append((name, width))
-        return "bit<%d> %s%s;" % (width, name, value)
-
-    def all_headers(self, place, kind):
-        found = ["hdr." + name for name, of in self.headers if of is kind]
-        found += ["hdr.%s[%d]" % (name, self.upto(0, size - 1)) for name, of, size in self.stacks if of is kind]
-        return found + [name for name, of in place.headers if of is kind]
-
-    def header_variable(self, place, _):
-        kind, name = self.pick(self.types), self.name("v")
-        there = self.all_headers(place, kind)
-        place.headers.append((name, kind))
-        return "%s %s%s;" % (kind[0], name, " = " + self.pick(there) if there and self.chance(0.5) else "")
-
-    def copy(self, place, depth):
-        there = self.all_headers(place, self.pick(self.types))
-        if not there:
-            return "meta.inner = meta.inner;" if place.block != "P" else ";"
-        target, source = self.pick(there), self.pick(there)
-        if self.chance(0.4):
-            source = "%s ? %s : %s" % (self.condition(place, 1), source, self.pick(there))
-        return "%s = %s;" % (target, source)
-
-    def validity(self, place, depth):
-        there = self.all_headers(place, self.pick(self.types))
-        return "%s.%s();" % (self.pick(there), self.pick(("setValid", "setInvalid"))) if there else ";"
-
-    def move(self, place, depth):
-        if not self.stacks:
-            return self.assignment(place, depth)
-        return "hdr.%s.%s(%d);" % (self.pick(self.stacks)[0], self.pick(("push_front", "pop_front")), self.upto(0, 6))
-
-    def branch(self, place, depth):
-        written = "if (%s) %s" % (self.condition(place, 2), self.block(place, depth))
-        return written + " else " + self.block(place, depth) if self.chance(0.5) else written
-
-    def parser_statement(self, place, depth):
-        return self.extract() if self.chance(0.5) else self.assignment(place, depth)
-
-    def items(self, place):
-        return "{ %s }" % self.some(6, lambda: self.number_of(place, self.width(), 1), ", ")
-
-    def sum_of(self, place, _):
-        name = ("verify_checksum" if place.block == "V" else "update_checksum") + self.pick(("", "_with_payload"))
-        arguments = (name, self.condition(place, 1), self.items(place), self.target(place)[0], self.pick(SUMS))
-        return "%s(%s, %s, %s, HashAlgorithm.%s);" % arguments
-
-    def call(self, place, depth):
-        """A call that ingress and egress may make."""
-        makers = [self.hash, self.request, self.drop]
-        makers += [self.call_action] * 2 if place.actions else []
-        makers += [self.call_object] * 3 if place.objects else []
-        makers += [self.count] * 2 if place.counter else []
-        makers += [self.apply] * 2 if place.tables else []
-        return self.pick(makers)(place)
-
-    def hash(self, place):
-        target, width = self.target(place)
-        base, most = self.number_of(place, width, 1), self.number_of(place, self.width(), 1)
-        return "hash(%s, HashAlgorithm.%s, %s, %s, %s);" % (target, self.pick(SUMS), base, self.items(place), most)
-
-    def request(self, place):
-        number = self.upto(1, 3)
-        if self.chance(0.5):
-            kind, session = ("I2E", 7) if place.block == "I" else ("E2E", 8)
-            return "clone_preserving_field_list(CloneType.%s, 32w%d, 8w%d);" % (kind, self.pick((session, session, 9)), number)
-        return "%s_preserving_field_list(8w%d);" % ("resubmit" if place.block == "I" else "recirculate", number)
-
-    def drop(self, place):
-        return "mark_to_drop(sm);" if self.chance(0.2) else "sm.egress_spec = 9w%d;" % self.upto(0, 511)
-
-    def call_action(self, place):
-        name, parameters = self.pick(place.actions)
-        arguments = []
-        for direction, width in parameters:
-            fitting = [found for found in self.all_bits(place) if found[1] >= width]
-            if direction == "in":
-                arguments.append(self.number_of(place, width, 1))
-            elif fitting:
-                target, wide = self.pick(fitting)
-                arguments.append(target if wide == width else "%s[%d:0]" % (target, width - 1))
-            else:
-                return ";"
-        return "%s(%s);" % (name, ", ".join(arguments))
-
-    def call_object(self, place):
-        kind, name, width = self.pick(place.objects)
-        index = self.number_of(place, 32, 0) if self.chance(0.3) else "32w%d" % self.upto(0, 3)
-        if kind == "counter":
-            return "%s.count(%s);" % (name, index)
-        if kind == "meter":
-            return "%s.execute_meter(%s, %s);" % (name, index, self.target(place)[0])
-        if self.chance(0.5):
-            return "%s.read(%s, %s);" % (name, self.target(place)[0], index)
-        return "%s.write(%s, %s);" % (name, index, self.number_of(place, self.width(), 1))
-
-    def count(self, place):
-        return "%s.count();" % place.counter
-
-    def apply(self, place):
-        name, actions = place.tables.pop()
-        if self.chance(0.5):
-            return "%s.apply();" % name
-        cases = ["%s : %s" % (action, self.block(place, 0)) for action in actions if self.chance(0.7)]
-        if self.chance(0.5):
-            cases.append("default : " + self.block(place, 0))
-        return "switch (%s.apply().action_run) { %s }" % (name, " ".join(cases))
-
-    # Expressions
-
-    def all_bits(self, place):
-        """What holds bits, with its width."""
-        found = [("hdr.%s.%s" % (name, field), width) for name, kind in self.headers for field, width in kind[1]]
-        for name, kind, size in self.stacks:
-            element = self.upto(0, size - 1)
-            found += [("hdr.%s[%d].%s" % (name, element, field), width) for field, width in kind[1]]
-            if place.block == "P" and self.chance(0.1):
-                field, width = self.pick(kind[1])
-                found.append(("hdr.%s.%s.%s" % (name, self.pick(("last", "next")), field), width))
-        found += [("meta." + name, width) for name, width, _ in self.metadata]
-        found += [("meta.inner." + name, width) for name, width in self.inner]
-        return found + place.bits + (STANDARD if place.block in "PIE" else [])
-
-    def target(self, place):
-        """An l-value of bits, with its width."""
-        text, width = self.pick(self.all_bits(place))
-        while width > 1 and self.chance(0.2):
-            high = self.upto(0, width - 1)
-            low = self.upto(0, high)
-            text, width = "%s[%d:%d]" % (text, high, low), high - low + 1
-        return text, width
-
-    def literal(self, width):
-        return "%dw%d" % (width, self.below(width))
-
-    def leaf(self, place, width):
-        text, wide = self.target(place)
-        if wide == width:
-            return text
-        if wide > width and self.chance(0.7):
-            low = self.upto(0, wide - width)
-            return "%s[%d:%d]" % (text, low + width - 1, low)
-        return "((bit<%d>) %s)" % (width, text) if self.chance(0.5) else self.literal(width)
-
-    def number_of(self, place, width, depth):
-        """An expression of so many bits."""
-        if depth <= 0 or self.chance(0.15):
-            return self.leaf(place, width)
-
-        def inner(wide=width):
-            return self.number_of(place, wide, depth - 1)
-
-        forms = [lambda: "(%s %s %s)" % (inner(), self.pick(("+", "-", "*", "|+|", "|-|", "&", "|", "^")), inner())] * 4
-        forms += [
-            lambda: "(%s%s)" % (self.pick("~-"), inner()),
-            lambda: "(%s %s %s)" % (inner(), self.pick(("<<", ">>")), inner(self.pick((3, 8, 32)))),
-            lambda: "((bit<%d>) %s)" % (width, inner(self.width())),
-            lambda: "(%s ? %s : %s)" % (self.condition(place, depth - 1), inner(), inner()),
-            lambda: "(%s + %d)" % (inner(), self.below(width)),
-        ]
-        if width > 1:
-            left = self.upto(1, width - 1)
-            forms.append(lambda: "(%s ++ %s)" % (inner(left), inner(width - left)))
-        else:
-            forms.append(lambda: "((bit<1>) %s)" % self.condition(place, depth - 1))
-        if place.block == "P" and self.chance(0.3):
-            forms.append(lambda: "p.lookahead<bit<%d>>()" % width)
-        return self.pick(forms)()
-
-    def condition(self, place, depth):
-        """A truth value."""
-
-        def inner():
-            return self.condition(place, depth - 1)
-
-        def compared():
-            width = self.width()
-            operator = self.pick(("<", "<=", ">", ">=", "==", "!="))
-            return "(%s %s %s)" % (self.number_of(place, width, depth - 1), operator, self.number_of(place, width, depth - 1))
-
-        forms = [compared] * 3 + [lambda: "hdr.%s.isValid()" % self.pick(self.headers)[0]]
+    def statement(self, scope, depth):
+        makers = [self.assignment] * 5 + [self.variable, self.whole_assignment] * 2 + [self.validity, self.move, self.empty]
         if depth > 0:
-            forms += [lambda: "(%s %s %s)" % (inner(), self.pick(("&&", "||")), inner())] * 3
-            forms += [lambda: "(!%s)" % inner(), lambda: "((bool) %s)" % self.number_of(place, 1, depth - 1), lambda: self.pick(("true", "false"))]
-        if place.block in "IE":
-            forms.append(lambda: "(sm.parser_error %s error.%s)" % (self.pick(("==", "!=")), self.pick(("NoError", "PacketTooShort", "NoMatch"))))
-            if place.tables and not place.in_action and depth > 0:
-                forms.append(lambda: "%s.apply().%s" % (place.tables.pop()[0], self.pick(("hit", "miss"))))
-        return self.pick(forms)()
+            makers += [self.branch] * 4 + [self.block]
+        makers += {
+            "P": [self.extract] * 6, "V": [self.checksum, self.call] * 3, "C": [self.checksum, self.call] * 3, "VC": [self.call] * 5,
+            "D": [self.emit] * 5 + [self.call] * 3,
+        }.get(scope.block, [self.extern] * 8 + [self.call] * 4)
+        for _ in range(5):
+            made = self.pick(makers)(scope, depth - 1)
+            if made:
+                return made
+        return ";"
+
+    def empty(self, *_):
+        return self.pick((";", "{ }", "{ ; }"))
+
+    def assignment(self, scope, _):
+        target = self.target(scope)
+        return target and "%s = %s;" % (self.spell(target[0], BEHIND), self.spell(self.bits(scope, target[1], 3, True)))
+
+    def whole_assignment(self, scope, _):
+        found = self.place(scope, lambda kind: kind[0] != "bit", True)
+        if not found or found[1] == STANDARD_METADATA and self.chance(0.6):
+            return None
+        return "%s = %s;" % (self.spell(found[0], BEHIND), self.spell(self.expression(scope, found[1], 2)))
+
+    def variable(self, scope, _):
+        names, kind = scope.names[-1], self.variable_kind()
+        free = [name for name in LOCALS + (HIDING if self.chance(0.15) else ()) if name not in names]
+        name = self.pick(free) if free else self.name("u")
+        written = self.declared(scope, kind, name)
+        names[name] = ("variable", kind, True)
+        return written
+
+    def validity(self, scope, _):
+        found = self.place(scope, self.is_header, True)
+        return found and "%s.%s();" % (self.spell(found[0], BEHIND), self.pick(("setValid", "setValid", "setInvalid")))
+
+    def move(self, scope, _):
+        found = self.place(scope, lambda kind: kind[0] == "stack", True)
+        count = self.number(self.pick((0, 1, 1, 2, 3, 5, MOST)), self.pick((None, 32)))
+        return found and "%s.%s(%s);" % (self.spell(found[0], BEHIND), self.pick(("push_front", "pop_front")), count)
+
+    def branch(self, scope, depth):
+        condition = self.spell(self.truth(scope, 3))
+        if self.chance(0.5):
+            return "if (%s) %s" % (condition, self.arm(scope, depth))
+        yes = self.arm(scope, depth)
+        return "if (%s) %s else %s" % (condition, "{ %s }" % yes if yes.startswith("if") else yes, self.arm(scope, depth))
+
+    def arm(self, scope, depth):
+        return self.block(scope, depth) if self.chance(0.5) else self.statement(scope.within({}), depth)
+
+    def extract(self, scope, _):
+        found = self.place(scope, self.is_header, True) if scope.means("p", "packet") else None
+        return found and "p.extract(%s);" % self.spell(found[0])
+
+    def emit(self, scope, _):
+        fits = lambda kind: kind[0] == "stack" or self.is_header(kind)
+        found = self.whole(scope, fits, 2) if scope.means("p", "packet") else None
+        return found and "p.emit(%s);" % self.spell(found[0])
+
+    # Calls
+
+    def list(self, scope):
+        return ("list", [self.bits(scope, self.width(), 2) for _ in range(self.upto(0, 5))])
+
+    def sum_name(self):
+        return ("member", ("name", "HashAlgorithm"), self.pick(SUMS))
+
+    def checksum(self, scope, _):
+        name = "verify_checksum" if scope.block == "V" else "update_checksum"
+        name += "_with_payload" if self.chance(0.5) else ""
+        if scope.block == "V":
+            field = self.bits(scope, self.pick((16, 16, 8, 1, 32, 128)), 2)
+        else:
+            target = self.target(scope)
+            if not target:
+                return None
+            field = target[0]
+        return self.call_of(name, self.truth(scope, 2), self.list(scope), field, self.sum_name())
+
+    def call_of(self, name, *arguments):
+        return self.called(("name", name), arguments)
+
+    def method(self, name, method, *arguments):
+        return self.called(("member", ("name", name), method), arguments)
+
+    def index(self, scope):
+        if self.chance(0.3):
+            return self.bits(scope, 32, 2, True)
+        return ("number", self.pick((32, None)), self.pick((0, 0, 1, 2, 3, 4, 5, MOST)))
+
+    def extern(self, scope, _):
+        makers = [self.object_call, self.direct_count] * 3 + [self.request, self.spec] * 2 + [self.hash, self.drop]
+        return self.pick(makers)(scope)
+
+    def object_call(self, scope):
+        objects = [found for found in scope.of_sort("object") if found[1] != "direct_counter"]
+        if not objects:
+            return None
+        name, kind, width = self.pick(objects)
+        if kind == "counter":
+            return self.method(name, "count", self.index(scope))
+        if kind == "register" and self.chance(0.5):
+            return self.method(name, "write", self.index(scope), self.bits(scope, self.pick((width, self.width())), 2))
+        target = self.target(scope)
+        if not target:
+            return None
+        if kind == "register":
+            return self.method(name, "read", target[0], self.index(scope))
+        return self.method(name, "execute_meter", self.index(scope), target[0])
+
+    def hash(self, scope):
+        target = self.target(scope)
+        if not target or "hash" in scope.visible():
+            return None
+        base, most = self.bits(scope, self.width(), 2), self.bits(scope, self.width(), 2)
+        return self.call_of("hash", target[0], self.sum_name(), base, self.list(scope), most)
+
+    def drop(self, scope):
+        found = self.place(scope, lambda kind: kind == STANDARD_METADATA, True) if self.chance(0.3) else None
+        return found and "mark_to_drop(%s);" % self.spell(found[0])
+
+    def spec(self, scope):
+        if scope.means("sm", "variable", STANDARD_METADATA, True):
+            return "sm.egress_spec = %s;" % self.number(self.pick((1, 3, 5, 510, 511)), 9)
+        return None
+
+    def request(self, scope):
+        if scope.block == "IE":
+            return None
+        number = self.number(self.pick(LISTS), self.pick((8, None)))
+        ingress = scope.block == "I"
+        if self.chance(0.4):
+            return "%s_preserving_field_list(%s);" % ("resubmit" if ingress else "recirculate", number)
+        session = self.number(self.pick((0, 7, 7, 8, 8, 9, 32767, MOST)), self.pick((32, None)))
+        if self.chance(0.2):
+            session = self.spell(self.bits(scope, 32, 2, True))
+        return "clone_preserving_field_list(CloneType.%s, %s, %s);" % ("I2E" if ingress else "E2E", session, number)
+
+    def direct_count(self, scope):
+        return "%s.count();" % scope.counter if scope.counter else None
+
+    def call(self, scope, depth):
+        """Applies a table or calls an action."""
+        tables = [] if scope.in_action else scope.of_sort("table")
+        if tables and self.chance(0.6):
+            name, actions = self.pick(tables)
+            if self.chance(0.5):
+                return "%s.apply();" % name
+            labels = [self.pick(actions + ["default"]) for _ in range(self.upto(0, 4))]
+            cases = " ".join("%s : %s" % (label, self.block(scope, depth, 2)) for label in labels)
+            return "switch (%s.apply().action_run) { %s }" % (name, cases)
+        actions = [(name, parameters) for name, parameters, rank in scope.of_sort("action") if scope.rank is None or rank < scope.rank]
+        if not actions:
+            return None
+        name, parameters = self.pick(actions)
+        arguments = [self.argument_for(scope, direction, kind) for direction, kind in parameters]
+        return None if None in arguments else self.call_of(name, *arguments)
+
+    def argument_for(self, scope, direction, kind):
+        if direction not in ("out", "inout"):
+            return self.expression(scope, kind, 2)
+        fits = (lambda other: other[0] == "bit" and other[1] >= kind[1]) if kind[0] == "bit" else lambda other: other == kind
+        found = self.place(scope, fits, True)
+        if not found:
+            return None
+        made, of = found
+        if of == kind:
+            return made
+        low = self.upto(0, of[1] - kind[1])
+        return ("slice", made, low + kind[1] - 1, low)

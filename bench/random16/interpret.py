@@ -1,6 +1,6 @@
 # A plain interpreter of P4_16 programs of this project's profile, with entries, over packets: values are numbers and truth values, headers and
 # stacks are objects, and nothing is made ready. It follows docs/LANGUAGE16.md ("What a P4_16 program does with a packet"), docs/FABRIC.md and
-# the tables of docs/LANGUAGE14.md, and shares no code with the commands.
+# the tables of docs/LANGUAGE14.md, and shares no code with the commands. It takes down in `ran` which features it met (features.py).
 import zlib
 
 from read import program_of
@@ -8,21 +8,23 @@ from read import program_of
 ERRORS = ["NoError", "PacketTooShort", "StackOutOfBounds", "NoMatch"]
 DROP = 511
 STANDARD = {
-    "ingress_port": 9, "egress_spec": 9, "egress_port": 9, "instance_type": 32, "packet_length": 32, "checksum_error": 1, "parser_error": 2,
+    "ingress_port": 9, "egress_spec": 9, "egress_port": 9, "instance_type": 32, "packet_length": 32, "checksum_error": 1, "parser_error": "error",
 }
+BLOCKS = ["verify", "ingress", "egress", "compute", "deparser"]
+TRUTHS = ("==", "!=", "<", "<=", ">", ">=", "&&", "||", "!")
 
 
 class Stopped(Exception):
     """An error that stops the parser."""
 
 
-# What values stand in. Each holder has a width, or None for a truth value or an error.
+# What values stand in, which stay where they are while their contents change. Each holder has a width: None for a truth value, `error` for an error.
 
 
 class Variable:
     def __init__(self, width):
         self.width = width
-        self.value = 0
+        self.value = False if width is None else 0
 
 
 class Header:
@@ -52,18 +54,23 @@ class Stack:
         self.place = 0
 
     def take(self, other):
-        self.elements, self.place = [header.copy() for header in other.elements], other.place
+        for mine, its in zip(self.elements, other.elements):
+            mine.take(its)
+        self.place = other.place
 
     def copy(self):
         made = Stack([], 0)
-        made.take(self)
+        made.elements, made.place = [header.copy() for header in self.elements], self.place
         return made
 
     def move(self, count, up):
-        count = min(count, len(self.elements))
-        new = [Header(self.elements[0].widths.items()) for _ in range(count)]
-        kept = len(self.elements) - count
-        self.elements = new + self.elements[:kept] if up else self.elements[count:] + new
+        old = [header.copy() for header in self.elements]
+        for number, header in enumerate(self.elements):
+            source = number - count if up else number + count
+            if 0 <= source < len(old):
+                header.take(old[source])
+            else:
+                header.clear()
 
 
 class Field:
@@ -94,6 +101,13 @@ class Slice:
     def value(self, value):
         mask = (1 << self.width) - 1 << self.low
         self.of.value = self.of.value & ~mask | value << self.low & mask
+
+
+def copy_of(value):
+    """A value by itself: a number, a truth value, a header, a stack, or a struct of such."""
+    if isinstance(value, dict):
+        return {name: copy_of(part) for name, part in value.items()}
+    return value.copy() if isinstance(value, (Header, Stack)) else value.value
 
 
 # Sums over lists of bits.
@@ -164,22 +178,27 @@ class Machine:
         self.program = program_of(text)
         self.bound = bound
         self.work = 0
+        self.ran = set()
         blocks, parsers, controls = (self.program[part] for part in ("blocks", "parsers", "controls"))
         self.parser = parsers[blocks[0]]
         self.controls = [controls[name] for name in blocks[1:]]
         _, headers, metadata, _ = self.parser[0]
         self.headers = headers[1][1]
         self.metadata = metadata[1][1]
-        self.sessions, self.colours, self.executed, self.tables = {}, {}, {}, {}
+        self.sessions, self.colours, self.tables = {}, {}, {}
+        inner = {id(made) for control in controls.values() for made in control["objects"].values()}
+        self.top = {made["name"]: made for made in self.program["objects"] if id(made) not in inner}
         for made in self.program["objects"]:
             made["cells"] = [[0, 0] if made["kind"] == "counter" else 0 for _ in range(made["size"])]
+            made["executed"], made["blocks"] = 0, set()
         for control in controls.values():
             for table in control["tables"].values():
                 table["entries"], table["put default"] = [], None
                 self.tables[table["plane"]] = (table, control)
         for line in entries.split("\n"):
-            if line.split():
-                self.fill(line.split())
+            words = line.split()
+            if words and words[0][0] != "#":
+                self.fill(words)
 
     def fill(self, words):
         """A line of the entries file."""
@@ -211,13 +230,15 @@ class Machine:
             return Stack(self.program["headers"][kind[1]], kind[2])
         if kind[1] in self.program["headers"]:
             return Header(self.program["headers"][kind[1]])
+        if kind[1] == "standard_metadata_t":
+            return {name: Variable(width) for name, width in STANDARD.items()}
         return {name: self.new(of) for name, of, _ in self.program["structs"][kind[1]]}
 
     def begin(self, kind, length, port, kept):
         """The frame as a pass begins."""
         self.packet_headers = self.new(("named", self.headers))
         self.packet_metadata = self.new(("named", self.metadata))
-        self.standard = {name: Variable(width) for name, width in STANDARD.items()}
+        self.standard = self.new(("named", "standard_metadata_t"))
         self.put_all(self.packet_metadata, kept)
         self.standard["instance_type"].value = kind
         self.standard["packet_length"].value = length % 2**32
@@ -231,17 +252,23 @@ class Machine:
                 into[name].value = value
 
     def preserved(self, number):
-        """What a field list preserves of the metadata. A list of a member that is a struct is one of all its fields."""
-        return self.preserved_of(self.metadata, self.packet_metadata, number, False)
+        """What a field list preserves of the metadata: the bit fields whose own declaration bears its number."""
+        return self.preserved_of(self.metadata, self.packet_metadata, number)
 
-    def preserved_of(self, struct, values, number, whole):
+    def preserved_of(self, struct, values, number, marked=False):
+        """`marked` is whether the member that is this struct bears the number, which preserves nothing."""
         kept = {}
         for name, kind, lists in self.program["structs"][struct]:
-            marked = whole or number in lists
             if kind[0] == "named":
-                kept[name] = self.preserved_of(kind[1], values[name], number, marked)
-            else:
-                kept[name] = values[name].value if marked else 0
+                kept[name] = self.preserved_of(kind[1], values[name], number, number in lists)
+                continue
+            inner = struct != self.metadata
+            if number in lists:
+                kept[name] = values[name].value
+                if kept[name]:
+                    self.ran.add("preserved: field of a member struct" if inner else "preserved: field of the metadata")
+            elif values[name].value:
+                self.ran.add("preserved: not by the mark of the member struct" if marked else "preserved: not without a mark")
         return kept
 
     # Blocks
@@ -253,10 +280,24 @@ class Machine:
         self.names = {name: parts.get(kind[1]) for _, kind, name in parameters}
         for _, kind, name, _ in variables:
             self.names[name] = self.new(kind)
+            self.ran.add("variable: " + self.sort_of_kind(kind))
+        self.base, self.caller, self.applied = self.names, self.names, set()
         for _, kind, name, value in variables:
             if value is not None:
                 self.tick()
                 self.put(self.names[name], self.value_for(value, kind))
+
+    def sort_of_kind(self, kind):
+        if kind[0] != "named":
+            return kind[0]
+        return "header" if kind[1] in self.program["headers"] else "struct"
+
+    def named(self, name):
+        """What a name means in the scope of the declaration that is run, which needn't be what it means where this was called."""
+        found = self.names[name]
+        if found is self.base.get(name) and found is not self.caller.get(name):
+            self.ran.add("scope: of the declaration, not of the call")
+        return found
 
     def tick(self):
         self.work = (self.work + 1) % 2**64
@@ -269,31 +310,46 @@ class Machine:
             self.enter(parameters, variables, None)
             state = "start"
             while state not in ("accept", "reject"):
-                outer = dict(self.names)
+                outer, self.names = self.names, dict(self.names)
                 statements, transition = states[state]
                 for statement in statements:
                     self.run(statement)
                 self.tick()
                 state = self.lead(transition)
                 self.names = outer
+            self.ran.add("parser: " + state)
             return True
         except Stopped as stopped:
+            self.ran.add("parser: " + stopped.args[0])
             self.standard["parser_error"].value = ERRORS.index(stopped.args[0])
             return False
 
     def lead(self, transition):
         if transition[0] == "go":
             return transition[1]
-        keys = [self.bits(key) for key in transition[1]]
+        keys = [self.key_value(key) for key in transition[1]]
+        if len(keys) > 1:
+            self.ran.add("select: several keys")
+        if not transition[2]:
+            self.ran.add("select: no case")
         for keyset, state in transition[2]:
-            if all(self.is_in(value, width, simple) for (value, width), simple in zip(keys, keyset)):
+            if keyset == [("any",)] or all(self.is_in(value, simple) for (value, _), simple in zip(keys, keyset)):
+                self.ran.update("select: " + simple[0] for simple in keyset)
+                self.ran.update("select: key that is " + sort for _, sort in keys)
                 return state
         raise Stopped("NoMatch")
 
-    def is_in(self, value, width, simple):
+    def key_value(self, key):
+        """The value of a select's key, and the sort of it."""
+        sort = self.sort(key)
+        if sort == "bits":
+            return self.bits(key)[0], sort
+        return (self.truth(key) if sort == "bool" else self.error(key)), sort
+
+    def is_in(self, value, simple):
         if simple[0] == "any":
             return True
-        first, *second = (self.bits(part, width)[0] for part in simple[1:])
+        first, *second = (part[1] if part[0] == "truth" else part[2] for part in simple[1:])
         if simple[0] == "mask":
             return (value ^ first) & second[0] == 0
         if simple[0] == "range":
@@ -302,6 +358,7 @@ class Machine:
 
     def control(self, number):
         control = self.controls[number]
+        self.part = BLOCKS[number]
         self.enter(control["parameters"], control["variables"], control)
         self.run(control["apply"])
         return self.requests
@@ -311,7 +368,7 @@ class Machine:
     def run(self, statement):
         kind = statement[0]
         if kind == "block":
-            outer = dict(self.names)
+            outer, self.names = self.names, dict(self.names)
             for inner in statement[1]:
                 self.run(inner)
             self.names = outer
@@ -321,6 +378,9 @@ class Machine:
             if value is not None:
                 self.tick()
                 self.put(made, self.value_for(value, of))
+            self.ran.add("variable: " + self.sort_of_kind(of))
+            if name in self.names:
+                self.ran.add("scope: name that hides another")
             self.names[name] = made
         elif kind != "empty":
             self.tick()
@@ -328,39 +388,48 @@ class Machine:
 
     def run_assign(self, target, value):
         place = self.place(target)
-        if isinstance(place, Variable) and place.width is None:
+        if isinstance(place, (Header, Stack, dict)):
+            self.ran.add("assignment: " + {Header: "header", Stack: "stack", dict: "struct"}[type(place)])
+            self.put(place, copy_of(self.place(value)))
+        elif place.width is None:
             self.put(place, self.truth(value))
-        elif isinstance(place, (Header, Stack, dict)):
-            self.put(place, self.place(value))
+        elif place.width == "error":
+            self.ran.add("assignment: error")
+            self.put(place, self.error(value))
         else:
+            if target[0] == "slice":
+                self.ran.add("assignment: slice")
             self.put(place, self.bits(value, place.width)[0])
 
     def run_if(self, condition, yes, no):
-        outer = dict(self.names)
+        outer, self.names = self.names, dict(self.names)
         self.run(yes if self.truth(condition) else no)
         self.names = outer
 
     def run_switch(self, table, cases):
-        _, ran = self.apply(table)
-        named = [body for label, body in cases if label == ran]
+        _, action = self.apply(table)
+        named = [body for label, body in cases if label == action]
         others = [body for label, body in cases if label == "default"]
+        self.ran.add("switch: " + ("label" if named else "default" if others else "neither"))
+        if len(named) > 1:
+            self.ran.add("switch: label twice")
         for body in (named or others)[:1]:
             self.run(body)
 
     def put(self, place, value):
-        """Puts a value of the kind of the place there: a number is cut."""
+        """Puts a value (`copy_of`) of the kind of the place there: a number is cut."""
         if isinstance(place, (Header, Stack)):
-            place.take(value.copy())
+            place.take(value)
         elif isinstance(place, dict):
             for name in place:
-                self.put(place[name], value[name] if isinstance(value[name], (dict, Header, Stack)) else value[name].value)
+                self.put(place[name], value[name])
         else:
-            place.value = value if isinstance(place, Variable) and place.width is None else value % (1 << place.width)
+            place.value = value if place.width in (None, "error") else value % (1 << place.width)
 
     def value_for(self, expression, kind):
         if kind[0] == "bit":
             return self.bits(expression, kind[1])[0]
-        return self.truth(expression) if kind[0] == "bool" else self.place(expression).copy()
+        return self.truth(expression) if kind[0] == "bool" else copy_of(self.place(expression))
 
     # Expressions
 
@@ -368,8 +437,9 @@ class Machine:
         """What an l-value means, or a header, a stack or a struct that an expression is."""
         kind = expression[0]
         if kind == "name":
-            return self.names[expression[1]]
+            return self.named(expression[1])
         if kind == "choice":
+            self.ran.add("expression: choice of headers, stacks or structs")
             return self.place(expression[2] if self.truth(expression[1]) else expression[3])
         of = self.place(expression[1])
         if kind == "element":
@@ -388,28 +458,49 @@ class Machine:
             expression = expression[1]
         return expression[0] in ("name", "member", "element")
 
-    def is_truth(self, expression):
-        """Whether an expression is a truth value."""
+    def like(self, expression):
+        """A place of the kind of an expression, which is found without any effect or error."""
+        kind = expression[0]
+        if kind == "name":
+            return self.names[expression[1]]
+        if kind == "choice":
+            return self.like(expression[2])
+        if kind == "slice":
+            return Variable(expression[2] - expression[3] + 1)
+        of = self.like(expression[1])
+        if isinstance(of, Stack):
+            return of.elements[0]
+        return Field(of, expression[2]) if isinstance(of, Header) else of[expression[2]]
+
+    def sort(self, expression):
+        """Whether an expression is `bits`, a `bool`, an `error` or something of `several` values."""
         kind = expression[0]
         if kind == "choice":
-            return self.is_truth(expression[2])
-        if kind == "name":
-            found = self.names.get(expression[1])
-            return isinstance(found, Variable) and found.width is None
-        if kind == "called":
-            return expression[1][2] == "isValid"
-        if kind == "member":
-            return expression[2] in ("hit", "miss") and expression[1][0] == "called"
-        operators = ("==", "!=", "<", "<=", ">", ">=", "&&", "||", "!")
-        return kind == "truth" or kind == "cast" and expression[1][0] == "bool" or kind in ("operator", "before") and expression[1] in operators
+            return self.sort(expression[2])
+        if kind in ("truth", "called"):
+            return "bool"
+        if kind == "cast":
+            return "bool" if expression[1][0] == "bool" else "bits"
+        if kind in ("operator", "before"):
+            return "bool" if expression[1] in TRUTHS else "bits"
+        if kind in ("number", "lookahead", "slice"):
+            return "bits"
+        if kind == "member" and expression[1] == ("name", "error"):
+            return "error"
+        if kind == "member" and expression[1][0] == "called":
+            return "bool"
+        found = self.like(expression)
+        if isinstance(found, (Header, Stack, dict)):
+            return "several"
+        return {None: "bool", "error": "error"}.get(found.width, "bits")
 
-    def error_of(self, expression):
-        """The number of an error, or None."""
-        if expression[0] != "member":
-            return None
+    def error(self, expression):
+        """The number of an error."""
+        if expression[0] == "choice":
+            return self.error(expression[2] if self.truth(expression[1]) else expression[3])
         if expression[1] == ("name", "error"):
             return ERRORS.index(expression[2])
-        return self.place(expression).value if expression[2] == "parser_error" else None
+        return self.place(expression).value
 
     def truth(self, expression):
         kind = expression[0]
@@ -418,13 +509,14 @@ class Machine:
         if kind == "before":
             return not self.truth(expression[2])
         if kind == "cast":
-            return self.truth(expression[2]) if self.is_truth(expression[2]) else self.bits(expression[2], 1)[0] == 1
+            return self.bits(expression[2])[0] == 1
         if kind == "choice":
             return self.truth(expression[2] if self.truth(expression[1]) else expression[3])
         if kind == "called":
             return self.place(expression[1][1]).valid
         if kind == "member" and expression[1][0] == "called":
             hit, _ = self.apply(expression[1][1][1][1])
+            self.ran.add("expression: hit or miss of a table")
             return hit == (expression[2] == "hit")
         if kind != "operator":
             return bool(self.place(expression).value)
@@ -437,12 +529,33 @@ class Machine:
         return {"==": a == b, "!=": a != b, "<": a < b, "<=": a <= b, ">": a > b, ">=": a >= b}[operator]
 
     def compared(self, left, right):
-        if self.error_of(left) is not None:
-            return self.error_of(left), self.error_of(right)
-        if self.is_truth(left):
+        sort = self.sort(left)
+        self.ran.add("expression: comparison of " + sort)
+        if sort == "error":
+            return self.error(left), self.error(right)
+        if sort == "bool":
             return self.truth(left), self.truth(right)
-        a, width = self.bits(left)
-        return a, self.bits(right, width)[0]
+        width = self.width(left) or self.width(right)
+        return self.bits(left, width)[0], self.bits(right, width)[0]
+
+    def width(self, expression):
+        """The width of a number by itself, or None where it has that of its place."""
+        kind = expression[0]
+        if kind in ("number", "lookahead"):
+            return expression[1]
+        if kind == "before":
+            return self.width(expression[2])
+        if kind == "cast":
+            return expression[1][1]
+        if kind == "choice":
+            return self.width(expression[2]) or self.width(expression[3])
+        if kind == "operator" and expression[1] == "++":
+            return self.width(expression[2]) + self.width(expression[3])
+        if kind == "operator" and expression[1] in ("<<", ">>"):
+            return self.width(expression[2])
+        if kind == "operator":
+            return self.width(expression[2]) or self.width(expression[3])
+        return self.like(expression).width
 
     def bits(self, expression, width=None):
         """The number that an expression is, with its width; a number without a width has that of its place."""
@@ -455,19 +568,23 @@ class Machine:
             return (~value if expression[1] == "~" else -value) % (1 << width), width
         if kind == "cast":
             width = expression[1][1]
-            if self.is_truth(expression[2]):
+            if self.sort(expression[2]) == "bool":
+                self.ran.add("expression: cast of a truth value")
                 return int(self.truth(expression[2])), width
-            return self.bits(expression[2], width)[0] % (1 << width), width
+            return self.bits(expression[2])[0] % (1 << width), width
         if kind == "choice":
+            width = self.width(expression) or width
             return self.bits(expression[2] if self.truth(expression[1]) else expression[3], width)
         if kind == "lookahead":
             width = expression[1]
+            self.ran.add("parser: lookahead")
             if len(self.unparsed) < width:
                 raise Stopped("PacketTooShort")
             return int(self.unparsed[:width], 2), width
         if kind == "operator":
-            return self.operated(*expression[1:], width)
+            return self.operated(*expression[1:], self.width(expression) or width)
         if kind == "slice" and not self.is_place(expression):
+            self.ran.add("expression: slice of what is no place")
             value, _ = self.bits(expression[1])
             count = expression[2] - expression[3] + 1
             return value >> expression[3] & (1 << count) - 1, count
@@ -475,12 +592,13 @@ class Machine:
         return place.value, place.width
 
     def operated(self, operator, left, right, width):
+        self.ran.add("operator: " + operator)
         a, width = self.bits(left, None if operator == "++" else width)
         if operator == "++":
             b, behind = self.bits(right)
             return a << behind | b, width + behind
         if operator in ("<<", ">>"):
-            b, _ = self.bits(right, 32)
+            b, _ = self.bits(right)
             if b >= width:
                 return 0, width
             return (a << b) % (1 << width) if operator == "<<" else a >> b, width
@@ -493,7 +611,7 @@ class Machine:
         return results[operator], width
 
     def list_bits(self, items):
-        return "".join(format(value, "0%db" % width) for value, width in map(self.bits, items[1]) if width)
+        return "".join(format(value, "0%db" % width) for value, width in map(self.bits, items[1]))
 
     # Calls
 
@@ -512,16 +630,20 @@ class Machine:
             if method == "apply":
                 self.apply(of[1])
             else:
-                self.call_object(self.block["objects"][of[1]], method, arguments)
+                self.call_object(self.object(of[1]), method, arguments)
         else:
             self.call_header(self.place(of), method, arguments)
 
+    def object(self, name):
+        return self.block["objects"].get(name) or self.top.get(name)
+
     def call_header(self, of, method, arguments):
+        self.ran.add("header or stack: " + method)
         if method in ("push_front", "pop_front"):
             of.move(arguments[0][2], method == "push_front")
         elif method == "setInvalid":
             of.clear()
-        elif not of.valid:
+        elif method == "setValid" and not of.valid:
             of.clear()
             of.valid = True
 
@@ -529,36 +651,57 @@ class Machine:
         """Runs an action with the values of its parameters, and gives these as they are left."""
         action = self.block["actions"][name]
         own = {}
-        for (_, kind, parameter), value in zip(action["parameters"], values):
+        for (direction, kind, parameter), value in zip(action["parameters"], values):
             own[parameter] = self.new(kind)
             if value is not None:
                 self.put(own[parameter], value)
-        outer = self.names
-        self.names = {**outer, **own}
+            self.ran.add("parameter: %s %s" % (direction or "plain", self.sort_of_kind(kind)))
+            if parameter in self.base:
+                self.ran.add("scope: name that hides another")
+        outer, caller = self.names, self.caller
+        self.names, self.caller = {**self.base, **own}, outer
         self.run(action["body"])
-        self.names = outer
+        self.names, self.caller = outer, caller
         return [own[parameter] for _, _, parameter in action["parameters"]]
 
     def act_given(self, name, arguments):
+        self.ran.add("action: called")
         parameters = self.block["actions"][name]["parameters"]
         places, values = [], []
         for (direction, kind, _), argument in zip(parameters, arguments):
-            places.append(self.place(argument) if direction in ("out", "inout") else None)
-            values.append(None if direction == "out" else self.value_for(argument, kind))
+            if direction in ("out", "inout"):
+                places.append(self.place(argument))
+                values.append(copy_of(places[-1]) if direction == "inout" else None)
+            else:
+                places.append(None)
+                values.append(self.value_for(argument, kind))
         for place, left in zip(places, self.act(name, values)):
             if place is not None:
-                self.put(place, left if isinstance(left, (Header, Stack)) else left.value)
+                self.put(place, copy_of(left))
 
     def apply(self, name):
         """Applies a table: whether an entry was hit, and which action ran."""
         table = self.block["tables"][name]
-        keys = [(int(self.truth(key)), 1) if self.is_truth(key) else self.bits(key) for key, _ in table["keys"]]
+        self.ran.add("table: in " + self.part)
+        if name in self.applied:
+            self.ran.add("table: again in the same block")
+        self.applied.add(name)
+        names, caller = self.names, self.caller
+        self.names, self.caller = self.base, names
+        sorts = [self.sort(key) for key, _ in table["keys"]]
+        keys = [(int(self.truth(key)), 1) if sort == "bool" else self.bits(key) for sort, (key, _) in zip(sorts, table["keys"])]
+        self.names, self.caller = names, caller
         fitting = [entry for entry in table["entries"] if all(matches(*key, asked) for key, asked in zip(keys, entry["keys"]))]
         outer = self.hit
         if fitting:
             best = min(fitting, key=lambda entry: self.rank(entry))
             self.hit = (table, best)
             action, arguments = best["action"], best["arguments"]
+            self.ran.update("table: hit by a key that is " + key[0] for key in best["keys"])
+            if "bool" in sorts:
+                self.ran.add("table: hit by a key that is bool")
+            if len(fitting) > 1:
+                self.ran.add("table: several entries fit")
         else:
             self.hit = None
             action, arguments = self.default_of(table)
@@ -574,9 +717,12 @@ class Machine:
 
     def default_of(self, table):
         if table["put default"]:
+            self.ran.add("table: default of the entries")
             return table["put default"]
         if not table["default"] or table["default"][0] == "NoAction":
+            self.ran.add("table: miss without an action")
             return None, []
+        self.ran.add("table: default of the program")
         name, arguments = table["default"]
         parameters = self.block["actions"][name]["parameters"]
         return name, [self.value_for(argument, kind) for argument, (_, kind, _) in zip(arguments, parameters)]
@@ -589,8 +735,13 @@ class Machine:
 
     def call_object(self, made, method, arguments):
         kind, cells = made["kind"], made["cells"]
+        made["blocks"].add(self.part)
+        self.ran.add("object: %s, %s" % (kind, method))
+        if len(made["blocks"]) > 1:
+            self.ran.add("object: used in two blocks")
         if kind == "direct_counter":
-            if self.hit and self.hit[0]["counter"] == made["name"]:
+            if self.hit and self.object(self.hit[0]["counter"]) is made:
+                self.ran.add("object: count of an entry")
                 self.count(made, self.hit[1]["cell"])
         elif kind == "counter":
             index, _ = self.bits(arguments[0], 32)
@@ -598,10 +749,11 @@ class Machine:
                 self.count(made, cells[index])
         elif kind == "meter":
             index, _ = self.bits(arguments[0], 32)
-            self.put(self.place(arguments[1]), self.colour(made) if index < len(cells) else 0)
+            place = self.place(arguments[1])
+            self.put(place, self.colour(made) if index < len(cells) else 0)
         elif method == "write":
             index, _ = self.bits(arguments[0], 32)
-            value, _ = self.bits(arguments[1], made["width"])
+            value, _ = self.bits(arguments[1])
             if index < len(cells):
                 cells[index] = value % (1 << made["width"])
         elif method == "read":
@@ -610,17 +762,18 @@ class Machine:
             self.put(place, cells[index] if index < len(cells) else 0)
 
     def colour(self, meter):
-        turn = self.executed.get(meter["name"], 0)
-        self.executed[meter["name"]] = turn + 1
+        turn = meter["executed"]
+        meter["executed"] = turn + 1
         return (self.colours.get(meter["plane"], []) + [0] * (turn + 1))[turn]
 
     def extern(self, name, arguments):
+        self.ran.add("call: " + name)
         if name == "mark_to_drop":
             self.place(arguments[0])["egress_spec"].value = DROP
         elif name == "hash":
             target, sum_of, base, items, most = arguments
             place = self.place(target)
-            start, _ = self.bits(base, place.width)
+            start, _ = self.bits(base)
             result = SUMS[sum_of[2]](self.list_bits(items))
             count, _ = self.bits(most)
             self.put(place, start + (result % count if count else 0))
@@ -634,6 +787,7 @@ class Machine:
 
     def checksum(self, name, condition, items, field, sum_of):
         holds = self.truth(condition)
+        self.ran.add("sum: " + sum_of[2])
         result = SUMS[sum_of[2]](self.list_bits(items) + (self.unparsed if name.endswith("_with_payload") else ""))
         if name.startswith("update"):
             place = self.place(field)
@@ -642,6 +796,7 @@ class Machine:
             return
         value, width = self.bits(field)
         if holds and result % (1 << width) != value:
+            self.ran.add("sum: not that of the packet")
             self.standard["checksum_error"].value = 1
 
     def extract(self, target):
@@ -653,11 +808,14 @@ class Machine:
         header.valid = True
         for name, width in header.widths.items():
             header.values[name], bits = int(bits[:width], 2), bits[width:]
-        if target[0] == "member" and target[2] == "next" and isinstance(self.place(target[1]), Stack):
+        of_stack = target[0] == "member" and isinstance(self.like(target[1]), Stack)
+        self.ran.add("extract: " + (target[2] if of_stack else target[0]))
+        if of_stack and target[2] == "next":
             self.place(target[1]).place += 1
 
     def emit(self, what):
         found = self.place(what)
+        self.ran.add("emit: " + ("stack" if isinstance(found, Stack) else "header"))
         for header in found.elements if isinstance(found, Stack) else [found]:
             if header.valid:
                 self.emitted += header.bits()
@@ -672,13 +830,15 @@ class Machine:
         while queue and passes < self.bound:
             passes += 1
             self.one_pass(queue.pop(0), queue, sent)
+        if queue:
+            self.ran.add("pass: cut by the bound")
         return sent, len(queue)
 
     def one_pass(self, item, queue, sent):
         kind, octets, port = item["kind"], item["octets"], item["port"]
+        self.ran.add("pass: of instance type %d" % kind)
         if kind == 2:
-            self.begin(kind, 0, port, item["kept"])
-            self.standard["packet_length"].value = item["length"]
+            self.begin(kind, item["length"], port, item["kept"])
             self.packet_headers, self.unparsed = item["headers"], item["unparsed"]
             self.leave(item, item["to"], queue, sent)
             return
@@ -708,6 +868,7 @@ class Machine:
         if session in self.sessions:
             queue.append(self.clone(item, self.sessions[session], number))
         if self.standard["egress_spec"].value == DROP:
+            self.ran.add("pass: dropped in egress")
             return
         again = self.preserved(requests["recirculate"]) if "recirculate" in requests else None
         self.control(3)
@@ -722,13 +883,13 @@ class Machine:
     def clone(self, item, port, number):
         """A clone made behind egress, which carries the headers as they are."""
         return {
-            "kind": 2, "octets": b"", "port": item["port"], "kept": self.preserved(number), "to": port,
-            "headers": {name: part.copy() for name, part in self.packet_headers.items()}, "unparsed": self.unparsed,
+            "kind": 2, "octets": b"", "port": item["port"], "kept": self.preserved(number), "to": port, "unparsed": self.unparsed,
+            "headers": copy_of(self.packet_headers),
             "length": self.standard["packet_length"].value,
         }
 
     def report(self, packets, ports):
-        """The packets that are sent, and the report of the run, where each packet comes in on its port."""
+        """The packets that are sent, the report of the run and the line that it prints, where each packet comes in on its port."""
         sent, cut = [], 0
         for octets, port in zip(packets, ports):
             some, more = self.serve(octets, port)
@@ -738,14 +899,17 @@ class Machine:
         lines += ["in %d" % len(packets), "out %d" % len(sent), "cut %d" % cut]
         for made in sorted(self.program["objects"], key=lambda made: made["plane"].encode()):
             lines += self.cells_of(made)
-        return sent, "".join(line + "\n" for line in lines + ["work %d" % self.work])
+        return sent, "".join(line + "\n" for line in lines + ["work %d" % self.work]), "ran %d %d %d\n" % (len(packets), len(sent), cut)
 
     def cells_of(self, made):
         """The lines of the cells that aren't 0."""
         if made["kind"] == "meter":
             return []
         words = {"counter": "counter", "direct_counter": "direct", "register": "register"}
-        cells = [cell if isinstance(cell, list) else [cell] for cell in self.entry_cells(made) or made["cells"]]
+        if made["kind"] == "direct_counter":
+            cells = self.entry_cells(made)
+        else:
+            cells = [cell if isinstance(cell, list) else [cell] for cell in made["cells"]]
         head = "%s %s" % (words[made["kind"]], made["plane"])
         return ["%s %d %s" % (head, place, " ".join(map(str, cell))) for place, cell in enumerate(cells) if any(cell)]
 
