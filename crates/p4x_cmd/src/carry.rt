@@ -5,7 +5,7 @@ ghost use Rattle.fabric.specs.Numbers.{IsBound};
 ghost use Rattle.p4x_io.specs.Desk.{Rose, Moves, put};
 ghost use Rattle.p414_one_table.specs.declared.program.OneTable14.{OneTable14};
 ghost use Rattle.p4x_cmd.specs.Calls.{PacketsFit};
-ghost use Rattle.p4x_cmd.specs.Carry.{entries_stop, not_taken, StopsBefore, Begins, CarryDue, InOrder, KeepsInOrder};
+ghost use Rattle.p4x_cmd.specs.Carry.{ProgramIs, entries_stop, not_taken, StopsBefore, Begins, CarryDue, InOrder, KeepsInOrder};
 ghost use Rattle.p414_one_table.specs.Programs.{is_one_table};
 ghost use Rattle.program_commands.specs.Programs.{IsProgramStop, ReadsOnce};
 ghost use Rattle.one_table_text.specs.Programs.{program16};

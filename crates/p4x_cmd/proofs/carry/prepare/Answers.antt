@@ -4,7 +4,7 @@ use Rattle.p4x_io.proofs.Desks.{moves_on}
 use Rattle.p4x_cmd.specs.Carry.{HasProgram}
 use Rattle.command_words.specs.Views.{files_of}
 use Rattle.file_work.proofs.Phases.{tells_on, reads_since, blames_as}
-use Rattle.p4x_cmd.proofs.Order.{order_entries, order_ports, order_begun}
+use Rattle.p4x_cmd.proofs.Order.{order_program, order_entries, order_ports, order_begun}
 use Rattle.p4x_cmd.proofs.Phases.{stops_at_ports}
 use Rattle.p4x_cmd.proofs.carry.prepare.Goals as goal
 
@@ -34,6 +34,11 @@ returns-clause-begins g c = λ files told.
     let has : HasProgram (files_of n) files c.in_ok-program.program = ((c.in_ok-program.ensures.gives (files n.program.now) told.0).0, c.in_ok-check_entries.ensures.gives (files n.entries.now) (first.others n.entries.now tt ∙ told.1.0)) in
     let ports = c.in_ok-ports.ensures.gives files (tells_on (option_to_list (files_of n).ports) _ _ files moves told.1.1.1) in
     (_, (has, ports), c.in_ok-program-2.ensures.program)
+
+pub returns-in_err-program-clause-order : goal.returns-in_err-program-clause-order
+returns-in_err-program-clause-order g c =
+    let p = err_from_is_err_and c.from_residual.result c.from_residual.ensures.1 in
+    rw (p.1, p.2) (order_program _ (files_of c.args.names.now) _ _ c.in_err-program.ensures.only c.in_err-program.ensures.gives)
 
 pub returns-in_err-ports-clause-order : goal.returns-in_err-ports-clause-order
 returns-in_err-ports-clause-order g c =
