@@ -5,8 +5,16 @@ use Rattle.p4x_cmd.specs.Carry.{HasProgram}
 use Rattle.command_words.specs.Views.{files_of}
 use Rattle.file_work.proofs.Phases.{tells_on, reads_since, blames_as}
 use Rattle.p4x_cmd.proofs.Order.{order_program, order_entries, order_ports, order_begun}
-use Rattle.p4x_cmd.proofs.Phases.{stops_at_ports}
+use Rattle.p4x_cmd.proofs.Phases.{stops_at_entries, stops_at_ports}
 use Rattle.p4x_cmd.proofs.carry.prepare.Goals as goal
+
+pub returns-in_err-check_entries-clause-stops : goal.returns-in_err-check_entries-clause-stops
+returns-in_err-check_entries-clause-stops g c = λ files told.
+    let p = err_from_is_err_and c.from_residual-in_err-check_entries.result c.from_residual-in_err-check_entries.ensures.1 in
+    let n = c.args.names.now in
+    let first = c.in_ok-program.ensures.moves in
+    rw (p.1, p.2) (stops_at_entries (files_of n) files c.in_ok-program.program _ (c.in_ok-program.ensures.gives (files n.program.now) told.0).0
+    (c.in_err-check_entries.ensures.gives (files n.entries.now) (first.others n.entries.now tt ∙ told.1.0)))
 
 pub returns-in_err-ports-clause-stops : goal.returns-in_err-ports-clause-stops
 returns-in_err-ports-clause-stops g c = λ files told.
