@@ -4,8 +4,6 @@
 mod crcs;
 mod sums;
 mod tables;
-#[cfg(test)]
-mod tests;
 
 pub use crcs::{crc16, crc32};
 pub use sums::{csum16, identity};

@@ -1,14 +1,7 @@
 // Hands the words, the files and the output to the top call, and ends with its status.
 #![tactic(auto)]
 
-mod advice;
-mod heard;
-mod rules;
-#[cfg(test)]
-mod tests;
-
-use advice::{Advice, advice_on};
-use heard::Heard;
+use command_advice::{Advice, Heard, advice_on};
 use p4x_cmd::p4x;
 use p4x_io::{HostDesk, HostSink};
 use std::process::ExitCode;

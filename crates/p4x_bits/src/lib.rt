@@ -5,8 +5,6 @@ mod bits;
 mod fields;
 mod memory;
 mod rows;
-#[cfg(test)]
-mod tests;
 
 pub use bits::Bits;
 pub use fields::{read_octet_field, write_octet_field};

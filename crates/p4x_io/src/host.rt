@@ -10,8 +10,6 @@ use std::marker::Model;
 use std::rt::Files;
 
 mod handles;
-#[cfg(test)]
-mod tests;
 mod tries;
 
 use handles::{Handles, append_to, make_at, read_from};

@@ -13,8 +13,6 @@ mod host;
 mod memory;
 mod sink;
 mod slot;
-#[cfg(test)]
-mod tests;
 
 pub use desk::{Desk, Sink};
 pub use faults::{Failed, OutOfMemory};

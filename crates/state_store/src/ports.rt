@@ -85,35 +85,3 @@ fn is_unmarked(seen: &[bool], session: Session) -> bool
         && session.port <= GREATEST_PORT
         && !seen.get(session.number as usize).copied().unwrap_or(true)
 }
-
-#[cfg(test)]
-mod tests {
-    use super::*;
-    use std::test::Fail;
-
-    #[test]
-    fn the_greatest_numbers_are_these(rt: HostRuntime) -> Result<(), Fail> {
-        assert_eq!(rt; GREATEST_PORT, 510);
-        assert_eq!(rt; DROP_PORT, 511);
-        assert_eq!(rt; GREATEST_SESSION, 32767);
-        assert!(rt; is_port(510) && !is_port(511));
-        assert!(rt; is_drop(511) && !is_drop(510));
-        assert!(rt; is_session_number(32767) && !is_session_number(32768));
-        let session = Session {
-            number: 32767,
-            port: 511,
-        };
-        assert!(rt; !is_session(session));
-        Ok(())
-    }
-
-    #[test]
-    fn no_session_has_the_number_of_another(rt: HostRuntime) -> Result<(), Fail> {
-        let first = Session { number: 9, port: 1 };
-        let second = Session { number: 8, port: 1 };
-        let again = Session { number: 9, port: 2 };
-        assert!(rt; are_sessions(rt.alloc(), [first, second].as_slice())?);
-        assert!(rt; !are_sessions(rt.alloc(), [first, second, again].as_slice())?);
-        Ok(())
-    }
-}

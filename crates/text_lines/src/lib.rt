@@ -8,6 +8,3 @@ mod word;
 pub use lines::{at_line, next_line};
 pub use numbers::{Base, are_digits, decimal_up_to, digit_value, number_up_to, radix};
 pub use word::{is_comment, next_word, words};
-
-#[cfg(test)]
-mod tests;

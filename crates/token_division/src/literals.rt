@@ -146,25 +146,3 @@ fn digit_value(digit: u8) -> u8
         digit.saturating_sub(b'0')
     }
 }
-
-#[cfg(test)]
-mod tests {
-    use super::*;
-
-    #[test]
-    fn numbers_have_their_value_and_their_length(rt: HostRuntime) {
-        let at = |value, size| Literal { value, size };
-        assert_eq!(rt; number(b"12ab"), at(Some(12), 2));
-        assert_eq!(rt; number(b"0x1_0;"), at(Some(16), 5));
-        assert_eq!(rt; number(b"0X_1"), at(Some(0), 1));
-        assert_eq!(rt; number(b"0b1012"), at(Some(5), 5));
-        assert_eq!(rt;
-            decimal_value(b"340282366920938463463374607431768211455"),
-            Some(u128::MAX)
-        );
-        assert_eq!(rt;
-            decimal_value(b"340282366920938463463374607431768211456"),
-            None
-        );
-    }
-}

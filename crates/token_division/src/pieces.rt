@@ -65,16 +65,3 @@ fn close_size(text: &[u8]) -> Option<usize>
     }
     None
 }
-
-#[cfg(test)]
-mod tests {
-    use super::*;
-
-    #[test]
-    fn comments_have_their_length(rt: HostRuntime) {
-        assert_eq!(rt; comment_size(b"// a\nb"), Ok(4));
-        assert_eq!(rt; comment_size(b"/*/**/ b"), Ok(6));
-        assert_eq!(rt; comment_size(b"/*/"), Err(Rule::L(2)));
-        assert_eq!(rt; comment_size(b"/ /"), Err(Rule::L(1)));
-    }
-}

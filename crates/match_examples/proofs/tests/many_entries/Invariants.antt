@@ -1,6 +1,0 @@
-use Rattle.std.proofs.Common.{All}
-use Rattle.match_core.specs.Fits.{FitsKeys}
-use Rattle.match_examples.proofs.tests.many_entries.Given as goal
-
-abbrev pub invariant-loop-number : goal.invariant-loop-number
-invariant-loop-number l = All (FitsKeys l.specs) l.entries.items

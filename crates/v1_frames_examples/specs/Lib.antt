@@ -1,2 +1,0 @@
--- Layouts: the parts of the frames of the tests.
-pub mod Layouts

@@ -1,5 +1,0 @@
-//! Tests of packed frames.
-#![tactic(auto)]
-
-#[cfg(test)]
-mod tests;

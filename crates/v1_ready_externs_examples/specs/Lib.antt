@@ -1,2 +1,0 @@
--- The layout of the frames of the tests.
-pub mod Layouts
