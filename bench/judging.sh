@@ -5,7 +5,7 @@
 set -eu
 top=$(cd "$(dirname "$0")/.." && pwd)
 . "$top/bench/scratch.sh"
-make_program judging p4x_bits p414_ast p414_reader p414_decl_check parse_graph deparse_order
+make_program judging p4x_bits p414_syntax p414_reader p414_decl_check parse_graph deparse_order
 run_once
 for _ in 1 2 3; do out/bench_judging; done | awk '
     function least(of, name, time) { if (!(name in of) || time < of[name]) of[name] = time }

@@ -6,19 +6,19 @@ use Rattle.match_core.specs.declared.entries.Entries.{Entries}
 use Rattle.match_core.specs.declared.signatures.TableSig.{TableSig}
 use Rattle.match_core.specs.Best.{best}
 use Rattle.match_core.specs.Tables.{filled_of}
-use Rattle.p414_ast.specs.declared.tables.Table.{Table}
-use Rattle.p414_rules.specs.Arguments.{action_number}
+use Rattle.p414_syntax.specs.declared.tables.Table.{Table}
+use Rattle.p414_syntax.specs.Arguments.{action_number}
 use Rattle.p414_sem.specs.State.{State, with_event as with_event14}
 use Rattle.p414_sem.specs.Effects.{Moment as Moment14, acted_by}
 use Rattle.p414_sem.specs.Signatures.{table_sig as sig14, actions_in_order}
 use Rattle.p414_sem.specs.Controls.{Setting as Setting14, Chosen as Chosen14, keys_of, signature_number, fill_of as fill14, found as found14, chosen as chosen14, chosen_action, counted, noted, run_chosen as run14, application_of}
-use Rattle.p416_ast.specs.declared.controls.Action16.{Action16}
-use Rattle.p416_ast.specs.declared.controls.Table16.{Table16}
-use Rattle.p416_rules.specs.Names.{Name}
-use Rattle.v1_sem.specs.Frames.{Frame, Hit, Moment, with_inner, with_event}
-use Rattle.v1_sem.specs.Signatures.{table_sig as sig16, table_number}
-use Rattle.v1_sem.specs.Surroundings.{Surroundings, action_named}
-use Rattle.v1_sem.specs.Tables.{Chosen, key_values, fill_of as fill16, found as found16, chosen as chosen16, number_of, hit_of, run_action, run_chosen as run16, with_application, applied_by}
+use Rattle.p416_syntax.specs.declared.controls.Action16.{Action16}
+use Rattle.p416_syntax.specs.declared.controls.Table16.{Table16}
+use Rattle.p416_syntax.specs.Names.{Name}
+use Rattle.v1_core.specs.Frames.{Frame, Hit, Moment, with_inner, with_event}
+use Rattle.v1_core.specs.Signatures.{table_sig as sig16, table_number}
+use Rattle.v1_core.specs.Surroundings.{Surroundings, action_named}
+use Rattle.v1_core.specs.Tables.{Chosen, key_values, fill_of as fill16, found as found16, chosen as chosen16, number_of, hit_of, run_action, run_chosen as run16, with_application, applied_by}
 use Rattle.agreement_of_meanings.specs.Agrees.{NewNames, Corresponds}
 use Rattle.agreement_of_meanings.specs.Tables.{ChosenAgree, only_action, IsAlike, AppliedAgree}
 use Rattle.agreement_of_meanings.proofs.Written.{requests_by14, requests_by16}

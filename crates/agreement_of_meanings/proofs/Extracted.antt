@@ -4,22 +4,22 @@ use Rattle.std.proofs.lemmas.List.{get_or-set_same, map-set, length-map}
 use Rattle.std.proofs.lemmas.Bool.{ltb-true}
 use Rattle.p4x_bits.specs.BitLists.{num, octet_bits}
 use Rattle.fabric.specs.declared.items.RequestKind.{RequestKind}
-use Rattle.p414_lexemes.specs.declared.lexeme.Literal.{Literal}
-use Rattle.p414_ast.specs.declared.parts.Index.TheVariants.{At, Next}
-use Rattle.p414_ast.specs.declared.syntax.Decl.{Decl}
+use Rattle.p414_syntax.specs.declared.lexeme.Literal.{Literal}
+use Rattle.p414_syntax.specs.declared.parts.Index.TheVariants.{At, Next}
+use Rattle.p414_syntax.specs.declared.syntax.Decl.{Decl}
 use Rattle.p414_sem.specs.declared.standard.Standard.{Standard}
 use Rattle.p414_sem.specs.declared.standard.Standard.TheVariants.{IngressPort, EgressSpec, EgressPort, PacketLength, InstanceType}
 use Rattle.p414_sem.specs.declared.parsed.Parsed.TheVariants.{OutOfPacket, OutOfBounds}
 use Rattle.p414_sem.specs.State.{Header as Header14, Instance, State, no_instance, no_header as no_header14, instance_at, place_of, standard_number, with_header, with_place, request_of as request14}
 use Rattle.p414_sem.specs.Packing.{widths_of, numbers_in}
 use Rattle.p414_sem.specs.Parsing.{Progress, goes_on, stops, Latest, extracted as extracted14}
-use Rattle.p416_rules.specs.Names.{Name}
-use Rattle.v1_sem.specs.declared.parser_error.ParserError.{ParserError}
-use Rattle.v1_sem.specs.declared.parser_error.ParserError.TheVariants.{PacketTooShort, StackOutOfBounds}
-use Rattle.v1_sem.specs.Values.{Field, Header, a_number, a_header, a_stack, member_in, header_in, place_in, elements_in, to_member, to_element, part_of, with_part, fitted}
-use Rattle.v1_sem.specs.Frames.{Frame, Moment, Reference, of_headers, with_owned, read, write, raised, is_stopped, going_on, request_of as request16}
-use Rattle.v1_sem.specs.Expressions.{has_bits, bounded}
-use Rattle.v1_sem.specs.Externs.Packets.{field_width, header_width, fields_filled, extracted, moved, extract}
+use Rattle.p416_syntax.specs.Names.{Name}
+use Rattle.v1_core.specs.declared.parser_error.ParserError.{ParserError}
+use Rattle.v1_core.specs.declared.parser_error.ParserError.TheVariants.{PacketTooShort, StackOutOfBounds}
+use Rattle.v1_core.specs.Values.{Field, Header, a_number, a_header, a_stack, member_in, header_in, place_in, elements_in, to_member, to_element, part_of, with_part, fitted}
+use Rattle.v1_core.specs.Frames.{Frame, Moment, Reference, of_headers, with_owned, read, write, raised, is_stopped, going_on, request_of as request16}
+use Rattle.v1_core.specs.Expressions.{has_bits, bounded}
+use Rattle.v1_core.specs.Externs.Packets.{field_width, header_width, fields_filled, extracted, moved, extract}
 use Rattle.agreement_of_meanings.specs.Shown.{NamedField, width_of, Shown, as_header, as_stack, as_metadata, shown_at, fields_of, is_metadata, NamesDiffer, shown_fields, shown_header, element, IsShown, AreShown, standard_word, standard_width, instance_reference, element_reference}
 use Rattle.agreement_of_meanings.specs.Agrees.{NewNames, Agrees, RequestsAgree, IsElement, HasElement, GoesOn, ProgressAgrees}
 use Rattle.agreement_of_meanings.specs.Lowered.{IsNamed, extracts_next}

@@ -4,8 +4,8 @@ use Rattle.std.proofs.lemmas.Bool.Decides.{not_from_Decides}
 use Rattle.std.proofs.lemmas.Slice.Eq.{bytes_eq-Decides}
 use Rattle.std.specs.Str.{bytes_eq}
 use Rattle.p414_sem.specs.State.{Header as Header14, Instance, with_field as with_field14}
-use Rattle.p416_rules.specs.Names.{Name}
-use Rattle.v1_sem.specs.Values.{Field, Header, Value, a_number, a_truth, an_error, a_header, a_stack, no_members, a_member, a_symbol, some_bits, no_value, number_in, to_member, member_in, with_member, part_of, with_part, fitted, field_in, field_value, with_field, with_header_field}
+use Rattle.p416_syntax.specs.Names.{Name}
+use Rattle.v1_core.specs.Values.{Field, Header, Value, a_number, a_truth, an_error, a_header, a_stack, no_members, a_member, a_symbol, some_bits, no_value, number_in, to_member, member_in, with_member, part_of, with_part, fitted, field_in, field_value, with_field, with_header_field}
 use Rattle.agreement_of_meanings.specs.Shown.{NamedField, field_at, FieldsDiffer, Shown, as_header, as_stack, as_metadata, shown_fields, shown_header, shown_members, shown_value, element}
 
 -- names

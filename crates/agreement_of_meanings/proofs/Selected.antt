@@ -5,23 +5,23 @@ use Rattle.std.proofs.Math.Bool.{and-true}
 use Rattle.std.proofs.Math.Nat.{mod-eq_of_lt, mod-lt}
 use Rattle.std.proofs.lemmas.Nat.{and_mod, and_le_l}
 use Rattle.std.proofs.lemmas.Bool.{ltb-true}
-use Rattle.p414_lexemes.specs.declared.lexeme.Literal.{Literal}
-use Rattle.p414_ast.specs.declared.parsers.Masked.{Masked}
-use Rattle.p414_ast.specs.declared.parsers.CaseValues.{CaseValues}
-use Rattle.p414_ast.specs.declared.parsers.CaseValues.TheVariants as case_values
-use Rattle.p414_ast.specs.declared.parsers.CaseTarget.{CaseTarget}
-use Rattle.p414_ast.specs.declared.parsers.CaseTarget.TheVariants as case_target
-use Rattle.p414_ast.specs.declared.parsers.Case.{Case}
+use Rattle.p414_syntax.specs.declared.lexeme.Literal.{Literal}
+use Rattle.p414_syntax.specs.declared.parsers.Masked.{Masked}
+use Rattle.p414_syntax.specs.declared.parsers.CaseValues.{CaseValues}
+use Rattle.p414_syntax.specs.declared.parsers.CaseValues.TheVariants as case_values
+use Rattle.p414_syntax.specs.declared.parsers.CaseTarget.{CaseTarget}
+use Rattle.p414_syntax.specs.declared.parsers.CaseTarget.TheVariants as case_target
+use Rattle.p414_syntax.specs.declared.parsers.Case.{Case}
 use Rattle.p414_sem.specs.State.{State}
 use Rattle.p414_sem.specs.Parsing.{matches_value, matches_case, target_of_key, leads as leads14, selects}
-use Rattle.p416_ast.specs.declared.parsers.Target.{Target}
-use Rattle.p416_ast.specs.declared.parsers.SelectCase.{SelectCase}
-use Rattle.p416_rules.specs.Names.{Name}
-use Rattle.p416_rules.specs.Kinds.{bits}
-use Rattle.v1_sem.specs.declared.parser_error.ParserError.TheVariants.{NoMatch}
-use Rattle.v1_sem.specs.Values.{a_number}
-use Rattle.v1_sem.specs.Frames.{Moment, raised}
-use Rattle.v1_sem.specs.Parsing.{Key, Keys, matches_keyset, first_match, finished, to_found, selected}
+use Rattle.p416_syntax.specs.declared.parsers.Target.{Target}
+use Rattle.p416_syntax.specs.declared.parsers.SelectCase.{SelectCase}
+use Rattle.p416_syntax.specs.Names.{Name}
+use Rattle.p416_syntax.specs.Kinds.{bits}
+use Rattle.v1_core.specs.declared.parser_error.ParserError.TheVariants.{NoMatch}
+use Rattle.v1_core.specs.Values.{a_number}
+use Rattle.v1_core.specs.Frames.{Moment, raised}
+use Rattle.v1_core.specs.Parsing.{Key, Keys, matches_keyset, first_match, finished, to_found, selected}
 use Rattle.agreement_of_meanings.specs.Agrees.{NewNames, GoesOn, StepAgrees, KeyAgrees}
 use Rattle.agreement_of_meanings.specs.Lowered.{simple_of, case_to, value_cases, cases_of, target16, select_cases, IsState, LeadToStates}
 use Rattle.agreement_of_meanings.proofs.Extracted.{raised_stops}

@@ -8,9 +8,9 @@ use Rattle.p414_sem.specs.declared.standard.Standard.{Standard}
 use Rattle.p414_sem.specs.declared.standard.Standard.TheVariants.{IngressPort, EgressSpec, EgressPort, PacketLength, InstanceType}
 use Rattle.p414_sem.specs.Slots.{Slot, standard, declared}
 use Rattle.p414_sem.specs.State.{Header as Header14, Instance, State, no_instance, no_header as no_header14, instance_at, is_valid, standard_number, with_instance, with_standard, with_field as with_field14, read as read14, written, request_of as request14}
-use Rattle.p416_rules.specs.Names.{Name}
-use Rattle.v1_sem.specs.Values.{Header, Value, a_number, a_header, a_stack, no_header, number_in, to_member, to_element, member_in, with_member, part_of, with_part, fitted, field_in, field_value, with_header_field}
-use Rattle.v1_sem.specs.Frames.{Frame, of_headers, of_metadata, of_standard, owned, with_owned, read, write, request_of as request16}
+use Rattle.p416_syntax.specs.Names.{Name}
+use Rattle.v1_core.specs.Values.{Header, Value, a_number, a_header, a_stack, no_header, number_in, to_member, to_element, member_in, with_member, part_of, with_part, fitted, field_in, field_value, with_header_field}
+use Rattle.v1_core.specs.Frames.{Frame, of_headers, of_metadata, of_standard, owned, with_owned, read, write, request_of as request16}
 use Rattle.agreement_of_meanings.specs.Shown.{NamedField, field_at, Shown, as_header, as_stack, as_metadata, shown_at, name_of, fields_of, is_metadata, owner_of, NamesDiffer, FieldsDiffer, shown_header, shown_members, shown_value, element, IsShown, AreShown, standard_word, standard_width, reference, field_reference, slot_reference, slot_width}
 use Rattle.agreement_of_meanings.specs.Agrees.{NewNames, Agrees, RequestsAgree, IsElement, HasSlot}
 use Rattle.agreement_of_meanings.proofs.Names.{is_there, part_is, put_is, member_same, member_other, differ_names, field_is_at, header_field, header_read, number_found, number_written, shown_there}

@@ -10,14 +10,14 @@ use Rattle.p414_sem.specs.Slots.{Slot, standard, declared}
 use Rattle.p414_sem.specs.State.{Instance, State, instance_at, standard_number, request_of as request14}
 use Rattle.p414_sem.specs.Effects.{Moment as Moment14}
 use Rattle.p414_sem.specs.Parsing.{Progress, goes_on, stops, Step, to, ended}
-use Rattle.p416_ast.specs.declared.parsers.Target.{Target}
-use Rattle.p416_rules.specs.Names.{Name}
-use Rattle.p416_rules.specs.Kinds.{bits}
-use Rattle.v1_sem.specs.declared.parser_error.ParserError.{ParserError}
-use Rattle.v1_sem.specs.declared.parser_error.ParserError.TheVariants.{PacketTooShort, StackOutOfBounds, NoMatch}
-use Rattle.v1_sem.specs.Values.{a_number, member_in}
-use Rattle.v1_sem.specs.Frames.{Request, Frame, Moment, request_of as request16}
-use Rattle.v1_sem.specs.Parsing.{Keys, Onward, finished, to_target}
+use Rattle.p416_syntax.specs.declared.parsers.Target.{Target}
+use Rattle.p416_syntax.specs.Names.{Name}
+use Rattle.p416_syntax.specs.Kinds.{bits}
+use Rattle.v1_core.specs.declared.parser_error.ParserError.{ParserError}
+use Rattle.v1_core.specs.declared.parser_error.ParserError.TheVariants.{PacketTooShort, StackOutOfBounds, NoMatch}
+use Rattle.v1_core.specs.Values.{a_number, member_in}
+use Rattle.v1_core.specs.Frames.{Request, Frame, Moment, request_of as request16}
+use Rattle.v1_core.specs.Parsing.{Keys, Onward, finished, to_target}
 use Rattle.agreement_of_meanings.specs.Shown.{Shown, as_header, as_stack, as_metadata, fields_of, shown_at, AreShown, standard_word, standard_width, element}
 
 -- a preserved list by its number, and the number that marks its fields

@@ -1,25 +1,25 @@
 -- What corresponds in the two meanings (this project's own).
 use Rattle.std.specs.Prelude.{◌≡◌, ℕ, ◌%◌, ◌^◌, ◌<◌, false, length, List, Option, Some, None}
-use Rattle.p414_lexemes.specs.declared.lexeme.Literal.{Literal}
-use Rattle.p414_ast.specs.declared.parts.Index.TheVariants.{At, Next}
-use Rattle.p414_ast.specs.declared.parsers.Case.{Case}
-use Rattle.p414_ast.specs.declared.syntax.Decl.{Decl}
-use Rattle.p414_ast.specs.declared.tables.Table.{Table}
+use Rattle.p414_syntax.specs.declared.lexeme.Literal.{Literal}
+use Rattle.p414_syntax.specs.declared.parts.Index.TheVariants.{At, Next}
+use Rattle.p414_syntax.specs.declared.parsers.Case.{Case}
+use Rattle.p414_syntax.specs.declared.syntax.Decl.{Decl}
+use Rattle.p414_syntax.specs.declared.tables.Table.{Table}
 use Rattle.p414_sem.specs.Slots.{Slot}
 use Rattle.p414_sem.specs.State.{State, instance_at, place_of, written, read as read14}
 use Rattle.p414_sem.specs.Parsing.{extracted as extracted14, selects}
 use Rattle.p414_sem.specs.Effects.{Moment as Moment14}
 use Rattle.p414_sem.specs.Controls.{Setting as Setting14, keys_of, found as found14, application_of}
-use Rattle.p416_ast.specs.declared.parsers.Target.{Target}
-use Rattle.p416_ast.specs.declared.controls.Action16.{Action16}
-use Rattle.p416_ast.specs.declared.controls.Table16.{Table16}
-use Rattle.p416_rules.specs.Names.{Name}
-use Rattle.v1_sem.specs.Values.{Value, a_number, number_in}
-use Rattle.v1_sem.specs.Frames.{Frame, Moment, read, write}
-use Rattle.v1_sem.specs.Surroundings.{Surroundings}
-use Rattle.v1_sem.specs.Tables.{key_values, found as found16, applied_by}
-use Rattle.v1_sem.specs.Externs.Packets.{extract}
-use Rattle.v1_sem.specs.Parsing.{Keys, selected}
+use Rattle.p416_syntax.specs.declared.parsers.Target.{Target}
+use Rattle.p416_syntax.specs.declared.controls.Action16.{Action16}
+use Rattle.p416_syntax.specs.declared.controls.Table16.{Table16}
+use Rattle.p416_syntax.specs.Names.{Name}
+use Rattle.v1_core.specs.Values.{Value, a_number, number_in}
+use Rattle.v1_core.specs.Frames.{Frame, Moment, read, write}
+use Rattle.v1_core.specs.Surroundings.{Surroundings}
+use Rattle.v1_core.specs.Tables.{key_values, found as found16, applied_by}
+use Rattle.v1_core.specs.Externs.Packets.{extract}
+use Rattle.v1_core.specs.Parsing.{Keys, selected}
 use Rattle.agreement_of_meanings.specs.Shown.{NamedField, as_stack, shown_at, is_metadata, NamesDiffer, instance_reference, element_reference, slot_reference, slot_width}
 use Rattle.agreement_of_meanings.specs.Agrees.{NewNames, Agrees, HasElement, HasSlot, GoesOn, Corresponds, ProgressAgrees, StepAgrees, KeyAgrees}
 use Rattle.agreement_of_meanings.specs.Lowered.{IsNamed, extracts_next, select_cases, LeadToStates}

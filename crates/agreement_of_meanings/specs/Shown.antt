@@ -5,9 +5,9 @@ use Rattle.p414_sem.specs.declared.standard.Standard.{Standard}
 use Rattle.p414_sem.specs.declared.standard.Standard.TheVariants.{IngressPort, EgressSpec, EgressPort, PacketLength, InstanceType}
 use Rattle.p414_sem.specs.Slots.{Slot, standard, declared}
 use Rattle.p414_sem.specs.State.{Header as Header14, Instance, no_header as no_header14, no_instance}
-use Rattle.p416_rules.specs.Names.{Name}
-use Rattle.v1_sem.specs.Values.{Field, Header, Value, a_number, a_header, a_stack, no_members, a_member, Step, to_member, to_element, member_in}
-use Rattle.v1_sem.specs.Frames.{Frame, Owner, of_headers, of_metadata, of_standard, Reference, owned}
+use Rattle.p416_syntax.specs.Names.{Name}
+use Rattle.v1_core.specs.Values.{Field, Header, Value, a_number, a_header, a_stack, no_members, a_member, Step, to_member, to_element, member_in}
+use Rattle.v1_core.specs.Frames.{Frame, Owner, of_headers, of_metadata, of_standard, Reference, owned}
 
 -- a field by its new name, with its bits
 pub record NamedField : Type 0 where

@@ -1,20 +1,20 @@
 -- A table of P4_14 with one action, and the table of P4_16 that does the same (this project's own).
 use Rattle.std.specs.Prelude.{◌≡◌, ℕ, is_some, slice_index_or, IfSome, List, Option, Some, None, option_map, option_and_then, []}
 use Rattle.match_core.specs.Best.{entry_at}
-use Rattle.p414_ast.specs.declared.tables.Table.{Table}
-use Rattle.p414_ast.specs.Attributes.{default_action_of as default14}
-use Rattle.p414_rules.specs.Arguments.{action_number}
+use Rattle.p414_syntax.specs.declared.tables.Table.{Table}
+use Rattle.p414_syntax.specs.Attributes.{default_action_of as default14}
+use Rattle.p414_syntax.specs.Arguments.{action_number}
 use Rattle.p414_sem.specs.Effects.{Moment as Moment14, acted_by}
 use Rattle.p414_sem.specs.Signatures.{table_sig as sig14, actions_in_order}
 use Rattle.p414_sem.specs.Controls.{Setting as Setting14, Chosen as Chosen14, Applied as Applied14, signature_number, fill_of, program_default, counted}
-use Rattle.p416_ast.specs.declared.controls.Action16.{Action16}
-use Rattle.p416_ast.specs.declared.controls.Table16.{Table16}
-use Rattle.p416_ast.specs.Properties.{default_action_of as default16}
-use Rattle.p416_rules.specs.Names.{Name}
-use Rattle.v1_sem.specs.Frames.{Hit, Moment, with_inner}
-use Rattle.v1_sem.specs.Signatures.{table_sig as sig16, table_number}
-use Rattle.v1_sem.specs.Surroundings.{Surroundings, Applied, action_named}
-use Rattle.v1_sem.specs.Tables.{Chosen, bound_numbers, hit_of, name_of_number, own_default}
+use Rattle.p416_syntax.specs.declared.controls.Action16.{Action16}
+use Rattle.p416_syntax.specs.declared.controls.Table16.{Table16}
+use Rattle.p416_syntax.specs.Properties.{default_action_of as default16}
+use Rattle.p416_syntax.specs.Names.{Name}
+use Rattle.v1_core.specs.Frames.{Hit, Moment, with_inner}
+use Rattle.v1_core.specs.Signatures.{table_sig as sig16, table_number}
+use Rattle.v1_core.specs.Surroundings.{Surroundings, Applied, action_named}
+use Rattle.v1_core.specs.Tables.{Chosen, bound_numbers, hit_of, name_of_number, own_default}
 use Rattle.agreement_of_meanings.specs.Agrees.{NewNames, Corresponds}
 
 -- the only action of the table is chosen in both, with the same arguments, or none in both

@@ -2,7 +2,7 @@
 use Rattle.std.proofs.Common.{◌≡◌, ℕ, Bool, true, false, ◌&&◌, if◌then◌else◌, List, [], ◌∷◌, codes, Option, Some, None, refl, subst}
 use Rattle.std.specs.Option.{option_map, option_and_then}
 use Rattle.std.specs.Str.{bytes_eq}
-use Rattle.p414_ast.specs.declared.syntax.Rule14.{Rule14}
+use Rattle.p414_syntax.specs.declared.syntax.Rule14.{Rule14}
 use Rattle.command_words.specs.Apart.{are_apart, AreApart}
 use Rattle.command_words.specs.Words.{CarryFiles, Run14Files, Run16Files, Command, carry, check, order, run14, run16, carry_inputs, carry_outputs, run14_inputs, run14_outputs, run16_inputs, run16_outputs, inputs_of, outputs_of, is_value, are_inputs, are_carry_names, are_run14_names, are_run16_names, Options, no_options, options_in, passes_in, rule_in, carry_by, carry_found, carry_form, run14_by, run14_found, run14_form, run16_by, run16_found, run16_form, program_form, form}
 use Rattle.command_words.proofs.Distinct.{last, apart_is}

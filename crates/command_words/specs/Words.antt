@@ -3,8 +3,8 @@ use Rattle.std.specs.Prelude.{ℕ, Bool, true, false, not, ◌&&◌, ◌==◌, n
 use Rattle.std.specs.Str.{bytes_eq}
 use Rattle.text_lines.specs.Numbers.{decimal_up_to}
 use Rattle.fabric.specs.Numbers.{most_passes}
-use Rattle.p414_ast.specs.declared.syntax.Rule14.{Rule14}
-use Rattle.p414_ast.specs.declared.syntax.Rule14.TheVariants.{Sequential, Parallel}
+use Rattle.p414_syntax.specs.declared.syntax.Rule14.{Rule14}
+use Rattle.p414_syntax.specs.declared.syntax.Rule14.TheVariants.{Sequential, Parallel}
 use Rattle.command_words.specs.Apart.{are_apart}
 
 -- the files that `carry` names, of which the ports need not be named, and the bound on passes

@@ -3,7 +3,7 @@ ghost use Rattle.std.specs.Prelude.{◌≡◌, true, [], ◌∷◌, map, option_
 ghost use Rattle.fabric.specs.Numbers.{IsBound};
 ghost use Rattle.command_words.specs.Apart.{are_apart};
 
-use p414_ast::Rule14;
+use p414_syntax::Rule14;
 
 /// A command with its names and options.
 #[derive(Clone, Copy, Drop)]

@@ -10,7 +10,7 @@ use crate::apart::are_apart;
 use crate::command::{CarryNames, Command, Run14Names, Run16Names};
 use crate::options::{Found, read_options};
 use crate::values::{read_passes, read_rule};
-use p414_ast::Rule14;
+use p414_syntax::Rule14;
 
 fn is_name(word: &str) -> bool
     ensures { result ≡ is_name word.now }

@@ -4,7 +4,7 @@ ghost use Rattle.fabric.specs.Numbers.{IsBound};
 ghost use Rattle.command_words.specs.Words.{bound_of, passes_in, rule_of, rule_in};
 
 use fabric::MOST_PASSES;
-use p414_ast::Rule14;
+use p414_syntax::Rule14;
 use text_lines::decimal_up_to;
 
 /// The bound on passes where none is given.

@@ -5,10 +5,10 @@ use Rattle.digraph.specs.Graphs.{Among, successors}
 use Rattle.least_order.specs.Labelled as labelled
 use Rattle.least_order.specs.Orders as orders
 use Rattle.least_order.proofs.Underway.{some_is}
-use Rattle.p414_ast.specs.declared.parsers.Parser.{Parser}
-use Rattle.p414_ast.specs.declared.syntax.Decl.{Decl}
-use Rattle.p414_rules.specs.Walks.{IsWalk}
-use Rattle.p414_rules.specs.ParserGraph as parser_graph
+use Rattle.p414_syntax.specs.declared.parsers.Parser.{Parser}
+use Rattle.p414_syntax.specs.declared.syntax.Decl.{Decl}
+use Rattle.p414_syntax.specs.Walks.{IsWalk}
+use Rattle.p414_syntax.specs.ParserGraph as parser_graph
 use Rattle.parse_graph.specs.declared.nodes.Graph.{Graph}
 use Rattle.parse_graph.specs.declared.nodes.StateNode.{StateNode}
 use Rattle.parse_graph.specs.Programs.{node_of}

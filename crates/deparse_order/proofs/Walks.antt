@@ -6,7 +6,7 @@ use Rattle.digraph.proofs.Walking.{edge_on, first_edge}
 use Rattle.least_order.specs.Orders.{Precedes}
 use Rattle.least_order.specs.Labelled.{labels_of, IsFound, ComesBefore}
 use Rattle.least_order.proofs.Members.{among_append, among_front, among_behind, precedes_front, precedes_behind, precedes_across}
-use Rattle.p414_rules.specs.Walks.{IsWalk}
+use Rattle.p414_syntax.specs.Walks.{IsWalk}
 use Rattle.deparse_order.proofs.Splitting.{contains_of, among_of, precedes_append}
 
 -- a walk from a state, whose extracts are such

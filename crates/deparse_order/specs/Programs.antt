@@ -1,7 +1,7 @@
 -- The order in which the headers of a program leave.
 use Rattle.std.specs.Prelude.{◌≡◌, ℕ, List, codes, Some, Result, Ok, Err}
-use Rattle.p414_ast.specs.declared.syntax.Decl.{Decl}
-use Rattle.p414_rules.specs.ParserGraph.{state_number, Order, HasNoOrder}
+use Rattle.p414_syntax.specs.declared.syntax.Decl.{Decl}
+use Rattle.p414_syntax.specs.ParserGraph.{state_number, Order, HasNoOrder}
 use Rattle.parse_graph.specs.declared.nodes.Graph.{Graph}
 use Rattle.parse_graph.specs.Programs.{IsGraph}
 use Rattle.deparse_order.specs.declared.fault.OrderFault.{OrderFault}

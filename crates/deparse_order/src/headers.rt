@@ -1,6 +1,6 @@
 // The order in which headers leave.
 ghost use Rattle.std.specs.Prelude.{◌<◌, List, length, IfOk, MatchOption};
-ghost use Rattle.p414_ast.specs.declared.syntax.Decl.{Decl};
+ghost use Rattle.p414_syntax.specs.declared.syntax.Decl.{Decl};
 ghost use Rattle.parse_graph.specs.Graphs.{IsWhole};
 ghost use Rattle.least_order.specs.Orders.{HasNoOrder, IsLeastOrder};
 ghost use Rattle.deparse_order.specs.Orders.{IsAnswer, IsBefore, IsExtracted};

@@ -11,11 +11,20 @@ use std::marker::Model;
 
 /// The strongly connected components of a graph: two nodes are in one of them exactly where each reaches the other.
 /// They are numbered from 0, and no edge leads to a greater number.
-#[derive(Drop)]
 pub struct Components {
     numbers: Vec<usize>,
     order: Vec<usize>,
     count: usize,
+}
+
+impl Drop for Components {
+    fn drop(self) {
+        let Components {
+            numbers: _numbers,
+            order: _order,
+            count: _count,
+        } = self;
+    }
 }
 
 impl Model for Components {

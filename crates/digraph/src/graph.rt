@@ -9,10 +9,18 @@ use std::marker::Model;
 
 /// A directed graph. Its nodes are numbered from 0, and contracts see the list of each node's successors, in order.
 /// It is built in one pass: each node is followed by its edges.
-#[derive(Drop)]
 pub struct Digraph {
     starts: Vec<usize>,
     targets: Vec<usize>,
+}
+
+impl Drop for Digraph {
+    fn drop(self) {
+        let Digraph {
+            starts: _starts,
+            targets: _targets,
+        } = self;
+    }
 }
 
 impl Model for Digraph {

@@ -27,7 +27,6 @@ pub struct Frame {
     pub left: usize,
 }
 
-#[derive(Drop)]
 pub struct Search {
     marks: Vec<Mark>,
     waiting: Stack<usize>,
@@ -35,6 +34,19 @@ pub struct Search {
     path: Stack<Frame>,
     order: Vec<usize>,
     count: usize,
+}
+
+impl Drop for Search {
+    fn drop(self) {
+        let Search {
+            marks: _marks,
+            waiting: _waiting,
+            begins: _begins,
+            path: _path,
+            order: _order,
+            count: _count,
+        } = self;
+    }
 }
 
 impl Model for Search {
@@ -186,7 +198,15 @@ impl Search {
         ensures { IfOk result (λ found. (found.0.items ≡ map number_of self.marks) × (found.1.items ≡ self.order) × (found.2 ≡ self.count)) }
     {
         let numbers = self.marks.iter().map(|mark| number(*mark)).collect(alloc)?;
-        Ok((numbers, self.order, self.count))
+        let Search {
+            marks: _marks,
+            waiting: _waiting,
+            begins: _begins,
+            path: _path,
+            order,
+            count,
+        } = self;
+        Ok((numbers, order, count))
     }
 }
 

@@ -23,7 +23,7 @@ pub fn priority_words(specs: &[KeySpec]) -> usize
 }
 
 /// What a word is as an argument.
-#[derive(Clone, Copy, Debug, PartialEq, Eq)]
+#[derive(Clone, Copy, PartialEq, Eq)]
 pub enum ArgumentRead {
     /// It is no number.
     NoNumber,

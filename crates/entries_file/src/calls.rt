@@ -10,18 +10,27 @@ use p4x_bits::OutOfMemory;
 use std::alloc::Global;
 
 /// A call that a line names: the number of its table, and that of its action in the table.
-#[derive(Clone, Copy, Debug, PartialEq, Eq)]
+#[derive(Clone, Copy, PartialEq, Eq)]
 pub struct Call {
     pub table: usize,
     pub action: usize,
 }
 
 /// The names of a signature: its tables, the actions of each table, and its meters.
-#[derive(Drop)]
 pub struct Names<'g> {
     pub tables: NameIndex<'g>,
     pub actions: Vec<NameIndex<'g>>,
     pub meters: NameIndex<'g>,
+}
+
+impl Drop for Names<'_> {
+    fn drop(self) {
+        let Names {
+            tables: _tables,
+            actions: _actions,
+            meters: _meters,
+        } = self;
+    }
 }
 
 fn action_indexes<'g>(

@@ -15,13 +15,24 @@ use std::alloc::Global;
 use std::collections::BTreeSet;
 
 /// What was read so far, with the keys of the entries and the numbers of the sessions in order.
-#[derive(Drop)]
 pub struct Draft {
     pub tables: Vec<TableFill>,
     pub sessions: Rows<Session>,
     pub colours: Vec<Numbers>,
     pub keys: KeySet,
     pub numbers: BTreeSet<u32>,
+}
+
+impl Drop for Draft {
+    fn drop(self) {
+        let Draft {
+            tables: _tables,
+            sessions: _sessions,
+            colours: _colours,
+            keys: _keys,
+            numbers: _numbers,
+        } = self;
+    }
 }
 
 fn empty_fills(alloc: Global, count: usize) -> Result<Vec<TableFill>, OutOfMemory>
@@ -87,10 +98,17 @@ impl Draft {
     pub fn into_entries(self) -> Entries
         ensures { result ≡ drafted self }
     {
+        let Draft {
+            tables,
+            sessions,
+            colours,
+            keys: _keys,
+            numbers: _numbers,
+        } = self;
         Entries {
-            tables: Rows::from_vec(self.tables),
-            sessions: self.sessions,
-            colours: Rows::from_vec(self.colours),
+            tables: Rows::from_vec(tables),
+            sessions,
+            colours: Rows::from_vec(colours),
         }
     }
 

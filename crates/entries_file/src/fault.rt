@@ -16,7 +16,7 @@ pub enum EntryFault {
 }
 
 /// Why a line isn't taken.
-#[derive(Debug, PartialEq, Eq, Drop)]
+#[derive(PartialEq, Eq, Drop)]
 pub enum Stop {
     /// Memory ran out.
     Memory,

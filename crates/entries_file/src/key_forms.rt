@@ -18,7 +18,7 @@ const TRUE: &[u8] = b"true";
 const FALSE: &[u8] = b"false";
 
 /// What a word is as a key.
-#[derive(Clone, Copy, Debug, PartialEq, Eq)]
+#[derive(Clone, Copy, PartialEq, Eq)]
 pub enum KeyRead {
     /// It isn't of a form of the key's kind, or its low end is over its high end.
     Misformed,

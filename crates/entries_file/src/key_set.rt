@@ -11,10 +11,18 @@ use std::collections::BTreeSet;
 
 /// Keys, each behind the number of its table. One that is a single number without a priority, as that of an entry with one exact key,
 /// stands in the set of its table as this number, which takes a tenth of the room.
-#[derive(Drop)]
 pub struct KeySet {
     pub numbers: Vec<BTreeSet<u128>>,
     pub others: BTreeSet<Key>,
+}
+
+impl Drop for KeySet {
+    fn drop(self) {
+        let KeySet {
+            numbers: _numbers,
+            others: _others,
+        } = self;
+    }
 }
 
 /// A set without numbers for each of so many tables.

@@ -58,9 +58,14 @@ impl Listed for ObjectSig {
 }
 
 /// A map from names to the numbers of the first that have them.
-#[derive(Drop)]
 pub struct NameIndex<'g> {
     pub map: BTreeMap<&'g [u8], usize>,
+}
+
+impl Drop for NameIndex<'_> {
+    fn drop(self) {
+        let NameIndex { map: _map } = self;
+    }
 }
 
 /// Puts a number at a key where none stands.

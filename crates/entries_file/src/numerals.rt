@@ -11,7 +11,7 @@ use std::alloc::Global;
 use text_lines::{Base, are_digits};
 
 /// What is kept of a whole number.
-#[derive(Clone, Copy, Debug, PartialEq, Eq)]
+#[derive(Clone, Copy, PartialEq, Eq)]
 pub enum Number {
     /// A number of at most 128 bits.
     Small(u128),

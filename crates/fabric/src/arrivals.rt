@@ -12,7 +12,7 @@ use state_store::Session;
 use std::alloc::Global;
 
 /// What comes of a list of arrivals, beside what the passes keep.
-#[derive(Debug, Drop)]
+#[derive(Drop)]
 pub struct Total {
     /// What was sent, in order.
     pub sent: Rows<Sent>,

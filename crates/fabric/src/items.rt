@@ -4,7 +4,7 @@ use p4x_bits::Octets;
 /// An item of a packet's queue, but for a clone that is made at the end of egress.
 ///
 /// `Q` is what a runner preserves of metadata from one pass to the next.
-#[derive(Debug, Drop)]
+#[derive(Drop)]
 pub struct Item<Q> {
     /// The octets that are parsed.
     pub octets: Octets,
@@ -21,7 +21,7 @@ pub struct Item<Q> {
 /// What waits for a pass in a packet's queue.
 ///
 /// `H` is what a runner holds of a packet between ingress and egress.
-#[derive(Debug, Drop)]
+#[derive(Drop)]
 pub enum Job<Q, H> {
     /// A packet that came in, or one that was resubmitted or recirculated: it is parsed and goes through
     /// ingress.
@@ -37,7 +37,7 @@ pub enum Job<Q, H> {
 /// How parsing and ingress of an item end.
 ///
 /// `H` is what a runner holds of a packet between ingress and egress.
-#[derive(Debug, Drop)]
+#[derive(Drop)]
 pub struct IngressEnd<Q, H> {
     /// The clone of the item's octets that was asked for: the number of its session, and what is preserved.
     pub clone: Option<(u32, Q)>,
@@ -46,7 +46,7 @@ pub struct IngressEnd<Q, H> {
 }
 
 /// What comes of an item after ingress.
-#[derive(Debug, Drop)]
+#[derive(Drop)]
 pub enum IngressNext<Q, H> {
     /// Its octets are queued again, with what is preserved.
     Resubmit(Q),
@@ -57,7 +57,7 @@ pub enum IngressNext<Q, H> {
 }
 
 /// How egress of an item ends.
-#[derive(Debug, Drop)]
+#[derive(Drop)]
 pub struct EgressEnd<Q, H> {
     /// The clone of the packet as egress left it that was asked for: the number of its session, and the
     /// packet.
@@ -67,7 +67,7 @@ pub struct EgressEnd<Q, H> {
 }
 
 /// What comes of an item after egress.
-#[derive(Debug, Drop)]
+#[derive(Drop)]
 pub enum EgressNext<Q> {
     /// It is dropped.
     Drop,
@@ -78,7 +78,7 @@ pub enum EgressNext<Q> {
 }
 
 /// An application of a table. The numbers are those of the program's signature.
-#[derive(Clone, Copy, Debug, PartialEq, Eq)]
+#[derive(Clone, Copy, PartialEq, Eq)]
 pub struct Event {
     /// The table.
     pub table: u32,
@@ -90,7 +90,7 @@ pub struct Event {
 
 /// What a control can ask for beside the way of its packet. The last request of a kind in a control
 /// counts.
-#[derive(Clone, Copy, Debug, PartialEq, Eq)]
+#[derive(Clone, Copy, PartialEq, Eq)]
 pub enum RequestKind {
     /// A clone of the octets as they came in, made at the end of ingress.
     CloneI2E,

@@ -6,7 +6,7 @@ use state_store::Store;
 use std::alloc::Global;
 
 /// A packet as it comes in.
-#[derive(Debug, Drop)]
+#[derive(Drop)]
 pub struct Arrival {
     /// What was captured of it.
     pub octets: Octets,
@@ -19,7 +19,7 @@ pub struct Arrival {
 }
 
 /// A packet that was sent.
-#[derive(Debug, Drop)]
+#[derive(Drop)]
 pub struct Sent {
     /// The number of the arrival that it came from, from 0.
     pub arrival: u64,
@@ -30,7 +30,7 @@ pub struct Sent {
 }
 
 /// A packet that one arrival gives.
-#[derive(Debug, Drop)]
+#[derive(Drop)]
 pub struct Out {
     /// The port that it leaves on, 0 to `state_store::GREATEST_PORT`.
     pub port: u16,
@@ -39,7 +39,7 @@ pub struct Out {
 }
 
 /// What comes of one arrival.
-#[derive(Debug, Drop)]
+#[derive(Drop)]
 pub struct Fate {
     /// What was sent, in order.
     pub sent: Rows<Out>,
@@ -71,7 +71,6 @@ impl Fate {
 }
 
 /// What comes of a list of arrivals.
-#[derive(Drop)]
 pub struct RunResult {
     /// What was sent, in order.
     pub sent: Rows<Sent>,
@@ -81,4 +80,15 @@ pub struct RunResult {
     pub cut: u64,
     /// How many statements and transitions of a P4_16 program began, modulo 2^64; 0 for a P4_14 program.
     pub work: u64,
+}
+
+impl Drop for RunResult {
+    fn drop(self) {
+        let RunResult {
+            sent: _sent,
+            store: _store,
+            cut: _cut,
+            work: _work,
+        } = self;
+    }
 }

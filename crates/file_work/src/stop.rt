@@ -11,7 +11,7 @@ use p4x_fault::{Fault, Place, Rule, print};
 use p4x_io::{Failed, Sink, say};
 
 /// A file with a limit of its own that is over it.
-#[derive(Clone, Copy, Debug, PartialEq, Eq, Drop)]
+#[derive(Clone, Copy, PartialEq, Eq, Drop)]
 pub enum Limited {
     /// The program.
     Program,
@@ -26,7 +26,7 @@ pub enum Limited {
 }
 
 /// Why a command ends without status 0.
-#[derive(Clone, Copy, Debug, PartialEq, Eq, Drop)]
+#[derive(Clone, Copy, PartialEq, Eq, Drop)]
 pub enum Stop {
     /// An own count of the call rose: status 1.
     Fault,

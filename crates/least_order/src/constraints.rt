@@ -14,10 +14,18 @@ use std::alloc::Global;
 /// A graph whose first nodes are the labels, and whose further ones are the nodes of the labelled graph; and which of
 /// its nodes are labels that a reached node has. From a node an edge leads to its first label, from each label to the
 /// next one, and from the last one, or from the node if it has none, to the nodes that it leads to.
-#[derive(Drop)]
 pub struct Constraints {
     pub successors: Successors,
     pub is_found: Vec<bool>,
+}
+
+impl Drop for Constraints {
+    fn drop(self) {
+        let Constraints {
+            successors: _successors,
+            is_found: _is_found,
+        } = self;
+    }
 }
 
 impl Constraints {

@@ -12,7 +12,6 @@ use std::collections::BTreeSet;
 use std::marker::Model;
 
 /// How far a listing has come.
-#[derive(Drop)]
 struct Listing {
     /// How many edges lead to each node from nodes that weren't taken.
     owed: Vec<usize>,
@@ -22,6 +21,17 @@ struct Listing {
     ready: BTreeSet<usize>,
     /// The marks of the nodes that were taken, in order.
     order: Vec<usize>,
+}
+
+impl Drop for Listing {
+    fn drop(self) {
+        let Listing {
+            owed: _owed,
+            gates: _gates,
+            ready: _ready,
+            order: _order,
+        } = self;
+    }
 }
 
 impl Model for Listing {
@@ -140,6 +150,19 @@ impl Listing {
         self.order.push(label)?;
         Ok(Some(homes[label]))
     }
+
+    /// The marks in order, by value. It takes no memory.
+    fn into_order(self) -> Vec<usize>
+        ensures { result.items ≡ self.order }
+    {
+        let Listing {
+            owed: _owed,
+            gates: _gates,
+            ready: _ready,
+            order,
+        } = self;
+        order
+    }
 }
 
 /// The least order of the marks of a graph without cycles that keeps each walk's order. `homes` has the node that has a
@@ -158,5 +181,5 @@ pub fn list_marks(
     while let Some(node) = listing.next_node(homes)? {
         listing.pay_all(edges.of(node), marks)?;
     }
-    Ok(listing.order)
+    Ok(listing.into_order())
 }

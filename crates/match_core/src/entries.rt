@@ -6,7 +6,7 @@ use state_store::Session;
 use std::alloc::Global;
 
 /// What an entry asks of one key (P4_14 1.0.5, "Table Declarations"; P4_16 1.2, "Match kinds").
-#[derive(Clone, Copy, Debug, PartialEq, Eq)]
+#[derive(Clone, Copy, PartialEq, Eq)]
 pub enum KeyMatch {
     /// The key is this number.
     Exact(u128),
@@ -21,12 +21,22 @@ pub enum KeyMatch {
 /// An entry of a table: what it asks of each key, its priority (a smaller number counts first, where
 /// the table has ternary or range keys), and the call that it makes: the number of an action among
 /// those of the table, and its arguments.
-#[derive(Debug, Drop)]
 pub struct Entry {
     pub keys: Rows<KeyMatch>,
     pub priority: u32,
     pub action: u32,
     pub arguments: Numbers,
+}
+
+impl Drop for Entry {
+    fn drop(self) {
+        let Entry {
+            keys: _keys,
+            priority: _priority,
+            action: _action,
+            arguments: _arguments,
+        } = self;
+    }
 }
 
 impl Entry {
@@ -45,7 +55,7 @@ impl Entry {
 
 /// The call that a table makes on a miss: the number of an action among those of the table, and its
 /// arguments.
-#[derive(Debug, Drop)]
+#[derive(Drop)]
 pub struct DefaultCall {
     pub action: u32,
     pub arguments: Numbers,
@@ -64,10 +74,18 @@ impl DefaultCall {
 }
 
 /// What fills one table: its entries, the first first, and the call on a miss where one was set.
-#[derive(Debug, Drop)]
 pub struct TableFill {
     pub entries: Rows<Entry>,
     pub default: Option<DefaultCall>,
+}
+
+impl Drop for TableFill {
+    fn drop(self) {
+        let TableFill {
+            entries: _entries,
+            default: _default,
+        } = self;
+    }
 }
 
 /// An equal call where there is one, or want of memory.
@@ -101,11 +119,20 @@ impl TableFill {
 
 /// What fills a program's tables, in the order of its signature, with the clone sessions and, for each
 /// object of the signature, the colours that are handed in for it.
-#[derive(Debug, Drop)]
 pub struct Entries {
     pub tables: Rows<TableFill>,
     pub sessions: Rows<Session>,
     pub colours: Rows<Numbers>,
+}
+
+impl Drop for Entries {
+    fn drop(self) {
+        let Entries {
+            tables: _tables,
+            sessions: _sessions,
+            colours: _colours,
+        } = self;
+    }
 }
 
 /// Equal fills, or want of memory.

@@ -22,12 +22,20 @@ use std::cmp::Ordering;
 use std::collections::BTreeMap;
 
 /// The entries with the same values of the exact keys.
-#[derive(Drop)]
 pub struct Group {
     /// The values, with 0 for the lpm key.
     pub values: Key,
     /// What one lpm key has: a map for each length of a prefix, the longest first.
     pub levels: Vec<Level>,
+}
+
+impl Drop for Group {
+    fn drop(self) {
+        let Group {
+            values: _values,
+            levels: _levels,
+        } = self;
+    }
 }
 
 /// The number that a group has for one of a code.

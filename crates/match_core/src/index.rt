@@ -18,7 +18,6 @@ use std::alloc::Global;
 use std::collections::BTreeMap;
 
 /// How a table finds the best entry of a key.
-#[derive(Drop)]
 pub enum Index {
     /// The one key is exact or lpm: for each length that the prefixes of entries have, the longest first, a map from a
     /// number to its first entry. Exact keys are all of one length.
@@ -29,6 +28,17 @@ pub enum Index {
     Groups(Vec<Group>),
     /// The entries are asked one by one, in the order in which they count.
     Order(Vec<u64>),
+}
+
+impl Drop for Index {
+    fn drop(self) {
+        match self {
+            Index::Numbers(_a) => {}
+            Index::Keys(_a) => {}
+            Index::Groups(_a) => {}
+            Index::Order(_a) => {}
+        }
+    }
 }
 
 /// The index of these entries.

@@ -11,9 +11,14 @@ use std::cmp::Ordering;
 use std::marker::Model;
 
 /// The values of a table's keys in order. Up to eight stand in the value itself.
-#[derive(Drop)]
 pub struct Key {
     values: SmallVec<u128, 8>,
+}
+
+impl Drop for Key {
+    fn drop(self) {
+        let Key { values: _values } = self;
+    }
 }
 
 impl Model for Key {

@@ -16,9 +16,14 @@ const SHARE: usize = 8;
 const MOST_PARTS: usize = 8192;
 
 /// The entries of some of the numbers.
-#[derive(Drop)]
 struct Part {
     map: BTreeMap<u128, u32>,
+}
+
+impl Drop for Part {
+    fn drop(self) {
+        let Part { map: _map } = self;
+    }
 }
 
 impl Model for Part {

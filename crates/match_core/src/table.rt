@@ -15,11 +15,20 @@ use std::alloc::Global;
 use std::marker::Model;
 
 /// A table with its entries, which are borrowed, ready for look-ups.
-#[derive(Drop)]
 pub struct Table<'e> {
     specs: Vec<KeySpec>,
     entries: &'e [Entry],
     index: Index,
+}
+
+impl Drop for Table<'_> {
+    fn drop(self) {
+        let Table {
+            specs: _specs,
+            entries: _entries,
+            index: _index,
+        } = self;
+    }
 }
 
 impl<'e> Model for Table<'e> {

@@ -9,10 +9,18 @@ use std::collections::BTreeMap;
 use std::marker::Model;
 
 /// Names in order, each with the number of the first that has it.
-#[derive(Drop)]
 pub struct Numbering<'s> {
     names: Vec<&'s [u8]>,
     numbers: BTreeMap<&'s [u8], u32>,
+}
+
+impl Drop for Numbering<'_> {
+    fn drop(self) {
+        let Numbering {
+            names: _names,
+            numbers: _numbers,
+        } = self;
+    }
 }
 
 impl<'s> Model for Numbering<'s> {

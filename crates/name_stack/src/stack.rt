@@ -16,10 +16,18 @@ struct Entry<'a> {
 }
 
 /// Names in the order in which they were put on the stack. Contracts see the list of them.
-#[derive(Drop)]
 pub struct NameStack<'a> {
     entries: Vec<Entry<'a>>,
     places: BTreeMap<&'a [u8], Option<usize>>,
+}
+
+impl Drop for NameStack<'_> {
+    fn drop(self) {
+        let NameStack {
+            entries: _entries,
+            places: _places,
+        } = self;
+    }
 }
 
 impl<'a> Model for NameStack<'a> {

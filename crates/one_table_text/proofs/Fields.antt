@@ -6,15 +6,15 @@ use Rattle.std.specs.Str.{bytes_eq}
 use Rattle.std.proofs.lemmas.Bool.{and_parts, leb-true}
 use Rattle.std.proofs.lemmas.Bool.Decides.{nat_tests}
 use Rattle.std.proofs.lemmas.List.Sums.{sum_by-cons}
-use Rattle.p416_ast.specs.declared.parts.BitField.{BitField}
-use Rattle.p416_rules.specs.Names.{has_name}
-use Rattle.p416_rules.specs.Names as names
-use Rattle.p416_rules.specs.Uses.{Use}
-use Rattle.p416_rules.specs.Scopes.{FieldKind}
-use Rattle.p416_rules.specs.Declarations.{field_name, field_width}
-use Rattle.p416_rules.specs.Declarations as declarations
-use Rattle.p416_rules.specs.Sizes.{has_bad_width, bits_of_field, leaves_size}
-use Rattle.p416_rules.specs.Totals.{field_bits}
+use Rattle.p416_syntax.specs.declared.parts.BitField.{BitField}
+use Rattle.p416_syntax.specs.Names.{has_name}
+use Rattle.p416_syntax.specs.Names as names
+use Rattle.p416_syntax.specs.Uses.{Use}
+use Rattle.p416_syntax.specs.Scopes.{FieldKind}
+use Rattle.p416_syntax.specs.Declarations.{field_name, field_width}
+use Rattle.p416_syntax.specs.Declarations as declarations
+use Rattle.p416_syntax.specs.Sizes.{has_bad_width, bits_of_field, leaves_size}
+use Rattle.p416_syntax.specs.Totals.{field_bits}
 use Rattle.p414_one_table.specs.declared.program.Field.{Field}
 use Rattle.p414_one_table.specs.Programs.{repeats, is_width}
 use Rattle.one_table_text.specs.Programs.{bit_field}

@@ -9,24 +9,24 @@ use Rattle.std.proofs.Math.Nat.{lt_irrefl, lt_trans}
 use Rattle.state_store.specs.Ports.{drop_port}
 use Rattle.digraph.specs.Graphs.{Among, successors, Edge, Onward, Walk}
 use Rattle.digraph.specs.Expansions.{HasCycle}
-use Rattle.p416_ast.specs.declared.program.Decl16.{Decl16}
-use Rattle.p416_ast.specs.declared.program.Syntax16.{Syntax16}
-use Rattle.p416_rules.specs.declared.rule.ProgramRule.TheVariants.{T1, T7, T8, T9, T11, T12}
-use Rattle.p416_rules.specs.Uses.{Use}
-use Rattle.p416_rules.specs.Unknown.{is_misnamed, struct_graph}
-use Rattle.p416_rules.specs.Sizes.{leaves_size}
-use Rattle.p416_rules.specs.Types.{is_mistyped}
-use Rattle.p416_rules.specs.Literals.{overflows}
-use Rattle.p416_rules.specs.Writes.{writes_constant}
-use Rattle.p416_rules.specs.Arguments.{is_miscounted}
-use Rattle.p416_rules.specs.Applications.{applies_wrongly}
-use Rattle.p416_rules.specs.Tables.{is_bad_in_table}
-use Rattle.p416_rules.specs.Externs.{is_outside_block}
-use Rattle.p416_rules.specs.Declarations.{layouts_of, field_width}
-use Rattle.p416_rules.specs.Kinds.{Kind}
-use Rattle.p416_rules.specs.Main.{headers_kind, metadata_kind}
-use Rattle.p416_rules.specs.Totals.{is_too_deep, held_kinds, fields_of_kind, octets_of_kind, has_large_headers, has_large_variables, has_bad_cells, field_bits}
-use Rattle.p416_rules.specs.Breaks.{SomeDeclaration, SomeBreaks, WholeBreaks, IsBroken, BreaksNone, program_rules, scope_of, has_use, uses_in, program_uses}
+use Rattle.p416_syntax.specs.declared.program.Decl16.{Decl16}
+use Rattle.p416_syntax.specs.declared.program.Syntax16.{Syntax16}
+use Rattle.p416_syntax.specs.declared.rule.ProgramRule.TheVariants.{T1, T7, T8, T9, T11, T12}
+use Rattle.p416_syntax.specs.Uses.{Use}
+use Rattle.p416_syntax.specs.Unknown.{is_misnamed, struct_graph}
+use Rattle.p416_syntax.specs.Sizes.{leaves_size}
+use Rattle.p416_syntax.specs.Types.{is_mistyped}
+use Rattle.p416_syntax.specs.Literals.{overflows}
+use Rattle.p416_syntax.specs.Writes.{writes_constant}
+use Rattle.p416_syntax.specs.Arguments.{is_miscounted}
+use Rattle.p416_syntax.specs.Applications.{applies_wrongly}
+use Rattle.p416_syntax.specs.Tables.{is_bad_in_table}
+use Rattle.p416_syntax.specs.Externs.{is_outside_block}
+use Rattle.p416_syntax.specs.Declarations.{layouts_of, field_width}
+use Rattle.p416_syntax.specs.Kinds.{Kind}
+use Rattle.p416_syntax.specs.Main.{headers_kind, metadata_kind}
+use Rattle.p416_syntax.specs.Totals.{is_too_deep, held_kinds, fields_of_kind, octets_of_kind, has_large_headers, has_large_variables, has_bad_cells, field_bits}
+use Rattle.p416_syntax.specs.Breaks.{SomeDeclaration, SomeBreaks, WholeBreaks, IsBroken, BreaksNone, program_rules, scope_of, has_use, uses_in, program_uses}
 use Rattle.p414_one_table.specs.declared.program.Field.{Field}
 use Rattle.one_table_text.specs.declared.one_table.OneTable16.{OneTable16}
 use Rattle.one_table_text.specs.Programs.{program16, decls16, header16}

@@ -3,11 +3,11 @@ use Rattle.std.proofs.Common.{◌≡◌, ◌^◌, Bool, true, List, [], ◌∷�
 use Rattle.std.specs.Prelude.{◌&&◌, nat_lt}
 use Rattle.std.specs.List.{list_all, flat_map}
 use Rattle.std.proofs.lemmas.Bool.{and_parts, and_from}
-use Rattle.p416_lexemes.specs.Spelt.{is_identifier16, is_name16}
-use Rattle.p416_ast.specs.Tokens.{Seen16, is_spelt_seen, brace_close}
-use Rattle.p416_ast.specs.Written.{written_bit_field, written_decl, written_main, written}
-use Rattle.p416_ast.specs.Conditions.{is_syntax, without_parentheses}
-use Rattle.p416_ast.specs.Spelt.{is_spelt16}
+use Rattle.p416_syntax.specs.SpeltLexemes.{is_identifier16, is_name16}
+use Rattle.p416_syntax.specs.Tokens.{Seen16, is_spelt_seen, brace_close}
+use Rattle.p416_syntax.specs.Written.{written_bit_field, written_decl, written_main, written}
+use Rattle.p416_syntax.specs.Conditions.{is_syntax, without_parentheses}
+use Rattle.p416_syntax.specs.Spelt.{is_spelt16}
 use Rattle.p414_one_table.specs.declared.program.Field.{Field}
 use Rattle.one_table_text.specs.declared.one_table.OneTable16.{OneTable16}
 use Rattle.one_table_text.specs.Programs.{is_field16, is_one_table16, bit_field, decls16, program16}

@@ -3,26 +3,26 @@
 -- "P4 data types", "Packet parsing", "Control blocks", "Deparsing" and "P4 grammar"; v1model.p4.
 use Rattle.std.specs.Prelude.{ℕ, ◌^◌, Bool, ◌&&◌, nat_lt, Option, Some, None, List, [], ◌∷◌, map, codes}
 use Rattle.std.specs.List.{list_all}
-use Rattle.p416_lexemes.specs.Spelt.{is_identifier16, is_name16}
-use Rattle.p416_ast.specs.declared.parts.BitField.{BitField}
-use Rattle.p416_ast.specs.declared.parts.Note.TheVariants as note
-use Rattle.p416_ast.specs.declared.parts.Type16.TheVariants as kind
-use Rattle.p416_ast.specs.declared.parts.Direction.{Direction}
-use Rattle.p416_ast.specs.declared.parts.Direction.TheVariants.{In, Out, InOut}
-use Rattle.p416_ast.specs.declared.parts.Param.{Param}
-use Rattle.p416_ast.specs.declared.node.BinaryOperator.TheVariants.{Equal}
-use Rattle.p416_ast.specs.declared.parsers.State.{State}
-use Rattle.p416_ast.specs.declared.parsers.Target.TheVariants.{Accept}
-use Rattle.p416_ast.specs.declared.parsers.Transition.TheVariants.{Go}
-use Rattle.p416_ast.specs.declared.controls.ActionName.{ActionName}
-use Rattle.p416_ast.specs.declared.controls.ActionName.TheVariants.{Declared}
-use Rattle.p416_ast.specs.declared.controls.Property.TheVariants.{Actions, DefaultAction}
-use Rattle.p416_ast.specs.declared.controls.Local.{Local}
-use Rattle.p416_ast.specs.declared.controls.Local.TheVariants as local
-use Rattle.p416_ast.specs.declared.program.Decl16.{Decl16}
-use Rattle.p416_ast.specs.declared.program.Decl16.TheVariants as decl
-use Rattle.p416_ast.specs.declared.program.Syntax16.{Syntax16}
-use Rattle.p416_ast.specs.Tree.{Exp16, literal, name, error, member, binary, call, no_arguments, argument, Stmt16, no_statements, then, block, assign, expression, if_else}
+use Rattle.p416_syntax.specs.SpeltLexemes.{is_identifier16, is_name16}
+use Rattle.p416_syntax.specs.declared.parts.BitField.{BitField}
+use Rattle.p416_syntax.specs.declared.parts.Note.TheVariants as note
+use Rattle.p416_syntax.specs.declared.parts.Type16.TheVariants as kind
+use Rattle.p416_syntax.specs.declared.parts.Direction.{Direction}
+use Rattle.p416_syntax.specs.declared.parts.Direction.TheVariants.{In, Out, InOut}
+use Rattle.p416_syntax.specs.declared.parts.Param.{Param}
+use Rattle.p416_syntax.specs.declared.node.BinaryOperator.TheVariants.{Equal}
+use Rattle.p416_syntax.specs.declared.parsers.State.{State}
+use Rattle.p416_syntax.specs.declared.parsers.Target.TheVariants.{Accept}
+use Rattle.p416_syntax.specs.declared.parsers.Transition.TheVariants.{Go}
+use Rattle.p416_syntax.specs.declared.controls.ActionName.{ActionName}
+use Rattle.p416_syntax.specs.declared.controls.ActionName.TheVariants.{Declared}
+use Rattle.p416_syntax.specs.declared.controls.Property.TheVariants.{Actions, DefaultAction}
+use Rattle.p416_syntax.specs.declared.controls.Local.{Local}
+use Rattle.p416_syntax.specs.declared.controls.Local.TheVariants as local
+use Rattle.p416_syntax.specs.declared.program.Decl16.{Decl16}
+use Rattle.p416_syntax.specs.declared.program.Decl16.TheVariants as decl
+use Rattle.p416_syntax.specs.declared.program.Syntax16.{Syntax16}
+use Rattle.p416_syntax.specs.Tree.{Exp16, literal, name, error, member, binary, call, no_arguments, argument, Stmt16, no_statements, then, block, assign, expression, if_else}
 use Rattle.p414_one_table.specs.declared.program.Field.{Field}
 use Rattle.one_table_text.specs.declared.one_table.OneTable16.{OneTable16}
 

@@ -1,13 +1,13 @@
 // The statements of each block of the form.
 ghost use Rattle.std.specs.Prelude.{◌≡◌, ◌<◌, length, IfOk};
-ghost use Rattle.p416_ast.specs.Tree.{no_statements, stmt_at};
+ghost use Rattle.p416_syntax.specs.Tree.{no_statements, stmt_at};
 ghost use Rattle.one_table_text.specs.Programs as programs;
 
 use crate::expressions::{
     call_with, member_of, no_error, only_statement, packet_dropped, table_applied,
 };
 use p4x_bits::OutOfMemory;
-use p416_ast::{Block16, ExpNode, Literal16, Nodes, StmtNode};
+use p416_syntax::{Block16, ExpNode, Literal16, Nodes, StmtNode};
 use std::alloc::Global;
 
 /// `{ }`.

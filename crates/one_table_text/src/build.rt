@@ -8,7 +8,7 @@ use crate::parts::{
 };
 use p4x_bits::{OutOfMemory, Rows, Text};
 use p414_one_table::Field;
-use p416_ast::{Decl16, Syntax16};
+use p416_syntax::{Decl16, Syntax16};
 use std::alloc::Global;
 
 /// The declarations in front of the ingress control.

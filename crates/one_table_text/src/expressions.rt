@@ -1,12 +1,12 @@
 // Expressions and statements of the form, over earlier ones.
 ghost use Rattle.std.specs.Prelude.{◌<◌, length, IfOk};
-ghost use Rattle.p416_ast.specs.Tree as tree;
-ghost use Rattle.p416_ast.specs.Tree.{call, no_arguments, block, exp_at, stmt_at};
+ghost use Rattle.p416_syntax.specs.Tree as tree;
+ghost use Rattle.p416_syntax.specs.Tree.{call, no_arguments, block, exp_at, stmt_at};
 ghost use Rattle.one_table_text.specs.Programs as programs;
 ghost use Rattle.one_table_text.specs.internal.Making.{MakesExp, MakesStmt};
 
 use p4x_bits::{OutOfMemory, Text};
-use p416_ast::{BinaryOperator, ExpNode, Nodes, StmtNode};
+use p416_syntax::{BinaryOperator, ExpNode, Nodes, StmtNode};
 use std::alloc::Global;
 
 /// A member of a name: `OF.WORD`.

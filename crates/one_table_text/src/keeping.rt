@@ -1,6 +1,6 @@
 // That programs of the form keep the rules of P4_16: a law, as the contract of a function that does nothing.
 ghost use Rattle.std.specs.Prelude.{◌≡◌, true};
-ghost use Rattle.p416_rules.specs.Breaks.{BreaksNone, program_rules};
+ghost use Rattle.p416_syntax.specs.Breaks.{BreaksNone, program_rules};
 ghost use Rattle.one_table_text.specs.declared.one_table.OneTable16.{OneTable16};
 ghost use Rattle.one_table_text.specs.Programs.{program16};
 ghost use Rattle.one_table_text.specs.Lawful.{is_lawful};

@@ -1,14 +1,14 @@
 // The declarations of the form.
 ghost use Rattle.std.specs.Prelude.{◌≡◌, [], ◌∷◌, map, IfOk};
-ghost use Rattle.p416_ast.specs.Tree.{no_arguments};
-ghost use Rattle.p416_ast.specs.declared.parts.Note.TheVariants as note;
+ghost use Rattle.p416_syntax.specs.Tree.{no_arguments};
+ghost use Rattle.p416_syntax.specs.declared.parts.Note.TheVariants as note;
 ghost use Rattle.one_table_text.specs.Programs as programs;
 
 use crate::bodies::{apply_or_drop, empty_body, header_body, port_body};
 use crate::one_table::OneTable16;
 use p4x_bits::{OutOfMemory, Rows, Text};
 use p414_one_table::Field;
-use p416_ast::{
+use p416_syntax::{
     Action16, ActionName, BitField, Block16, Control16, Decl16, Direction, Exp, ExpNode, Header16,
     Literal16, Local, Nodes, Note, Param, Parser16, Property, State, Struct16, StructField,
     Table16, Target, Transition, Type16,

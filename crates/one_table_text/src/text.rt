@@ -1,6 +1,6 @@
 // A program of the form as a program of P4_16, and its text.
 ghost use Rattle.std.specs.Prelude.{◌≡◌, true, IfOk};
-ghost use Rattle.p416_ast.specs.declared.program.Syntax16.{Syntax16};
+ghost use Rattle.p416_syntax.specs.declared.program.Syntax16.{Syntax16};
 ghost use Rattle.p416_reader.specs.Reading.{Reads16};
 ghost use Rattle.one_table_text.specs.Programs.{is_one_table16, program16};
 ghost use Rattle.one_table_text.specs.Lawful.{is_lawful};

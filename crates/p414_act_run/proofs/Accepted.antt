@@ -1,9 +1,9 @@
 -- What is known of a program that breaks no rule.
 use Rattle.std.proofs.Common.{◌≡◌, Bool, true, false, refl}
 use Rattle.std.specs.Bool.{IsTrue}
-use Rattle.p414_ast.specs.declared.syntax.Syntax14.{Syntax14}
-use Rattle.p414_rules.specs.Twice.{declares_twice}
-use Rattle.p414_rules.specs.Breaks.{IsBroken}
+use Rattle.p414_syntax.specs.declared.syntax.Syntax14.{Syntax14}
+use Rattle.p414_syntax.specs.Twice.{declares_twice}
+use Rattle.p414_syntax.specs.Breaks.{IsBroken}
 use Rattle.p414_body_check.specs.Answers.{IsAccepted}
 
 not_true : (b : Bool) → (IsTrue b → ⊥) → b ≡ false

@@ -8,16 +8,16 @@ use Rattle.std.proofs.lemmas.Nat.{mod_below}
 use Rattle.std.proofs.lemmas.Option.{slice_get-map}
 use Rattle.state_store.specs.State.{Contents}
 use Rattle.calc_core.specs.Calculations.{csum16, crc16, crc32, identity}
-use Rattle.p414_ast.specs.declared.calculations.FieldListCalculation.{FieldListCalculation}
-use Rattle.p414_ast.specs.declared.calculations.Item.{Item}
-use Rattle.p414_ast.specs.declared.syntax.Decl.{Decl}
-use Rattle.p414_ast.specs.declared.syntax.Decl.TheVariants as decl
-use Rattle.p414_ast.specs.declared.syntax.Rule14.{Rule14}
-use Rattle.p414_ast.specs.declared.syntax.Sort.TheVariants as sort
-use Rattle.p414_rules.specs.Names.{Name, names_in, number_of}
-use Rattle.p414_rules.specs.Expansion.{list_number}
-use Rattle.p414_rules.specs.Lists.{calculation_of}
-use Rattle.p414_rules.specs.Arguments.{actions}
+use Rattle.p414_syntax.specs.declared.calculations.FieldListCalculation.{FieldListCalculation}
+use Rattle.p414_syntax.specs.declared.calculations.Item.{Item}
+use Rattle.p414_syntax.specs.declared.syntax.Decl.{Decl}
+use Rattle.p414_syntax.specs.declared.syntax.Decl.TheVariants as decl
+use Rattle.p414_syntax.specs.declared.syntax.Rule14.{Rule14}
+use Rattle.p414_syntax.specs.declared.syntax.Sort.TheVariants as sort
+use Rattle.p414_syntax.specs.Names.{Name, names_in, number_of}
+use Rattle.p414_syntax.specs.Expansion.{list_number}
+use Rattle.p414_syntax.specs.Lists.{calculation_of}
+use Rattle.p414_syntax.specs.Arguments.{actions}
 use Rattle.p414_sem.specs.State.{State}
 use Rattle.p414_sem.specs.Effects.{Moment}
 use Rattle.p414_sem.specs.Meanings.{Act14}

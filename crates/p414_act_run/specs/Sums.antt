@@ -3,11 +3,11 @@ use Rattle.std.specs.Prelude.{ℕ, ◌%◌, ◌^◌, Bool, if◌then◌else◌, 
 use Rattle.std.specs.Option.{option_map_or}
 use Rattle.std.specs.Str.{bytes_eq}
 use Rattle.calc_core.specs.Calculations.{csum16, crc16, crc32, identity}
-use Rattle.p414_ast.specs.declared.calculations.FieldListCalculation.{FieldListCalculation}
-use Rattle.p414_ast.specs.declared.syntax.Decl.{Decl}
-use Rattle.p414_rules.specs.Names.{Name}
-use Rattle.p414_rules.specs.Expansion.{list_number}
-use Rattle.p414_rules.specs.Lists.{calculation_in}
+use Rattle.p414_syntax.specs.declared.calculations.FieldListCalculation.{FieldListCalculation}
+use Rattle.p414_syntax.specs.declared.syntax.Decl.{Decl}
+use Rattle.p414_syntax.specs.Names.{Name}
+use Rattle.p414_syntax.specs.Expansion.{list_number}
+use Rattle.p414_syntax.specs.Lists.{calculation_in}
 use Rattle.p414_sem.specs.State.{State}
 use Rattle.p414_field_lists.specs.declared.rows.ItemRow.{ItemRow}
 use Rattle.p414_field_lists.specs.Rows.{rows_at, rows_bits}

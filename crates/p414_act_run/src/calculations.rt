@@ -10,7 +10,7 @@ use p414_wholes::low;
 use std::alloc::Global;
 
 /// How a calculation makes a number of bits (P4_14 1.0.5, "Checksums and Hash-value Generators").
-#[derive(Clone, Copy, Debug, PartialEq, Eq, Drop)]
+#[derive(Clone, Copy, PartialEq, Eq, Drop)]
 pub enum Algorithm {
     /// `csum16`.
     Csum16,
@@ -23,7 +23,7 @@ pub enum Algorithm {
 }
 
 /// A calculation: the field lists that it takes, by number, its algorithm, and how many bits its result has.
-#[derive(Debug, Drop)]
+#[derive(Drop)]
 pub struct ReadyCalculation {
     /// The field lists in order.
     pub inputs: Rows<u32>,
@@ -34,12 +34,20 @@ pub struct ReadyCalculation {
 }
 
 /// The calculations of a program, in the order of declaration, with the field lists that they take.
-#[derive(Drop)]
 pub struct Calculations {
     /// The field lists.
     pub lists: FieldLists,
     /// The calculations.
     pub rows: Rows<ReadyCalculation>,
+}
+
+impl Drop for Calculations {
+    fn drop(self) {
+        let Calculations {
+            lists: _lists,
+            rows: _rows,
+        } = self;
+    }
 }
 
 /// What an algorithm makes of bits.

@@ -1,16 +1,16 @@
 // The calculations of a program by number.
 ghost use Rattle.std.specs.Prelude.{◌≡◌, ◌++◌, map, filter_map, option_to_list, IfOk, OnOk};
-ghost use Rattle.p414_rules.specs.Expansion.{list_number};
-ghost use Rattle.p414_rules.specs.Lists.{calculation_in};
+ghost use Rattle.p414_syntax.specs.Expansion.{list_number};
+ghost use Rattle.p414_syntax.specs.Lists.{calculation_in};
 ghost use Rattle.p414_act_run.specs.Sums.{algorithm_of, calculations, kept_calculation};
 
 use crate::calculations::{Algorithm, ReadyCalculation};
 use name_numbers::narrow;
 use p4x_bits::{OutOfMemory, Rows, Text};
-use p414_ast::{Decl, FieldListCalculation};
 use p414_list_check::list_number;
 use p414_names::Names14;
 use p414_slots::narrow_width;
+use p414_syntax::{Decl, FieldListCalculation};
 use std::alloc::Global;
 
 const CSUM16: &[u8] = b"csum16";

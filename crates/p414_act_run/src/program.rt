@@ -1,6 +1,6 @@
 // The actions of a program.
 ghost use Rattle.std.specs.Prelude.{◌≡◌, ◌<◌, length, IfOk, OnOk};
-ghost use Rattle.p414_rules.specs.Arguments.{actions};
+ghost use Rattle.p414_syntax.specs.Arguments.{actions};
 ghost use Rattle.p414_sem.specs.Expanded.{Expanded, IsExpanded};
 ghost use Rattle.p414_sem.specs.Meanings.{Act14};
 ghost use Rattle.p414_layout.specs.Shapes.{layout_of};
@@ -13,13 +13,13 @@ use crate::fits::fit_all;
 use crate::making::calculation_rows;
 use crate::run::act_ready;
 use p4x_bits::{OutOfMemory, Rows};
-use p414_ast::Rule14;
 use p414_body_check::Program14;
 use p414_field_lists::field_lists14;
 use p414_names::{Names14, names_of};
 use p414_ready_actions::{ActionNames, ReadyPrimitive, ready_action};
 use p414_signature::object_names;
 use p414_state::State14;
+use p414_syntax::Rule14;
 use state_store::Store;
 use std::alloc::Global;
 

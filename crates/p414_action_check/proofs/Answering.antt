@@ -8,15 +8,15 @@ use Rattle.std.proofs.lemmas.List.Sums.{sum_by-cons}
 use Rattle.std.proofs.lemmas.Result.{IfOk-weaker}
 use Rattle.digraph.specs.Graphs.{IsClosed}
 use Rattle.digraph.specs.Expansions.{AreSizes, HasCycle}
-use Rattle.p414_ast.specs.declared.syntax.Decl.{Decl}
-use Rattle.p414_rules.specs.declared.place.ArgumentPlace.{ArgumentPlace}
-use Rattle.p414_rules.specs.Primitives.{places_of, primitive_places}
-use Rattle.p414_rules.specs.Exact.{IsExact}
-use Rattle.p414_rules.specs.Breaks.{IsBroken, BreaksNone, declaration_rules}
-use Rattle.p414_rules.specs.Calls.{has_wrong_call}
-use Rattle.p414_rules.specs.Arguments.{Argument, Invocation, invocations_of, actions, action_number, action_of, wanted_by, placed, placed_in, placed_argument}
-use Rattle.p414_rules.specs.ActionExpansion.{called_in}
-use Rattle.p414_rules.specs.Actions.{HasBadAction, ActionCallsItself, ActionTooLong, ActionsTooLong, all_listed}
+use Rattle.p414_syntax.specs.declared.syntax.Decl.{Decl}
+use Rattle.p414_syntax.specs.declared.place.ArgumentPlace.{ArgumentPlace}
+use Rattle.p414_syntax.specs.Primitives.{places_of, primitive_places}
+use Rattle.p414_syntax.specs.Exact.{IsExact}
+use Rattle.p414_syntax.specs.Breaks.{IsBroken, BreaksNone, declaration_rules}
+use Rattle.p414_syntax.specs.Calls.{has_wrong_call}
+use Rattle.p414_syntax.specs.Arguments.{Argument, Invocation, invocations_of, actions, action_number, action_of, wanted_by, placed, placed_in, placed_argument}
+use Rattle.p414_syntax.specs.ActionExpansion.{called_in}
+use Rattle.p414_syntax.specs.Actions.{HasBadAction, ActionCallsItself, ActionTooLong, ActionsTooLong, all_listed}
 use Rattle.p414_list_check.specs.Lengths.{AreLengths}
 use Rattle.p414_action_check.specs.internal.Counted.{action_graph, input_lengths, hashed_length, placed_length, primitive_count, own_count, calls_count, own_counts, total_from, exceeds}
 use Rattle.p414_action_check.specs.internal.Known.{IsKnown, AreInputs, AreActionSizes}

@@ -4,12 +4,12 @@ use Rattle.std.proofs.lemmas.Bool.{lt-ltb, ltb-true}
 use Rattle.std.specs.List.{list_any}
 use Rattle.std.proofs.lemmas.List.{length-map}
 use Rattle.digraph.specs.Expansions.{AreSizes}
-use Rattle.p414_ast.specs.declared.actions.Action.{Action}
-use Rattle.p414_ast.specs.declared.syntax.Decl.{Decl}
-use Rattle.p414_rules.specs.Unknown.{has_unknown_name}
-use Rattle.p414_rules.specs.Arguments.{Invocation, invocations_of, actions, action_number}
-use Rattle.p414_rules.specs.ActionExpansion.{called_in, CallsExpand}
-use Rattle.p414_rules.specs.Actions.{ActionTooLong, ActionsTooLong, ActionsJoin, Count, all_listed}
+use Rattle.p414_syntax.specs.declared.actions.Action.{Action}
+use Rattle.p414_syntax.specs.declared.syntax.Decl.{Decl}
+use Rattle.p414_syntax.specs.Unknown.{has_unknown_name}
+use Rattle.p414_syntax.specs.Arguments.{Invocation, invocations_of, actions, action_number}
+use Rattle.p414_syntax.specs.ActionExpansion.{called_in, CallsExpand}
+use Rattle.p414_syntax.specs.Actions.{ActionTooLong, ActionsTooLong, ActionsJoin, Count, all_listed}
 use Rattle.p414_list_check.specs.Lengths.{AreLengths}
 use Rattle.p414_list_check.proofs.Expanding.{get_within}
 use Rattle.p414_list_check.proofs.Deciding.{cut_order, over_at, place_over}

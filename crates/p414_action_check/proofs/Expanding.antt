@@ -6,12 +6,12 @@ use Rattle.std.specs.Option.{option_map_or}
 use Rattle.std.proofs.lemmas.List.Sums.{sum_by-append, sum_by-cons}
 use Rattle.digraph.specs.Graphs.{successors}
 use Rattle.digraph.specs.Expansions as calls
-use Rattle.p414_ast.specs.declared.actions.Action.{Action}
-use Rattle.p414_ast.specs.declared.syntax.Decl.{Decl}
-use Rattle.p414_rules.specs.declared.place.ArgumentPlace.{ArgumentPlace}
-use Rattle.p414_rules.specs.declared.place.ArgumentPlace.TheVariants as place
-use Rattle.p414_rules.specs.Arguments.{Argument, number_argument, field_argument, parameter_argument, name_argument, Invocation, invocations_of, actions, action_number, action_of, wanted_of, placed, placed_argument}
-use Rattle.p414_rules.specs.ActionExpansion.{given_for, invoked_with, body_with, callee_number, called_in, CallsExpand, NoCalls, OfPrimitive, OfAction}
+use Rattle.p414_syntax.specs.declared.actions.Action.{Action}
+use Rattle.p414_syntax.specs.declared.syntax.Decl.{Decl}
+use Rattle.p414_syntax.specs.declared.place.ArgumentPlace.{ArgumentPlace}
+use Rattle.p414_syntax.specs.declared.place.ArgumentPlace.TheVariants as place
+use Rattle.p414_syntax.specs.Arguments.{Argument, number_argument, field_argument, parameter_argument, name_argument, Invocation, invocations_of, actions, action_number, action_of, wanted_of, placed, placed_argument}
+use Rattle.p414_syntax.specs.ActionExpansion.{given_for, invoked_with, body_with, callee_number, called_in, CallsExpand, NoCalls, OfPrimitive, OfAction}
 use Rattle.p414_list_check.proofs.Expanding.{at_row}
 use Rattle.p414_action_check.specs.internal.Counted.{action_graph, length_at, hashed_length, primitive_count, own_count, is_named, gives_name}
 use Rattle.p414_action_check.proofs.Numbers.{action_there, number_there, no_number, no_action}

@@ -9,15 +9,15 @@ use Rattle.std.proofs.lemmas.List.{length-map}
 use Rattle.std.proofs.lemmas.List.Quantifiers.{position-Some}
 use Rattle.std.proofs.lemmas.Slice.Eq.{bytes_eq-Decides}
 use Rattle.std.specs.Option.{option_map_or}
-use Rattle.p414_ast.specs.declared.actions.Action.{Action}
-use Rattle.p414_ast.specs.declared.syntax.Decl.{Decl}
-use Rattle.p414_ast.specs.declared.syntax.Sort.TheVariants as sort
-use Rattle.p414_rules.specs.Names.{Name, names_in}
-use Rattle.p414_rules.specs.Primitives.{places_of, is_any_primitive}
-use Rattle.p414_rules.specs.Twice.{is_reserved, repeats_in, declares_twice, sorts}
-use Rattle.p414_rules.specs.Arguments.{Argument, number_argument, field_argument, parameter_argument, name_argument, Invocation, invocations_of, all_invocations, actions, action_number, action_of, place_of_parameter, parameter_places, wanted_by, wanted_of, placed}
-use Rattle.p414_rules.specs.ActionExpansion.{given_for, invoked_with}
-use Rattle.p414_rules.specs.Calls.{is_wrong_argument, takes_others, is_wrong_call, has_wrong_call}
+use Rattle.p414_syntax.specs.declared.actions.Action.{Action}
+use Rattle.p414_syntax.specs.declared.syntax.Decl.{Decl}
+use Rattle.p414_syntax.specs.declared.syntax.Sort.TheVariants as sort
+use Rattle.p414_syntax.specs.Names.{Name, names_in}
+use Rattle.p414_syntax.specs.Primitives.{places_of, is_any_primitive}
+use Rattle.p414_syntax.specs.Twice.{is_reserved, repeats_in, declares_twice, sorts}
+use Rattle.p414_syntax.specs.Arguments.{Argument, number_argument, field_argument, parameter_argument, name_argument, Invocation, invocations_of, all_invocations, actions, action_number, action_of, place_of_parameter, parameter_places, wanted_by, wanted_of, placed}
+use Rattle.p414_syntax.specs.ActionExpansion.{given_for, invoked_with}
+use Rattle.p414_syntax.specs.Calls.{is_wrong_argument, takes_others, is_wrong_call, has_wrong_call}
 use Rattle.p414_action_check.specs.internal.Counted.{is_named, gives_name}
 use Rattle.p414_action_check.proofs.Members.{none_of, none_in, in_flat, in_got, in_at}
 use Rattle.p414_action_check.proofs.Numbers.{action_there}

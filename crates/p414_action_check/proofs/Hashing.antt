@@ -4,20 +4,20 @@ use Rattle.std.specs.List.{list_any}
 use Rattle.std.specs.Option.{option_map_or}
 use Rattle.std.proofs.lemmas.List.Sums.{sum_by-append, sum_by-cons}
 use Rattle.std.proofs.lemmas.List.Folds.{list_any-append}
-use Rattle.p414_ast.specs.declared.calculations.FieldListCalculation.{FieldListCalculation}
-use Rattle.p414_ast.specs.declared.calculations.Item.{Item}
-use Rattle.p414_ast.specs.declared.syntax.Decl.{Decl}
-use Rattle.p414_ast.specs.declared.syntax.Decl.TheVariants as decl
-use Rattle.p414_ast.specs.declared.syntax.Sort.TheVariants as sort
-use Rattle.p414_rules.specs.declared.place.ArgumentPlace.{ArgumentPlace}
-use Rattle.p414_rules.specs.declared.place.ArgumentPlace.TheVariants as place
-use Rattle.p414_rules.specs.Names.{Name, number_of, is_declared}
-use Rattle.p414_rules.specs.Expansion.{lists, list_number, items_in, items_at, ComesTo, Joins}
-use Rattle.p414_rules.specs.Lists.{input_names, calculation_of}
-use Rattle.p414_rules.specs.Uses.{of_sort, uses_of}
-use Rattle.p414_rules.specs.Unknown.{is_unknown, has_unknown_name}
-use Rattle.p414_rules.specs.Arguments.{Argument, number_argument, field_argument, parameter_argument, name_argument, Invocation, PlacedArgument, placed_in}
-use Rattle.p414_rules.specs.Actions.{lists_at, lists_hashed_at, hashed_lists, Count}
+use Rattle.p414_syntax.specs.declared.calculations.FieldListCalculation.{FieldListCalculation}
+use Rattle.p414_syntax.specs.declared.calculations.Item.{Item}
+use Rattle.p414_syntax.specs.declared.syntax.Decl.{Decl}
+use Rattle.p414_syntax.specs.declared.syntax.Decl.TheVariants as decl
+use Rattle.p414_syntax.specs.declared.syntax.Sort.TheVariants as sort
+use Rattle.p414_syntax.specs.declared.place.ArgumentPlace.{ArgumentPlace}
+use Rattle.p414_syntax.specs.declared.place.ArgumentPlace.TheVariants as place
+use Rattle.p414_syntax.specs.Names.{Name, number_of, is_declared}
+use Rattle.p414_syntax.specs.Expansion.{lists, list_number, items_in, items_at, ComesTo, Joins}
+use Rattle.p414_syntax.specs.Lists.{input_names, calculation_of}
+use Rattle.p414_syntax.specs.Uses.{of_sort, uses_of}
+use Rattle.p414_syntax.specs.Unknown.{is_unknown, has_unknown_name}
+use Rattle.p414_syntax.specs.Arguments.{Argument, number_argument, field_argument, parameter_argument, name_argument, Invocation, PlacedArgument, placed_in}
+use Rattle.p414_syntax.specs.Actions.{lists_at, lists_hashed_at, hashed_lists, Count}
 use Rattle.p414_list_check.specs.Lengths.{AreLengths}
 use Rattle.p414_list_check.proofs.Expanding.{get_within, named_within}
 use Rattle.p414_list_check.proofs.ListNames.{same_number}

@@ -5,12 +5,12 @@ use Rattle.std.specs.List.{cons_option}
 use Rattle.std.proofs.lemmas.List.{length-map}
 use Rattle.digraph.specs.Graphs.{Among, successors, IsEdge, WalkTo, Edge, Onward, OnCycle, IsClosed}
 use Rattle.digraph.specs.Expansions.{HasCycle}
-use Rattle.p414_ast.specs.declared.actions.Action.{Action}
-use Rattle.p414_ast.specs.declared.syntax.Decl.{Decl}
-use Rattle.p414_rules.specs.Walks.{IsWalk}
-use Rattle.p414_rules.specs.Arguments.{Invocation, invocations_of, actions, action_number}
-use Rattle.p414_rules.specs.ActionExpansion.{called_in, actions_called_by}
-use Rattle.p414_rules.specs.Actions.{ActionCallsItself}
+use Rattle.p414_syntax.specs.declared.actions.Action.{Action}
+use Rattle.p414_syntax.specs.declared.syntax.Decl.{Decl}
+use Rattle.p414_syntax.specs.Walks.{IsWalk}
+use Rattle.p414_syntax.specs.Arguments.{Invocation, invocations_of, actions, action_number}
+use Rattle.p414_syntax.specs.ActionExpansion.{called_in, actions_called_by}
+use Rattle.p414_syntax.specs.Actions.{ActionCallsItself}
 use Rattle.p414_list_check.proofs.Holding.{among, contains}
 use Rattle.p414_action_check.specs.internal.Counted.{action_graph}
 use Rattle.p414_action_check.proofs.Numbers.{named_within}

@@ -4,14 +4,14 @@ use Rattle.std.specs.Prelude.{filter_map}
 use Rattle.std.specs.List.{cons_option}
 use Rattle.std.proofs.lemmas.Grind.{flat_map-append}
 use Rattle.std.proofs.lemmas.List.{map-append}
-use Rattle.p414_ast.specs.declared.syntax.Decl.{Decl}
-use Rattle.p414_rules.specs.declared.place.ArgumentPlace.{ArgumentPlace}
-use Rattle.p414_rules.specs.Names.{Name, has_name}
-use Rattle.p414_rules.specs.Distinct.{distinct_behind}
-use Rattle.p414_rules.specs.Uses.{first_place, further_places}
-use Rattle.p414_rules.specs.Arguments.{Argument, action_number}
-use Rattle.p414_rules.specs.Tables.{tables}
-use Rattle.p414_rules.specs.Actions.{distinct_listed, all_listed}
+use Rattle.p414_syntax.specs.declared.syntax.Decl.{Decl}
+use Rattle.p414_syntax.specs.declared.place.ArgumentPlace.{ArgumentPlace}
+use Rattle.p414_syntax.specs.Names.{Name, has_name}
+use Rattle.p414_syntax.specs.Distinct.{distinct_behind}
+use Rattle.p414_syntax.specs.Uses.{first_place, further_places}
+use Rattle.p414_syntax.specs.Arguments.{Argument, action_number}
+use Rattle.p414_syntax.specs.Tables.{tables}
+use Rattle.p414_syntax.specs.Actions.{distinct_listed, all_listed}
 use Rattle.p414_list_check.proofs.Loops.{next_items}
 use Rattle.p414_action_check.specs.internal.Counted.{first_length, placed_length, listed_numbers}
 

@@ -3,13 +3,13 @@ use Rattle.std.proofs.Common.{◌≡◌, ℕ, suc, zero, ◌<◌, List, [], ◌�
 use Rattle.std.specs.Str.{bytes_eq}
 use Rattle.std.proofs.lemmas.List.{length-map}
 use Rattle.std.proofs.lemmas.List.Quantifiers.{position-Some}
-use Rattle.p414_ast.specs.declared.actions.Action.{Action}
-use Rattle.p414_ast.specs.declared.syntax.Decl.{Decl}
-use Rattle.p414_ast.specs.declared.syntax.Decl.TheVariants as decl
-use Rattle.p414_ast.specs.declared.syntax.Sort.TheVariants as sort
-use Rattle.p414_rules.specs.Names.{Name, names_in, number_of, declared_in}
-use Rattle.p414_rules.specs.Lists.{calculation_in, calculation_of}
-use Rattle.p414_rules.specs.Arguments.{actions, action_number, action_of}
+use Rattle.p414_syntax.specs.declared.actions.Action.{Action}
+use Rattle.p414_syntax.specs.declared.syntax.Decl.{Decl}
+use Rattle.p414_syntax.specs.declared.syntax.Decl.TheVariants as decl
+use Rattle.p414_syntax.specs.declared.syntax.Sort.TheVariants as sort
+use Rattle.p414_syntax.specs.Names.{Name, names_in, number_of, declared_in}
+use Rattle.p414_syntax.specs.Lists.{calculation_in, calculation_of}
+use Rattle.p414_syntax.specs.Arguments.{actions, action_number, action_of}
 use Rattle.p414_list_check.proofs.Expanding.{get_within}
 use Rattle.p414_action_check.specs.internal.Counted.{calculations}
 

@@ -6,12 +6,12 @@ use Rattle.std.proofs.lemmas.List.Sums.{sum_by-append, sum_by-cons}
 use Rattle.digraph.specs.Graphs.{successors}
 use Rattle.digraph.specs.Expansions as calls
 use Rattle.digraph.specs.Expansions.{AreSizes, size_of}
-use Rattle.p414_ast.specs.declared.actions.Action.{Action}
-use Rattle.p414_ast.specs.declared.syntax.Decl.{Decl}
-use Rattle.p414_rules.specs.Names.{Name}
-use Rattle.p414_rules.specs.Arguments.{Invocation, invocations_of, actions, action_number}
-use Rattle.p414_rules.specs.ActionExpansion.{called_in, CallsExpand, ActionExpands}
-use Rattle.p414_rules.specs.Actions.{ActionsJoin}
+use Rattle.p414_syntax.specs.declared.actions.Action.{Action}
+use Rattle.p414_syntax.specs.declared.syntax.Decl.{Decl}
+use Rattle.p414_syntax.specs.Names.{Name}
+use Rattle.p414_syntax.specs.Arguments.{Invocation, invocations_of, actions, action_number}
+use Rattle.p414_syntax.specs.ActionExpansion.{called_in, CallsExpand, ActionExpands}
+use Rattle.p414_syntax.specs.Actions.{ActionsJoin}
 use Rattle.p414_list_check.proofs.Expanding.{get_within, at_row}
 use Rattle.p414_list_check.proofs.Sized.{cut_sum, there_within}
 use Rattle.p414_action_check.specs.internal.Counted.{action_graph, primitive_count, own_count, calls_count, own_counts, total_from}

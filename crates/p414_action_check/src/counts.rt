@@ -1,20 +1,19 @@
 // C15: what the calls of actions count by themselves.
 ghost use Rattle.std.specs.Prelude.{◌≡◌, ◌+◌, ◌≤◌, ◌++◌, map, max, min, slice_index, sum_by, IfOk};
 ghost use Rattle.std.specs.Option.{option_map_or};
-ghost use Rattle.p414_ast.specs.declared.syntax.Sort.TheVariants as sort;
-ghost use Rattle.p414_rules.specs.declared.place.ArgumentPlace.TheVariants as place;
-ghost use Rattle.p414_rules.specs.Names.{number_of};
-ghost use Rattle.p414_rules.specs.Primitives.{primitive_places};
-ghost use Rattle.p414_rules.specs.Uses.{first_place, further_places};
+ghost use Rattle.p414_syntax.specs.declared.syntax.Sort.TheVariants as sort;
+ghost use Rattle.p414_syntax.specs.declared.place.ArgumentPlace.TheVariants as place;
+ghost use Rattle.p414_syntax.specs.Names.{number_of};
+ghost use Rattle.p414_syntax.specs.Primitives.{primitive_places};
+ghost use Rattle.p414_syntax.specs.Uses.{first_place, further_places};
 ghost use Rattle.p414_calls.specs.Shown.{shown_argument};
 ghost use Rattle.p414_action_check.specs.internal.Counted.{length_at, first_length, placed_length, own_count, calls_count};
 
 use crate::hashes::{capped, number_at};
 use p4x_bits::OutOfMemory;
-use p414_ast::Sort;
 use p414_calls::{ActionCalls, Argument, Invocation, action_number};
 use p414_names::{Names14, primitive_places};
-use p414_rules::ArgumentPlace;
+use p414_syntax::{ArgumentPlace, Sort};
 use std::alloc::Global;
 
 /// How many items the calculation with a name takes, by how many each takes.

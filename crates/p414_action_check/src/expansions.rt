@@ -3,11 +3,11 @@ ghost use Rattle.std.specs.Prelude.{◌≡◌, ◌⊎◌, false, map, nat_lt, If
 ghost use Rattle.std.specs.List.{list_any};
 ghost use Rattle.digraph.specs.Components.{AreComponents};
 ghost use Rattle.digraph.specs.Expansions.{AreSizes, HasCycle};
-ghost use Rattle.p414_rules.specs.Exact.{IsExact};
-ghost use Rattle.p414_rules.specs.Breaks.{BreaksNone, declaration_rules};
-ghost use Rattle.p414_rules.specs.Calls.{has_wrong_call};
-ghost use Rattle.p414_rules.specs.Arguments.{invocations_of, actions};
-ghost use Rattle.p414_rules.specs.Actions.{HasBadAction, ActionsTooLong};
+ghost use Rattle.p414_syntax.specs.Exact.{IsExact};
+ghost use Rattle.p414_syntax.specs.Breaks.{BreaksNone, declaration_rules};
+ghost use Rattle.p414_syntax.specs.Calls.{has_wrong_call};
+ghost use Rattle.p414_syntax.specs.Arguments.{invocations_of, actions};
+ghost use Rattle.p414_syntax.specs.Actions.{HasBadAction, ActionsTooLong};
 ghost use Rattle.p414_action_check.specs.internal.Counted.{action_graph, own_counts, total_from, exceeds};
 ghost use Rattle.p414_action_check.specs.internal.Known.{IsKnown, AreInputs, AreActionSizes};
 

@@ -1,12 +1,12 @@
 // C15: how long the inputs of hashes are.
 ghost use Rattle.std.specs.Prelude.{◌≡◌, ◌+◌, ◌≤◌, ◌++◌, map, min, slice_index, sum_by, option_to_list, IfOk, OnOk};
-ghost use Rattle.p414_rules.specs.Lists.{calculation_in};
+ghost use Rattle.p414_syntax.specs.Lists.{calculation_in};
 ghost use Rattle.p414_action_check.specs.internal.Counted.{list_length, input_length, input_lengths};
 
 use p4x_bits::{OutOfMemory, Text};
-use p414_ast::{Decl, FieldListCalculation};
 use p414_list_check::list_number;
 use p414_names::Names14;
+use p414_syntax::{Decl, FieldListCalculation};
 use std::alloc::Global;
 
 /// What is counted stays at this number, which is over each limit.

@@ -1,17 +1,17 @@
 // C15: the actions that tables list.
 ghost use Rattle.std.specs.Prelude.{◌≡◌, ◌≤◌, ◌∷◌, ◌++◌, List, map, flat_map, option_to_list, IfOk, OnOk};
-ghost use Rattle.p414_rules.specs.Names.{Name};
-ghost use Rattle.p414_rules.specs.Distinct.{distinct, distinct_behind};
-ghost use Rattle.p414_rules.specs.Arguments.{action_number};
-ghost use Rattle.p414_rules.specs.Tables.{table_in};
-ghost use Rattle.p414_rules.specs.Actions.{distinct_listed, all_listed};
+ghost use Rattle.p414_syntax.specs.Names.{Name};
+ghost use Rattle.p414_syntax.specs.Distinct.{distinct, distinct_behind};
+ghost use Rattle.p414_syntax.specs.Arguments.{action_number};
+ghost use Rattle.p414_syntax.specs.Tables.{table_in};
+ghost use Rattle.p414_syntax.specs.Actions.{distinct_listed, all_listed};
 ghost use Rattle.p414_action_check.specs.internal.Counted.{listed_numbers, total_from};
 
 use crate::hashes::{capped, number_at};
 use p4x_bits::{OutOfMemory, Text};
-use p414_ast::Decl;
 use p414_calls::action_number;
 use p414_names::{NameSet, Names14};
+use p414_syntax::Decl;
 use std::alloc::Global;
 
 /// Puts the number of the action with a name last, unless the name stood before.

@@ -1,11 +1,11 @@
 -- A program that breaks no rule declares no name twice.
 use Rattle.std.proofs.Common.{◌≡◌, Bool, true, false, List, refl}
 use Rattle.std.specs.Prelude.{IsTrue}
-use Rattle.p414_ast.specs.declared.syntax.Decl.{Decl}
-use Rattle.p414_ast.specs.declared.syntax.Syntax14.{Syntax14}
-use Rattle.p414_rules.specs.declared.rule.ProgramRule.TheVariants.{C1}
-use Rattle.p414_rules.specs.Breaks.{IsBroken}
-use Rattle.p414_rules.specs.Twice.{declares_twice}
+use Rattle.p414_syntax.specs.declared.syntax.Decl.{Decl}
+use Rattle.p414_syntax.specs.declared.syntax.Syntax14.{Syntax14}
+use Rattle.p414_syntax.specs.declared.rule.ProgramRule.TheVariants.{C1}
+use Rattle.p414_syntax.specs.Breaks.{IsBroken}
+use Rattle.p414_syntax.specs.Twice.{declares_twice}
 use Rattle.p414_body_check.specs.Answers.{IsAccepted}
 
 never : (b : Bool) → (IsTrue b → ⊥) → b ≡ false

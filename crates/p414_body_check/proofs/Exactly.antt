@@ -2,29 +2,29 @@
 use Rattle.std.proofs.Common.{◌≡◌, ◌||◌, Bool, true, false, List, inl, inr, refl, sym, subst, ◌∙◌}
 use Rattle.std.specs.Prelude.{◌⊎◌, IsTrue, IfOk, Result, Ok, Err}
 use Rattle.p4x_bits.specs.declared.OutOfMemory.{OutOfMemory}
-use Rattle.p414_ast.specs.declared.syntax.Decl.{Decl}
-use Rattle.p414_rules.specs.declared.rule.ProgramRule.{ProgramRule}
-use Rattle.p414_rules.specs.declared.rule.ProgramRule.TheVariants.{C2, C8, C11, C12, C13, C14, C15, C16, C17, C18, C19, C20, C21, C22, C23, C24, C25, C26, C27, C28}
-use Rattle.p414_rules.specs.Breaks.{IsBroken, BreaksNone, declaration_rules}
-use Rattle.p414_rules.specs.Exact.{IsExact}
+use Rattle.p414_syntax.specs.declared.syntax.Decl.{Decl}
+use Rattle.p414_syntax.specs.declared.rule.ProgramRule.{ProgramRule}
+use Rattle.p414_syntax.specs.declared.rule.ProgramRule.TheVariants.{C2, C8, C11, C12, C13, C14, C15, C16, C17, C18, C19, C20, C21, C22, C23, C24, C25, C26, C27, C28}
+use Rattle.p414_syntax.specs.Breaks.{IsBroken, BreaksNone, declaration_rules}
+use Rattle.p414_syntax.specs.Exact.{IsExact}
 use Rattle.std.specs.List.{list_any}
-use Rattle.p414_rules.specs.Uses.{uses}
-use Rattle.p414_rules.specs.Unknown.{has_unknown_name, is_unknown, lacks_start, lacks_ingress}
-use Rattle.p414_rules.specs.Lists.{HoldsItself}
-use Rattle.p414_rules.specs.Tables.{has_bad_key, has_two_lpm_keys, has_bad_default}
-use Rattle.p414_rules.specs.Calls.{has_wrong_call, ExpandsToWrongCall}
-use Rattle.p414_rules.specs.Targets.{has_bad_target}
-use Rattle.p414_rules.specs.Actions.{HasBadAction, ActionCallsItself}
-use Rattle.p414_rules.specs.Controls.{HasBadControl, ControlCallsItself}
-use Rattle.p414_rules.specs.Pipelines.{IsTableShared, HasMisplacedRequest}
-use Rattle.p414_rules.specs.Preserved.{HasBadPreservedList, PreservesInitialized}
-use Rattle.p414_rules.specs.Payloads.{HasBadPayload}
-use Rattle.p414_rules.specs.CalculatedFields.{has_calculated_condition}
-use Rattle.p414_rules.specs.Cells.{has_bad_cells}
-use Rattle.p414_rules.specs.Unsupported.{has_unsupported}
-use Rattle.p414_rules.specs.Expressions.{has_minus_sign, has_mistyped_expression}
-use Rattle.p414_rules.specs.Parameters.{has_misused_parameter}
-use Rattle.p414_rules.specs.Nesting.{has_deep_expression, NestsTooDeep}
+use Rattle.p414_syntax.specs.Uses.{uses}
+use Rattle.p414_syntax.specs.Unknown.{has_unknown_name, is_unknown, lacks_start, lacks_ingress}
+use Rattle.p414_syntax.specs.Lists.{HoldsItself}
+use Rattle.p414_syntax.specs.Tables.{has_bad_key, has_two_lpm_keys, has_bad_default}
+use Rattle.p414_syntax.specs.Calls.{has_wrong_call, ExpandsToWrongCall}
+use Rattle.p414_syntax.specs.Targets.{has_bad_target}
+use Rattle.p414_syntax.specs.Actions.{HasBadAction, ActionCallsItself}
+use Rattle.p414_syntax.specs.Controls.{HasBadControl, ControlCallsItself}
+use Rattle.p414_syntax.specs.Pipelines.{IsTableShared, HasMisplacedRequest}
+use Rattle.p414_syntax.specs.Preserved.{HasBadPreservedList, PreservesInitialized}
+use Rattle.p414_syntax.specs.Payloads.{HasBadPayload}
+use Rattle.p414_syntax.specs.CalculatedFields.{has_calculated_condition}
+use Rattle.p414_syntax.specs.Cells.{has_bad_cells}
+use Rattle.p414_syntax.specs.Unsupported.{has_unsupported}
+use Rattle.p414_syntax.specs.Expressions.{has_minus_sign, has_mistyped_expression}
+use Rattle.p414_syntax.specs.Parameters.{has_misused_parameter}
+use Rattle.p414_syntax.specs.Nesting.{has_deep_expression, NestsTooDeep}
 
 by_test : (b : Bool) → IsExact b (IsTrue b)
 by_test true = refl

@@ -1,9 +1,9 @@
 -- Rules one after another: which is the first that is broken.
 use Rattle.std.proofs.Common.{◌≡◌, Bool, true, false, List, [], ◌∷◌, ◌++◌, Ok, Err, Result, inl, inr, refl, sym, subst}
-use Rattle.p414_ast.specs.declared.syntax.Decl.{Decl}
-use Rattle.p414_rules.specs.declared.rule.ProgramRule.{ProgramRule}
-use Rattle.p414_rules.specs.Breaks.{IsBroken, IsFirstBroken, BreaksNone, rule_fault}
-use Rattle.p414_rules.specs.Exact.{IsExact}
+use Rattle.p414_syntax.specs.declared.syntax.Decl.{Decl}
+use Rattle.p414_syntax.specs.declared.rule.ProgramRule.{ProgramRule}
+use Rattle.p414_syntax.specs.Breaks.{IsBroken, IsFirstBroken, BreaksNone, rule_fault}
+use Rattle.p414_syntax.specs.Exact.{IsExact}
 use Rattle.p414_body_check.specs.declared.fault.Check14.{Check14}
 use Rattle.p414_body_check.specs.declared.fault.Check14.TheVariants.{Memory, Refused}
 use Rattle.p414_body_check.specs.internal.Steps.{Keeps}

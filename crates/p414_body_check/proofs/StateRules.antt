@@ -1,10 +1,10 @@
 -- What the graph of the states tells of C9 and C10.
 use Rattle.std.proofs.Common.{◌≡◌, ℕ, Bool, true, false, List, [], ◌∷◌, Option, Some, None, MatchOption, Err, Ok, inl, inr, refl, sym, subst}
-use Rattle.p414_ast.specs.declared.syntax.Decl.{Decl}
-use Rattle.p414_rules.specs.declared.rule.ProgramRule.TheVariants.{C9, C10}
-use Rattle.p414_rules.specs.Breaks.{IsBroken, BreaksNone, rule_fault}
-use Rattle.p414_rules.specs.Exact.{IsExact}
-use Rattle.p414_rules.specs.ParserGraph.{HasIdleCycle, HasNoOrder}
+use Rattle.p414_syntax.specs.declared.syntax.Decl.{Decl}
+use Rattle.p414_syntax.specs.declared.rule.ProgramRule.TheVariants.{C9, C10}
+use Rattle.p414_syntax.specs.Breaks.{IsBroken, BreaksNone, rule_fault}
+use Rattle.p414_syntax.specs.Exact.{IsExact}
+use Rattle.p414_syntax.specs.ParserGraph.{HasIdleCycle, HasNoOrder}
 use Rattle.parse_graph.specs.declared.nodes.Graph.{Graph}
 use Rattle.parse_graph.specs.Graphs.{IsIdle, IsLeastIdle}
 use Rattle.p414_body_check.specs.declared.fault.Check14.{Check14}

@@ -1,8 +1,8 @@
 -- What a check of a program answers.
 use Rattle.std.specs.Prelude.{◌≡◌, List, Result, Ok, Err}
-use Rattle.p414_ast.specs.declared.syntax.Syntax14.{Syntax14}
-use Rattle.p414_rules.specs.declared.rule.ProgramRule.{ProgramRule}
-use Rattle.p414_rules.specs.Breaks.{BreaksNone, Breaks14, program_rules, rule_fault}
+use Rattle.p414_syntax.specs.declared.syntax.Syntax14.{Syntax14}
+use Rattle.p414_syntax.specs.declared.rule.ProgramRule.{ProgramRule}
+use Rattle.p414_syntax.specs.Breaks.{BreaksNone, Breaks14, program_rules, rule_fault}
 use Rattle.p414_body_check.specs.declared.fault.Check14.{Check14}
 use Rattle.p414_body_check.specs.declared.fault.Check14.TheVariants.{Memory, Refused}
 

@@ -1,9 +1,9 @@
 // The rules of bodies, some at a time.
 ghost use Rattle.std.specs.Prelude.{◌≡◌, map};
 ghost use Rattle.p414_call_check.specs.Shown.{shown_placed};
-ghost use Rattle.p414_rules.specs.Arguments.{actions, invocations_of, placed_arguments};
-ghost use Rattle.p414_rules.specs.Breaks.{IsBroken, BreaksNone, declaration_rules};
-ghost use Rattle.p414_rules.specs.declared.rule.ProgramRule.TheVariants.{C13, C15, C16};
+ghost use Rattle.p414_syntax.specs.Arguments.{actions, invocations_of, placed_arguments};
+ghost use Rattle.p414_syntax.specs.Breaks.{IsBroken, BreaksNone, declaration_rules};
+ghost use Rattle.p414_syntax.specs.declared.rule.ProgramRule.TheVariants.{C13, C15, C16};
 ghost use Rattle.p414_body_check.specs.internal.Steps.{Keeps, rules_from_c11, rules_from_c14, rules_from_c17, rules_from_c20, rules_from_c23, rules_from_c26};
 
 use crate::each::{
@@ -15,7 +15,7 @@ use crate::fault::{Check14, refusal};
 use p414_call_check::PlacedArgument;
 use p414_calls::ActionCalls;
 use p414_names::Names14;
-use p414_rules::ProgramRule;
+use p414_syntax::ProgramRule;
 use std::alloc::Global;
 
 /// Judges a program by C11, C12 and C13.

@@ -1,11 +1,11 @@
 // Each rule of bodies by itself: whether it is broken.
 ghost use Rattle.std.specs.Prelude.{◌≡◌, ◌||◌, map, IfOk};
-ghost use Rattle.p414_rules.specs.Arguments.{actions, invocations_of, placed_arguments};
-ghost use Rattle.p414_rules.specs.Breaks.{IsBroken, BreaksNone, declaration_rules};
-ghost use Rattle.p414_rules.specs.Calls.{has_wrong_call};
-ghost use Rattle.p414_rules.specs.Exact.{IsExact};
-ghost use Rattle.p414_rules.specs.Expressions.{has_mistyped_expression};
-ghost use Rattle.p414_rules.specs.declared.rule.ProgramRule.TheVariants.{C11, C12, C13, C14, C15, C16, C17, C18, C19, C20, C21, C22, C23, C24, C25, C26, C27, C28};
+ghost use Rattle.p414_syntax.specs.Arguments.{actions, invocations_of, placed_arguments};
+ghost use Rattle.p414_syntax.specs.Breaks.{IsBroken, BreaksNone, declaration_rules};
+ghost use Rattle.p414_syntax.specs.Calls.{has_wrong_call};
+ghost use Rattle.p414_syntax.specs.Exact.{IsExact};
+ghost use Rattle.p414_syntax.specs.Expressions.{has_mistyped_expression};
+ghost use Rattle.p414_syntax.specs.declared.rule.ProgramRule.TheVariants.{C11, C12, C13, C14, C15, C16, C17, C18, C19, C20, C21, C22, C23, C24, C25, C26, C27, C28};
 ghost use Rattle.p414_call_check.specs.Shown.{shown_placed};
 
 use p4x_bits::OutOfMemory;

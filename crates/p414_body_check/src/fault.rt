@@ -1,11 +1,11 @@
 // Why a program isn't taken.
 ghost use Rattle.std.specs.Prelude.{◌≡◌};
-ghost use Rattle.p414_rules.specs.Breaks.{rule_fault};
+ghost use Rattle.p414_syntax.specs.Breaks.{rule_fault};
 ghost use Rattle.p414_body_check.specs.declared.fault.Check14.TheVariants.{Memory, Refused};
 
 use p4x_bits::OutOfMemory;
 use p4x_fault::Fault;
-use p414_rules::ProgramRule;
+use p414_syntax::ProgramRule;
 use thiserror::Error;
 
 /// Why a program isn't taken.

@@ -1,8 +1,8 @@
 // All rules, one after another.
 ghost use Rattle.std.specs.Prelude.{◌≡◌, map};
 ghost use Rattle.p414_call_check.specs.Shown.{shown_placed};
-ghost use Rattle.p414_rules.specs.Arguments.{actions, invocations_of, placed_arguments};
-ghost use Rattle.p414_rules.specs.Breaks.{BreaksNone, declaration_rules, program_rules};
+ghost use Rattle.p414_syntax.specs.Arguments.{actions, invocations_of, placed_arguments};
+ghost use Rattle.p414_syntax.specs.Breaks.{BreaksNone, declaration_rules, program_rules};
 ghost use Rattle.p414_body_check.specs.internal.Steps.{Keeps, rules_of_bodies};
 ghost use Rattle.p414_body_check.specs.internal.Declared.{IsDeclared};
 
@@ -11,11 +11,11 @@ use crate::bodies::{
 };
 use crate::fault::Check14;
 use crate::parsers::judge_parser;
-use p414_ast::Syntax14;
 use p414_call_check::{PlacedArgument, placed_arguments};
 use p414_calls::{ActionCalls, calls_of};
 use p414_decl_check::{DeclFault, decls};
 use p414_names::Names14;
+use p414_syntax::Syntax14;
 use std::alloc::Global;
 
 /// The names of a program that breaks no rule of declarations.

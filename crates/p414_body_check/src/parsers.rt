@@ -1,18 +1,17 @@
 // C9 and C10: the parser states of a program as a graph.
 ghost use Rattle.std.specs.Prelude.{◌≡◌, ◌∷◌, [], false, IfOk};
-ghost use Rattle.p414_rules.specs.Breaks.{BreaksNone, declaration_rules};
-ghost use Rattle.p414_rules.specs.Exact.{IsExact};
-ghost use Rattle.p414_rules.specs.ParserGraph.{HasIdleCycle, HasNoOrder};
-ghost use Rattle.p414_rules.specs.Unknown.{lacks_start};
-ghost use Rattle.p414_rules.specs.declared.rule.ProgramRule.TheVariants.{C9, C10};
+ghost use Rattle.p414_syntax.specs.Breaks.{BreaksNone, declaration_rules};
+ghost use Rattle.p414_syntax.specs.Exact.{IsExact};
+ghost use Rattle.p414_syntax.specs.ParserGraph.{HasIdleCycle, HasNoOrder};
+ghost use Rattle.p414_syntax.specs.Unknown.{lacks_start};
+ghost use Rattle.p414_syntax.specs.declared.rule.ProgramRule.TheVariants.{C9, C10};
 ghost use Rattle.p414_body_check.specs.internal.Steps.{Keeps};
 ghost use Rattle.p414_body_check.specs.internal.States.{IsGraphOf};
 
 use crate::fault::{Check14, refusal};
 use deparse_order::{OrderFault, order};
 use p4x_bits::OutOfMemory;
-use p414_ast::Syntax14;
-use p414_rules::ProgramRule;
+use p414_syntax::{ProgramRule, Syntax14};
 use parse_graph::{Graph, first_idle_cycle, graph};
 use std::alloc::Global;
 

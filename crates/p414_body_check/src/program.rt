@@ -1,27 +1,35 @@
 // Programs that break no rule.
 ghost use Rattle.std.specs.Prelude.{◌≡◌, IfOk};
-ghost use Rattle.p414_rules.specs.Names.{number_of};
+ghost use Rattle.p414_syntax.specs.Names.{number_of};
 ghost use Rattle.p414_body_check.specs.Answers.{IsAccepted, IsJudged};
 
 use crate::fault::Check14;
 use crate::judge::judge;
 use p4x_bits::OutOfMemory;
-use p414_ast::{Sort, Syntax14};
 use p414_numbers::{DeclNumbers, numbers_of};
+use p414_syntax::{Sort, Syntax14};
 use std::alloc::Global;
 use std::marker::Model;
 
 /// A P4_14 program that breaks none of the rules C1 to C28, with the numbers of its declarations. Contracts see its syntax.
-#[derive(Drop)]
 pub struct Program14 {
     syntax: Syntax14,
     numbers: DeclNumbers,
 }
 
+impl Drop for Program14 {
+    fn drop(self) {
+        let Program14 {
+            syntax: _syntax,
+            numbers: _numbers,
+        } = self;
+    }
+}
+
 impl Model for Program14 {
     ghost use Rattle.std.specs.Coded.{codes};
-    ghost use Rattle.p414_ast.specs.declared.syntax.Syntax14.{Syntax14 as Syntax};
-    ghost use Rattle.p414_ast.specs.contracts.syntax.Syntax14 as declaration;
+    ghost use Rattle.p414_syntax.specs.declared.syntax.Syntax14.{Syntax14 as Syntax};
+    ghost use Rattle.p414_syntax.specs.contracts.syntax.Syntax14 as declaration;
     ghost use Rattle.p414_body_check.specs.internal.Programs.{IsProgram};
 
     ghost Value = { Syntax };

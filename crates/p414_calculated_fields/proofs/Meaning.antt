@@ -3,13 +3,13 @@ use Rattle.std.proofs.Common.{◌≡◌, ℕ, ◌%◌, ◌^◌, Bool, true, fals
 use Rattle.std.specs.Prelude.{IfOk, not, ◌&&◌, ◌||◌, ◌==◌, filter, fold}
 use Rattle.std.specs.List.{list_any}
 use Rattle.std.specs.Option.{option_map_or}
-use Rattle.p414_ast.specs.declared.calculations.CalcCond.{CalcCond}
-use Rattle.p414_ast.specs.declared.calculations.CalcCond.TheVariants as calc_cond
-use Rattle.p414_ast.specs.declared.calculations.Calc.{Calc}
-use Rattle.p414_ast.specs.declared.calculations.CalculatedField.{CalculatedField}
-use Rattle.p414_ast.specs.declared.syntax.Decl.{Decl}
-use Rattle.p414_rules.specs.Lists.{calculated_fields, is_update, is_verify}
-use Rattle.p414_rules.specs.Twice.{declares_twice}
+use Rattle.p414_syntax.specs.declared.calculations.CalcCond.{CalcCond}
+use Rattle.p414_syntax.specs.declared.calculations.CalcCond.TheVariants as calc_cond
+use Rattle.p414_syntax.specs.declared.calculations.Calc.{Calc}
+use Rattle.p414_syntax.specs.declared.calculations.CalculatedField.{CalculatedField}
+use Rattle.p414_syntax.specs.declared.syntax.Decl.{Decl}
+use Rattle.p414_syntax.specs.Lists.{calculated_fields, is_update, is_verify}
+use Rattle.p414_syntax.specs.Twice.{declares_twice}
 use Rattle.p414_sem.specs.Slots.{Slot, standard, declared, slot_of, bits_of_ref}
 use Rattle.p414_sem.specs.State.{State, is_live, read, written}
 use Rattle.p414_sem.specs.Expanded.{Expanded, IsExpanded}

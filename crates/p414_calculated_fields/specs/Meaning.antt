@@ -1,6 +1,6 @@
 -- What it is for rows to be the calculated fields of a program.
 use Rattle.std.specs.Prelude.{◌≡◌, ℕ, List}
-use Rattle.p414_ast.specs.declared.syntax.Decl.{Decl}
+use Rattle.p414_syntax.specs.declared.syntax.Decl.{Decl}
 use Rattle.p414_sem.specs.State.{State}
 use Rattle.p414_sem.specs.Expanded.{Expanded, IsExpanded}
 use Rattle.p414_sem.specs.Meanings.{Verify14, Update14}

@@ -1,12 +1,12 @@
 -- What is kept of calculated fields (P4_14 1.0.5, "Checksums and Hash-value Generators"): names stand by number, and the entries
 -- of each use by themselves, in order.
 use Rattle.std.specs.Prelude.{List, filter, map, Option, Some, None}
-use Rattle.p414_ast.specs.declared.calculations.CalcCond.{CalcCond}
-use Rattle.p414_ast.specs.declared.calculations.CalcCond.TheVariants as calc_cond
-use Rattle.p414_ast.specs.declared.calculations.Calc.{Calc}
-use Rattle.p414_ast.specs.declared.calculations.CalculatedField.{CalculatedField}
-use Rattle.p414_ast.specs.declared.syntax.Decl.{Decl}
-use Rattle.p414_rules.specs.Lists.{calculated_fields, is_update, is_verify}
+use Rattle.p414_syntax.specs.declared.calculations.CalcCond.{CalcCond}
+use Rattle.p414_syntax.specs.declared.calculations.CalcCond.TheVariants as calc_cond
+use Rattle.p414_syntax.specs.declared.calculations.Calc.{Calc}
+use Rattle.p414_syntax.specs.declared.calculations.CalculatedField.{CalculatedField}
+use Rattle.p414_syntax.specs.declared.syntax.Decl.{Decl}
+use Rattle.p414_syntax.specs.Lists.{calculated_fields, is_update, is_verify}
 use Rattle.p414_sem.specs.Slots.{slot_of, Element, element_of}
 use Rattle.p414_slots.specs.Shown.{kept_slot}
 use Rattle.p414_ready_actions.specs.Words.{calculation_number}

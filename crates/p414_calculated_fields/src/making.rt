@@ -1,15 +1,15 @@
 // Calculated fields are made ready.
 ghost use Rattle.std.specs.Prelude.{◌≡◌, ◌++◌, filter, map, IfOk, OnOk};
-ghost use Rattle.p414_rules.specs.Lists.{calculated_fields, calculated_in, is_update, is_verify};
+ghost use Rattle.p414_syntax.specs.Lists.{calculated_fields, calculated_in, is_update, is_verify};
 ghost use Rattle.p414_sem.specs.Slots.{element_of};
 ghost use Rattle.p414_ready_actions.specs.Words.{calculation_number};
 ghost use Rattle.p414_calculated_fields.specs.Rows.{condition_test, element_test, entry_row, entry_test, field_row};
 
 use crate::rows::{CalculatedRow, EntryRow, EntryTest};
 use p4x_bits::{OutOfMemory, Rows};
-use p414_ast::{Calc, CalcCond, CalcUse, CalculatedField, Decl, Inst, Sort};
 use p414_names::Names14;
 use p414_slots::{Slots, element_number};
+use p414_syntax::{Calc, CalcCond, CalcUse, CalculatedField, Decl, Inst, Sort};
 use std::alloc::Global;
 
 /// That an instance is valid.

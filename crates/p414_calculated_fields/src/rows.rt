@@ -3,7 +3,7 @@ use p4x_bits::Rows;
 use p414_slots::FieldSlot;
 
 /// The condition of an entry (P4_14 1.0.5, "Checksums and Hash-value Generators").
-#[derive(Clone, Copy, Debug, Drop)]
+#[derive(Clone, Copy, Drop)]
 pub enum EntryTest {
     /// The entry has none, so it always holds.
     Always,
@@ -19,7 +19,7 @@ pub enum EntryTest {
 }
 
 /// An entry: a calculation, by its number in the order of declaration, and the condition under which it is taken.
-#[derive(Clone, Copy, Debug, Drop)]
+#[derive(Clone, Copy, Drop)]
 pub struct EntryRow {
     /// The condition.
     pub test: EntryTest,
@@ -28,7 +28,6 @@ pub struct EntryRow {
 }
 
 /// A calculated field with its entries in order.
-#[derive(Debug, Drop)]
 pub struct CalculatedRow {
     /// The field.
     pub slot: FieldSlot,
@@ -36,4 +35,14 @@ pub struct CalculatedRow {
     pub verify: Rows<EntryRow>,
     /// The entries that update it.
     pub update: Rows<EntryRow>,
+}
+
+impl Drop for CalculatedRow {
+    fn drop(self) {
+        let CalculatedRow {
+            slot: _slot,
+            verify: _verify,
+            update: _update,
+        } = self;
+    }
 }

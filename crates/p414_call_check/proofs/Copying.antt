@@ -3,8 +3,8 @@ use Rattle.std.proofs.Common.{◌≡◌, not, ◌&&◌, true, List, [], ◌∷�
 use Rattle.std.specs.List.{list_all}
 use Rattle.std.specs.Str.{bytes_eq}
 use Rattle.std.proofs.lemmas.Slice.Eq.{bytes_eq-Decides}
-use Rattle.p414_rules.specs.Names.{Name}
-use Rattle.p414_rules.specs.Calls.{differ}
+use Rattle.p414_syntax.specs.Names.{Name}
+use Rattle.p414_syntax.specs.Calls.{differ}
 use Rattle.p414_call_check.specs.internal.Types.{differ_from_first}
 
 same_name : (name : Name) → bytes_eq name name ≡ true

@@ -7,15 +7,15 @@ use Rattle.std.proofs.lemmas.Bool.{cases_lt}
 use Rattle.std.proofs.lemmas.List.Folds.{list_any-append, flat_map-map}
 use Rattle.std.proofs.lemmas.Grind.{flat_map-append}
 use Rattle.std.proofs.lemmas.Option.{slice_get-map, slice_get-get_or, slice_get_past}
-use Rattle.p414_ast.specs.declared.actions.Action.{Action}
-use Rattle.p414_ast.specs.declared.syntax.Decl.{Decl}
-use Rattle.p414_ast.specs.declared.syntax.Decl.TheVariants as decl
-use Rattle.p414_ast.specs.declared.syntax.Sort.TheVariants as sort
-use Rattle.p414_rules.specs.declared.place.ArgumentPlace.{ArgumentPlace}
-use Rattle.p414_rules.specs.declared.place.ArgumentPlace.TheVariants as place
-use Rattle.p414_rules.specs.Names.{Name, declared_in, numbered, number_of}
-use Rattle.p414_rules.specs.Arguments.{Argument, Invocation, invocations_of, action_in, actions, action_of, place_of_parameter, PlacedArgument, placed, placed_in, placed_arguments}
-use Rattle.p414_rules.specs.Calls.{is_wrong_argument, is_wrong_call, has_wrong_call}
+use Rattle.p414_syntax.specs.declared.actions.Action.{Action}
+use Rattle.p414_syntax.specs.declared.syntax.Decl.{Decl}
+use Rattle.p414_syntax.specs.declared.syntax.Decl.TheVariants as decl
+use Rattle.p414_syntax.specs.declared.syntax.Sort.TheVariants as sort
+use Rattle.p414_syntax.specs.declared.place.ArgumentPlace.{ArgumentPlace}
+use Rattle.p414_syntax.specs.declared.place.ArgumentPlace.TheVariants as place
+use Rattle.p414_syntax.specs.Names.{Name, declared_in, numbered, number_of}
+use Rattle.p414_syntax.specs.Arguments.{Argument, Invocation, invocations_of, action_in, actions, action_of, place_of_parameter, PlacedArgument, placed, placed_in, placed_arguments}
+use Rattle.p414_syntax.specs.Calls.{is_wrong_argument, is_wrong_call, has_wrong_call}
 use Rattle.p414_calls.specs.declared.argument.Argument as kept
 use Rattle.p414_calls.specs.Shown.{shown_argument}
 use Rattle.p414_call_check.proofs.Writing.{any_joined}

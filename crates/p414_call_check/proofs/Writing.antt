@@ -2,11 +2,11 @@
 use Rattle.std.proofs.Common.{◌≡◌, Bool, ◌||◌, List, [], ◌∷◌, flat_map, refl, sym, ap, ◌∙◌}
 use Rattle.std.specs.List.{list_any}
 use Rattle.std.proofs.lemmas.List.Folds.{list_any-append}
-use Rattle.p414_ast.specs.declared.parsers.PStmt.{PStmt}
-use Rattle.p414_ast.specs.declared.syntax.Decl.{Decl}
-use Rattle.p414_rules.specs.Arguments.{PlacedArgument, placed_arguments}
-use Rattle.p414_rules.specs.Targets.{statements_in, extracted_in, set_in, target_of, is_no_header, is_no_metadata_field, is_read_only, extracts, parser_targets, action_targets}
-use Rattle.p414_rules.specs.Unsupported.{is_group_field}
+use Rattle.p414_syntax.specs.declared.parsers.PStmt.{PStmt}
+use Rattle.p414_syntax.specs.declared.syntax.Decl.{Decl}
+use Rattle.p414_syntax.specs.Arguments.{PlacedArgument, placed_arguments}
+use Rattle.p414_syntax.specs.Targets.{statements_in, extracted_in, set_in, target_of, is_no_header, is_no_metadata_field, is_read_only, extracts, parser_targets, action_targets}
+use Rattle.p414_syntax.specs.Unsupported.{is_group_field}
 use Rattle.p414_call_check.specs.internal.Written.{state_extracts_no_header, state_sets_no_metadata, state_sets_group, target_is_read_only, target_is_group}
 
 pub any_joined : {X Y : Type 0} (p : Y → Bool) (f : X → List Y) (xs : List X) → list_any p (flat_map f xs) ≡ list_any (λ x. list_any p (f x)) xs

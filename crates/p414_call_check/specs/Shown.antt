@@ -1,8 +1,8 @@
 -- How what is wanted of arguments, arguments with their places, and calls, are seen.
 use Rattle.std.specs.Prelude.{List}
-use Rattle.p414_rules.specs.declared.place.ArgumentPlace.{ArgumentPlace}
-use Rattle.p414_rules.specs.Names.{Name}
-use Rattle.p414_rules.specs.Arguments as arguments
+use Rattle.p414_syntax.specs.declared.place.ArgumentPlace.{ArgumentPlace}
+use Rattle.p414_syntax.specs.Names.{Name}
+use Rattle.p414_syntax.specs.Arguments as arguments
 use Rattle.p414_calls.specs.Shown.{shown_argument}
 use Rattle.p414_call_check.specs.declared.wanted.Wanted.{Wanted}
 use Rattle.p414_call_check.specs.declared.wanted.Wanted.TheVariants as wanted_by

@@ -1,12 +1,11 @@
 // C13: which arguments a place takes.
 ghost use Rattle.std.specs.Prelude.{◌≡◌};
-ghost use Rattle.p414_rules.specs.Calls.{is_negative, is_element_count, takes_number, takes_field, is_indirect_counter, is_register, is_meter, is_object, takes_bare_name, takes_name, takes};
+ghost use Rattle.p414_syntax.specs.Calls.{is_negative, is_element_count, takes_number, takes_field, is_indirect_counter, is_register, is_meter, is_object, takes_bare_name, takes_name, takes};
 ghost use Rattle.p414_calls.specs.Shown.{shown_argument};
 
-use p414_ast::{Decl, Inst, Number, Sign, Sort};
 use p414_calls::Argument;
 use p414_names::Names14;
-use p414_rules::ArgumentPlace;
+use p414_syntax::{ArgumentPlace, Decl, Inst, Number, Sign, Sort};
 
 /// How many elements are pushed or popped at most.
 const MOST_ELEMENTS: u128 = 256;

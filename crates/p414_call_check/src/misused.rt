@@ -1,12 +1,12 @@
 // C27: where parameters stand.
 ghost use Rattle.std.specs.Prelude.{◌≡◌, map};
 ghost use Rattle.std.specs.List.{list_any};
-ghost use Rattle.p414_rules.specs.Parameters.{is_read, is_misused_parameter};
+ghost use Rattle.p414_syntax.specs.Parameters.{is_read, is_misused_parameter};
 ghost use Rattle.p414_call_check.specs.Shown.{shown_placed};
 
 use crate::placed::PlacedArgument;
 use p414_calls::Argument;
-use p414_rules::ArgumentPlace;
+use p414_syntax::ArgumentPlace;
 
 /// Whether a number is taken from a place.
 fn is_read(place: ArgumentPlace) -> bool

@@ -1,6 +1,6 @@
 // Arguments with what is wanted of each.
 ghost use Rattle.std.specs.Prelude.{◌≡◌, ◌++◌, map, flat_map, IfOk, OnOk};
-ghost use Rattle.p414_rules.specs.Arguments.{actions, invocations_of, placed, placed_in, placed_arguments};
+ghost use Rattle.p414_syntax.specs.Arguments.{actions, invocations_of, placed, placed_in, placed_arguments};
 ghost use Rattle.p414_calls.specs.Shown.{shown_argument};
 ghost use Rattle.p414_call_check.specs.Shown.{shown_wanted, shown_placed, call_of};
 ghost use Rattle.p414_call_check.specs.internal.Placing.{placed_with, placed_in_action};
@@ -9,7 +9,7 @@ use crate::wanted::{Wanted, wanted_of};
 use p4x_bits::OutOfMemory;
 use p414_calls::{ActionCalls, Argument, Invocation};
 use p414_names::Names14;
-use p414_rules::ArgumentPlace;
+use p414_syntax::ArgumentPlace;
 use std::alloc::Global;
 
 /// An argument with what is wanted of it. Contracts see it as a record of what is wanted and of what the argument stands

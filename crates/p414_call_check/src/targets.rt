@@ -1,17 +1,16 @@
 // C14 and C25: what is extracted, and what is written.
 ghost use Rattle.std.specs.Prelude.{◌≡◌, map, option_copied, option_to_list};
 ghost use Rattle.std.specs.List.{list_any};
-ghost use Rattle.p414_rules.specs.Arguments.{placed_arguments};
-ghost use Rattle.p414_rules.specs.Targets.{target_of, is_metadata, is_no_header, is_no_metadata_field, is_read_only, extracts, parser_targets, has_bad_target};
-ghost use Rattle.p414_rules.specs.Unsupported.{is_group_field, writes_group};
+ghost use Rattle.p414_syntax.specs.Arguments.{placed_arguments};
+ghost use Rattle.p414_syntax.specs.Targets.{target_of, is_metadata, is_no_header, is_no_metadata_field, is_read_only, extracts, parser_targets, has_bad_target};
+ghost use Rattle.p414_syntax.specs.Unsupported.{is_group_field, writes_group};
 ghost use Rattle.p414_call_check.specs.Shown.{shown_placed};
 ghost use Rattle.p414_call_check.specs.internal.Written.{extracts_no_header, state_extracts_no_header, sets_no_metadata, state_sets_no_metadata, sets_group, state_sets_group, target_is_read_only, target_is_group};
 
 use crate::placed::PlacedArgument;
-use p414_ast::{Decl, PStmt, Ref, Sort};
 use p414_calls::Argument;
 use p414_names::{Names14, is_standard};
-use p414_rules::ArgumentPlace;
+use p414_syntax::{ArgumentPlace, Decl, PStmt, Ref, Sort};
 
 const EGRESS_SPEC: &[u8] = b"egress_spec";
 

@@ -1,14 +1,14 @@
 // C13: the types of the headers that are copied.
 ghost use Rattle.std.specs.Prelude.{◌≡◌, map, flat_map, option_copied, option_to_list};
-ghost use Rattle.p414_rules.specs.Calls.{type_names, differ};
-ghost use Rattle.p414_rules.specs.Fields.{type_name_in};
+ghost use Rattle.p414_syntax.specs.Calls.{type_names, differ};
+ghost use Rattle.p414_syntax.specs.Fields.{type_name_in};
 ghost use Rattle.p414_calls.specs.Shown.{shown_argument};
 ghost use Rattle.p414_call_check.specs.internal.Types.{first_of, differ_from, differ_from_first};
 
 use p4x_bits::Text;
-use p414_ast::{Decl, Sort};
 use p414_calls::Argument;
 use p414_names::Names14;
+use p414_syntax::{Decl, Sort};
 
 /// The name of the type of an instance.
 fn type_name_in(decl: &Decl) -> Option<&Text>

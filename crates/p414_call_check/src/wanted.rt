@@ -1,12 +1,11 @@
 // What is wanted of the arguments of a call.
 ghost use Rattle.std.specs.Prelude.{◌≡◌, length, slice_get, option_copied, option_map};
-ghost use Rattle.p414_rules.specs.Arguments.{action_of, wanted_of};
+ghost use Rattle.p414_syntax.specs.Arguments.{action_of, wanted_of};
 ghost use Rattle.p414_call_check.specs.Shown.{shown_wanted};
 ghost use Rattle.p414_call_check.specs.internal.Placing.{declared_action};
 
-use p414_ast::{Action, Decl, Sort};
 use p414_names::{Names14, places_of};
-use p414_rules::ArgumentPlace;
+use p414_syntax::{Action, ArgumentPlace, Decl, Sort};
 
 /// What is wanted of the arguments of a call, in order. Contracts see the list of the places by `shown_wanted`.
 #[derive(Clone, Copy, Drop)]

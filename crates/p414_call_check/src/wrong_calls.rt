@@ -1,8 +1,8 @@
 // C13: the calls as they are written.
 ghost use Rattle.std.specs.Prelude.{◌≡◌, map};
 ghost use Rattle.std.specs.List.{list_any};
-ghost use Rattle.p414_rules.specs.Arguments.{actions, invocations_of, placed};
-ghost use Rattle.p414_rules.specs.Calls.{optional_count, is_wrong_count, is_wrong_argument, copies_other_type, takes_others, is_wrong_call, has_wrong_call};
+ghost use Rattle.p414_syntax.specs.Arguments.{actions, invocations_of, placed};
+ghost use Rattle.p414_syntax.specs.Calls.{optional_count, is_wrong_count, is_wrong_argument, copies_other_type, takes_others, is_wrong_call, has_wrong_call};
 ghost use Rattle.p414_calls.specs.Shown.{shown_argument};
 ghost use Rattle.p414_call_check.specs.Shown.{shown_wanted, call_of};
 ghost use Rattle.p414_call_check.specs.internal.Placing.{is_wrong_placed, takes_other_arguments, is_wrong_action};
@@ -12,7 +12,7 @@ use crate::types::have_other_types;
 use crate::wanted::{Wanted, wanted_of};
 use p414_calls::{ActionCalls, Argument, Invocation};
 use p414_names::{Names14, is_among};
-use p414_rules::ArgumentPlace;
+use p414_syntax::ArgumentPlace;
 
 /// The primitives whose last argument may be left out.
 const WITH_OPTIONAL_LAST: [&[u8]; 9] = [

@@ -2,10 +2,10 @@
 use Rattle.std.proofs.Common.{◌≡◌, ℕ, ◌+◌, ◌<◌, List, [], ◌∷◌, ◌++◌, length, get_or, drop, map, option_to_list, Option, Some, None, refl, sym, ap, ◌∙◌, append_assoc, append-nil, drop-cons, add-one}
 use Rattle.std.specs.List.{cons_option}
 use Rattle.digraph.specs.Graphs.{with_edge}
-use Rattle.p414_ast.specs.declared.actions.Action.{Action}
-use Rattle.p414_ast.specs.declared.syntax.Decl.{Decl}
-use Rattle.p414_rules.specs.Arguments.{Invocation, invocations_of, action_in, actions}
-use Rattle.p414_rules.specs.ActionExpansion.{callee_number, called_in}
+use Rattle.p414_syntax.specs.declared.actions.Action.{Action}
+use Rattle.p414_syntax.specs.declared.syntax.Decl.{Decl}
+use Rattle.p414_syntax.specs.Arguments.{Invocation, invocations_of, action_in, actions}
+use Rattle.p414_syntax.specs.ActionExpansion.{callee_number, called_in}
 use Rattle.p414_calls.specs.internal.Edges.{with_edges, called_by}
 
 -- the items from a place on: the one there, and those behind it

@@ -1,5 +1,5 @@
 -- How what the arguments of a call stand for is seen.
-use Rattle.p414_rules.specs.Arguments as arguments
+use Rattle.p414_syntax.specs.Arguments as arguments
 use Rattle.p414_calls.specs.declared.argument.Argument.{Argument}
 use Rattle.p414_calls.specs.declared.argument.Argument.TheVariants as stands_for
 

@@ -1,14 +1,14 @@
 // The actions of a program as a graph.
 ghost use Rattle.std.specs.Prelude.{◌≡◌, ◌++◌, ◌∷◌, [], map, option_to_list, IfOk, OnOk};
-ghost use Rattle.p414_rules.specs.Arguments.{actions, invocations_of, action_number};
-ghost use Rattle.p414_rules.specs.ActionExpansion.{callee_number, called_in};
+ghost use Rattle.p414_syntax.specs.Arguments.{actions, invocations_of, action_number};
+ghost use Rattle.p414_syntax.specs.ActionExpansion.{callee_number, called_in};
 ghost use Rattle.p414_calls.specs.internal.Edges.{with_edges, called_by};
 
 use crate::calls::{ActionCalls, Invocation};
 use digraph::Digraph;
 use p4x_bits::OutOfMemory;
-use p414_ast::Sort;
 use p414_names::Names14;
+use p414_syntax::Sort;
 use std::alloc::Global;
 
 /// The number of the action with a name, from 0 in the order of the text; none where it is no declared action.

@@ -1,11 +1,11 @@
 // What the arguments of a call stand for.
 ghost use Rattle.std.specs.Prelude.{◌≡◌, map, IfOk};
-ghost use Rattle.p414_rules.specs.Arguments.{argument_by_name, argument_of};
+ghost use Rattle.p414_syntax.specs.Arguments.{argument_by_name, argument_of};
 ghost use Rattle.p414_calls.specs.Shown.{shown_argument};
 
 use name_numbers::{Numbering, number_names};
 use p4x_bits::{OutOfMemory, Text};
-use p414_ast::{Arg, Inst, Number, Ref};
+use p414_syntax::{Arg, Inst, Number, Ref};
 use std::alloc::Global;
 
 /// What an argument of a call stands for (P4_14 1.0.5, "Actions").

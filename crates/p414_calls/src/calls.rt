@@ -1,12 +1,12 @@
 // The calls of actions.
 ghost use Rattle.std.specs.Prelude.{◌≡◌, ◌++◌, map, option_to_list, IfOk, OnOk};
-ghost use Rattle.p414_rules.specs.Arguments.{invocation_of, invocations_of, action_in, actions};
+ghost use Rattle.p414_syntax.specs.Arguments.{invocation_of, invocations_of, action_in, actions};
 ghost use Rattle.p414_calls.specs.Shown.{shown_argument};
 
 use crate::argument::{Argument, arguments_of, parameters_of};
 use name_numbers::Numbering;
 use p4x_bits::OutOfMemory;
-use p414_ast::{Action, Call, Decl};
+use p414_syntax::{Action, Call, Decl};
 use std::alloc::Global;
 use std::marker::Model;
 
@@ -19,7 +19,7 @@ pub struct Invocation<'a> {
 
 impl<'a> Model for Invocation<'a> {
     ghost use Rattle.std.specs.Prelude.{map};
-    ghost use Rattle.p414_rules.specs.Arguments.{Invocation as Called};
+    ghost use Rattle.p414_syntax.specs.Arguments.{Invocation as Called};
     ghost use Rattle.p414_calls.specs.Shown.{shown_argument};
 
     ghost Value = { Called };
@@ -51,7 +51,7 @@ pub struct ActionCalls<'a> {
 
 impl<'a> Model for ActionCalls<'a> {
     ghost use Rattle.std.specs.Prelude.{List};
-    ghost use Rattle.p414_rules.specs.Arguments.{Invocation as Called};
+    ghost use Rattle.p414_syntax.specs.Arguments.{Invocation as Called};
 
     ghost Value = { List Called };
 

@@ -4,11 +4,11 @@ use Rattle.std.specs.Global.{Vec}
 use Rattle.std.specs.Prelude.{IfOk, IsTrue}
 use Rattle.std.proofs.lemmas.List.{length-map}
 use Rattle.digraph.specs.Expansions.{AreSizes, HasCycle}
-use Rattle.p414_ast.specs.declared.syntax.Decl.{Decl}
-use Rattle.p414_rules.specs.ControlExpansion.{controls, calls_in}
-use Rattle.p414_rules.specs.Controls.{HasBadControl}
-use Rattle.p414_rules.specs.Exact.{IsExact}
-use Rattle.p414_rules.specs.Unknown.{has_unknown_name}
+use Rattle.p414_syntax.specs.declared.syntax.Decl.{Decl}
+use Rattle.p414_syntax.specs.ControlExpansion.{controls, calls_in}
+use Rattle.p414_syntax.specs.Controls.{HasBadControl}
+use Rattle.p414_syntax.specs.Exact.{IsExact}
+use Rattle.p414_syntax.specs.Unknown.{has_unknown_name}
 use Rattle.p414_control_check.specs.internal.Expanded.{control_graph, capped_count, own_counts, pipelines_size}
 use Rattle.p414_control_check.proofs.Declared.{all_there}
 use Rattle.p414_control_check.proofs.Sized.{bad_is}

@@ -12,13 +12,13 @@ use Rattle.digraph.specs.Graphs.{Among, IsEdge, IsClosed, OnCycle}
 use Rattle.digraph.specs.Components.{Condensation, AreComponents}
 use Rattle.digraph.proofs.Listing.{among_append}
 use Rattle.digraph.proofs.Sizing.{comes_before}
-use Rattle.p414_ast.specs.declared.syntax.Decl.{Decl}
-use Rattle.p414_ast.specs.Tree.{Stmt, no_statements, then, apply, apply_branches, if_then, call, no_else, else_block, else_if, no_branches, branch}
-use Rattle.p414_ast.specs.Subtrees.{subtrees}
-use Rattle.p414_ast.specs.Views.{ControlTree}
-use Rattle.p414_rules.specs.Names.{Name}
-use Rattle.p414_rules.specs.ControlExpansion.{controls, control_number, control_of, own_call, calls_in, StatementExpands, NoStatements, Then, Apply, ApplyBranches, If, Call, NoElse, ElseBlock, ElseIf, NoBranches, Branch}
-use Rattle.p414_rules.specs.Nesting.{nesting, NestsTooDeep}
+use Rattle.p414_syntax.specs.declared.syntax.Decl.{Decl}
+use Rattle.p414_syntax.specs.Tree.{Stmt, no_statements, then, apply, apply_branches, if_then, call, no_else, else_block, else_if, no_branches, branch}
+use Rattle.p414_syntax.specs.Subtrees.{subtrees}
+use Rattle.p414_syntax.specs.Views.{ControlTree}
+use Rattle.p414_syntax.specs.Names.{Name}
+use Rattle.p414_syntax.specs.ControlExpansion.{controls, control_number, control_of, own_call, calls_in, StatementExpands, NoStatements, Then, Apply, ApplyBranches, If, Call, NoElse, ElseBlock, ElseIf, NoBranches, Branch}
+use Rattle.p414_syntax.specs.Nesting.{nesting, NestsTooDeep}
 use Rattle.p414_control_check.specs.internal.Expanded.{control_graph}
 use Rattle.p414_control_check.specs.internal.Depths.{depth_of_call, depth_within, SomeStatement, IsDeep, AreDepths, own_depth, levels_within, deepest}
 use Rattle.p414_control_check.specs.declared.depth.Level.{Level}

@@ -6,13 +6,13 @@ use Rattle.std.specs.List.{cons_option}
 use Rattle.std.proofs.lemmas.List.{length-map}
 use Rattle.digraph.specs.Graphs.{Among, successors, IsEdge, WalkTo, Edge, Onward, OnCycle, IsClosed}
 use Rattle.digraph.specs.Expansions.{HasCycle}
-use Rattle.p414_ast.specs.declared.syntax.Decl.{Decl}
-use Rattle.p414_ast.specs.Subtrees.{subtrees}
-use Rattle.p414_ast.specs.Views.{ControlTree}
-use Rattle.p414_rules.specs.Names.{Name}
-use Rattle.p414_rules.specs.Walks.{IsWalk}
-use Rattle.p414_rules.specs.Controls.{ControlCallsItself}
-use Rattle.p414_rules.specs.ControlExpansion.{controls, control_number, own_call, calls_in, controls_called_by}
+use Rattle.p414_syntax.specs.declared.syntax.Decl.{Decl}
+use Rattle.p414_syntax.specs.Subtrees.{subtrees}
+use Rattle.p414_syntax.specs.Views.{ControlTree}
+use Rattle.p414_syntax.specs.Names.{Name}
+use Rattle.p414_syntax.specs.Walks.{IsWalk}
+use Rattle.p414_syntax.specs.Controls.{ControlCallsItself}
+use Rattle.p414_syntax.specs.ControlExpansion.{controls, control_number, own_call, calls_in, controls_called_by}
 use Rattle.p414_control_check.specs.internal.Expanded.{control_graph}
 use Rattle.p414_control_check.proofs.Expanding.{named_within}
 

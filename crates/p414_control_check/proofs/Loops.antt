@@ -4,11 +4,11 @@ use Rattle.std.specs.Prelude.{filter_map, flat_map, count_by}
 use Rattle.std.specs.List.{cons_option}
 use Rattle.std.proofs.lemmas.List.Sums.{sum_by-cons, sum_by-drop_more}
 use Rattle.digraph.specs.Graphs.{with_edge}
-use Rattle.p414_ast.specs.declared.syntax.Decl.{Decl}
-use Rattle.p414_ast.specs.Tree.{Expr, Stmt}
-use Rattle.p414_ast.specs.Views.{ControlTree}
-use Rattle.p414_rules.specs.ControlExpansion.{controls, control_in, control_number, own_call}
-use Rattle.p414_rules.specs.Controls.{is_operand}
+use Rattle.p414_syntax.specs.declared.syntax.Decl.{Decl}
+use Rattle.p414_syntax.specs.Tree.{Expr, Stmt}
+use Rattle.p414_syntax.specs.Views.{ControlTree}
+use Rattle.p414_syntax.specs.ControlExpansion.{controls, control_in, control_number, own_call}
+use Rattle.p414_syntax.specs.Controls.{is_operand}
 use Rattle.p414_control_check.specs.Edges.{with_edges}
 use Rattle.p414_control_check.proofs.Expanding.{filter_append}
 

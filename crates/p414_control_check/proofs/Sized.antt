@@ -8,13 +8,13 @@ use Rattle.std.proofs.lemmas.List.Sums.{sum_by-cons}
 use Rattle.digraph.specs.Graphs.{Among, successors}
 use Rattle.digraph.specs.Expansions as calls
 use Rattle.digraph.specs.Expansions.{AreSizes, HasCycle, size_of}
-use Rattle.p414_ast.specs.declared.syntax.Decl.{Decl}
-use Rattle.p414_ast.specs.Tree.{Stmt, no_statements}
-use Rattle.p414_ast.specs.Subtrees.{subtrees}
-use Rattle.p414_ast.specs.Views.{ControlTree}
-use Rattle.p414_rules.specs.Names.{Name}
-use Rattle.p414_rules.specs.ControlExpansion.{controls, control_number, control_of, calls_in, StatementExpands, PipelineExpands, ingress, egress}
-use Rattle.p414_rules.specs.Controls.{statement_count, PipelinesTooLong, HasBadControl}
+use Rattle.p414_syntax.specs.declared.syntax.Decl.{Decl}
+use Rattle.p414_syntax.specs.Tree.{Stmt, no_statements}
+use Rattle.p414_syntax.specs.Subtrees.{subtrees}
+use Rattle.p414_syntax.specs.Views.{ControlTree}
+use Rattle.p414_syntax.specs.Names.{Name}
+use Rattle.p414_syntax.specs.ControlExpansion.{controls, control_number, control_of, calls_in, StatementExpands, PipelineExpands, ingress, egress}
+use Rattle.p414_syntax.specs.Controls.{statement_count, PipelinesTooLong, HasBadControl}
 use Rattle.p414_control_check.specs.internal.Expanded.{control_graph, capped_count, own_counts, pipeline_size, pipelines_size}
 use Rattle.p414_control_check.proofs.Expanding.{count_in, count_of, row_count, comes, at_row, get_within, there_within, number_of_control, named_within, AllAreThere, nodes_expand, some_statement}
 use Rattle.p414_control_check.specs.internal.Depths.{SomeStatement}

@@ -6,10 +6,10 @@ use Rattle.std.proofs.lemmas.List.{length-map}
 use Rattle.digraph.specs.Graphs.{Among}
 use Rattle.digraph.specs.Components.{Condensation, AreComponents}
 use Rattle.digraph.proofs.Members.{among_place}
-use Rattle.p414_ast.specs.declared.syntax.Decl.{Decl}
-use Rattle.p414_rules.specs.ControlExpansion.{controls, calls_in}
-use Rattle.p414_rules.specs.Controls.{ControlCallsItself}
-use Rattle.p414_rules.specs.Unknown.{has_unknown_name}
+use Rattle.p414_syntax.specs.declared.syntax.Decl.{Decl}
+use Rattle.p414_syntax.specs.ControlExpansion.{controls, calls_in}
+use Rattle.p414_syntax.specs.Controls.{ControlCallsItself}
+use Rattle.p414_syntax.specs.Unknown.{has_unknown_name}
 use Rattle.p414_control_check.specs.internal.Expanded.{control_graph}
 use Rattle.p414_control_check.specs.internal.Depths.{depth_in, depth_at, depth_within, IsDeep, AreDepths}
 use Rattle.p414_control_check.proofs.Expanding.{get_within}

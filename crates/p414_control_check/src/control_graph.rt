@@ -1,14 +1,14 @@
 // The controls of a program as a graph.
 ghost use Rattle.std.specs.Prelude.{◌≡◌, ◌++◌, ◌∷◌, [], map, filter_map, flat_map, option_to_list, IfOk, OnOk};
 ghost use Rattle.std.specs.List.{cons_option};
-ghost use Rattle.p414_rules.specs.ControlExpansion.{calls_in, control_in, control_number, own_call};
+ghost use Rattle.p414_syntax.specs.ControlExpansion.{calls_in, control_in, control_number, own_call};
 ghost use Rattle.p414_control_check.specs.Edges.{with_edges};
 ghost use Rattle.p414_control_check.specs.internal.Expanded.{control_graph};
 
 use crate::controls::Controls;
 use digraph::Digraph;
 use p4x_bits::OutOfMemory;
-use p414_ast::{Control, Decl, StmtHead, StmtView, all_statements};
+use p414_syntax::{Control, Decl, StmtHead, StmtView, all_statements};
 use std::alloc::Global;
 
 /// Adds the edge to a control, if there is one.

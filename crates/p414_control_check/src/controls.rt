@@ -1,28 +1,37 @@
 // The controls of a program and their numbers.
 ghost use Rattle.std.specs.Prelude.{◌≡◌, length, map, slice_get, option_copied, IfOk};
-ghost use Rattle.p414_rules.specs.ControlExpansion.{controls, control_name, control_number};
+ghost use Rattle.p414_syntax.specs.ControlExpansion.{controls, control_name, control_number};
 
 use name_numbers::{Numbering, number_names};
 use p4x_bits::OutOfMemory;
-use p414_ast::{Control, Decl, References};
 use p414_names::Names14;
+use p414_syntax::{Control, Decl, References};
 use std::alloc::Global;
 use std::marker::Model;
 
 /// The controls of a program, each found by its number and its name. Contracts see the declarations of the program.
-#[derive(Drop)]
 pub struct Controls<'n, 'a> {
     names: &'n Names14<'a>,
     declared: References<'a, Control>,
     numbers: Numbering<'a>,
 }
 
+impl Drop for Controls<'_, '_> {
+    fn drop(self) {
+        let Controls {
+            names: _names,
+            declared: _declared,
+            numbers: _numbers,
+        } = self;
+    }
+}
+
 impl<'n, 'a> Model for Controls<'n, 'a> {
     ghost use Rattle.std.specs.Prelude.{◌≡◌, List, map};
     ghost use Rattle.std.specs.Coded.{codes};
-    ghost use Rattle.p414_ast.specs.contracts.syntax.Decl as declaration;
-    ghost use Rattle.p414_ast.specs.declared.syntax.Decl.{Decl};
-    ghost use Rattle.p414_rules.specs.ControlExpansion as expansion;
+    ghost use Rattle.p414_syntax.specs.contracts.syntax.Decl as declaration;
+    ghost use Rattle.p414_syntax.specs.declared.syntax.Decl.{Decl};
+    ghost use Rattle.p414_syntax.specs.ControlExpansion as expansion;
 
     ghost Value = { List Decl };
 

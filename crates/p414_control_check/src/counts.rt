@@ -1,12 +1,12 @@
 // C16: what the statements of a control count.
 ghost use Rattle.std.specs.Prelude.{◌≡◌, ◌+◌, ◌≤◌, ◌++◌, cond, map, min, nat_lt, sum_by, count_by, option_to_list, IfOk, OnOk};
-ghost use Rattle.p414_rules.specs.Controls.{is_operand, operand_count, own_count};
-ghost use Rattle.p414_rules.specs.ControlExpansion.{control_in};
+ghost use Rattle.p414_syntax.specs.Controls.{is_operand, operand_count, own_count};
+ghost use Rattle.p414_syntax.specs.ControlExpansion.{control_in};
 ghost use Rattle.p414_control_check.specs.internal.Expanded.{capped_count, own_counts};
 
 use crate::controls::Controls;
 use p4x_bits::OutOfMemory;
-use p414_ast::{
+use p414_syntax::{
     Control, Decl, ExprHead, ExprView, StmtHead, StmtView, all_expressions, all_statements,
 };
 use std::alloc::Global;

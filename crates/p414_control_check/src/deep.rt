@@ -2,10 +2,10 @@
 ghost use Rattle.std.specs.Prelude.{◌≡◌, nat_lt, IfOk, IsTrue};
 ghost use Rattle.std.specs.List.{list_any};
 ghost use Rattle.digraph.specs.Components.{AreComponents};
-ghost use Rattle.p414_rules.specs.Controls.{ControlCallsItself};
-ghost use Rattle.p414_rules.specs.Exact.{IsExact};
-ghost use Rattle.p414_rules.specs.Nesting.{NestsTooDeep};
-ghost use Rattle.p414_rules.specs.Unknown.{has_unknown_name};
+ghost use Rattle.p414_syntax.specs.Controls.{ControlCallsItself};
+ghost use Rattle.p414_syntax.specs.Exact.{IsExact};
+ghost use Rattle.p414_syntax.specs.Nesting.{NestsTooDeep};
+ghost use Rattle.p414_syntax.specs.Unknown.{has_unknown_name};
 ghost use Rattle.p414_control_check.specs.internal.Depths.{AreDepths};
 ghost use Rattle.p414_control_check.specs.internal.Expanded.{control_graph};
 

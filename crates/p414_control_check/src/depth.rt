@@ -1,12 +1,12 @@
 // C28: how deep blocks nest within a statement that is expanded, where it is known of the controls that it calls.
 ghost use Rattle.std.specs.Prelude.{◌≡◌, ◌+◌, ◌∷◌, ◌++◌, max, min, slice_index, IfOk, OnOk};
-ghost use Rattle.p414_ast.specs.Heads.{of_head};
+ghost use Rattle.p414_syntax.specs.Heads.{of_head};
 ghost use Rattle.p414_control_check.specs.internal.Depths.{deeper, deepest, depth_at, depth_of_call, depth_within, level, levels_within, own_depth};
 
 use crate::controls::Controls;
 use crate::stack::Stack;
 use p4x_bits::OutOfMemory;
-use p414_ast::{StmtHead, StmtView};
+use p414_syntax::{StmtHead, StmtView};
 use std::alloc::Global;
 
 /// Depths stay at this number, which is over the limit.

@@ -2,9 +2,9 @@
 ghost use Rattle.std.specs.Prelude.{◌≡◌, ◌+◌, nat_lt, slice_index, IfOk, IsTrue, MatchOption};
 ghost use Rattle.digraph.specs.Components.{AreComponents};
 ghost use Rattle.digraph.specs.Expansions.{AreSizes, HasCycle};
-ghost use Rattle.p414_rules.specs.Controls.{HasBadControl};
-ghost use Rattle.p414_rules.specs.Exact.{IsExact};
-ghost use Rattle.p414_rules.specs.Unknown.{has_unknown_name};
+ghost use Rattle.p414_syntax.specs.Controls.{HasBadControl};
+ghost use Rattle.p414_syntax.specs.Exact.{IsExact};
+ghost use Rattle.p414_syntax.specs.Unknown.{has_unknown_name};
 ghost use Rattle.p414_control_check.specs.internal.Expanded.{control_graph, own_counts, pipeline_size, pipelines_size};
 
 use crate::control_graph::control_graph;

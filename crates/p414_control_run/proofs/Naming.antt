@@ -7,14 +7,14 @@ use Rattle.std.proofs.lemmas.Bool.Decides.{Decides-eqb}
 use Rattle.std.proofs.lemmas.List.Folds.{list_any-append}
 use Rattle.std.proofs.lemmas.List.Quantifiers.{position-Some}
 use Rattle.std.proofs.lemmas.Slice.Eq.{bytes_eq-Decides}
-use Rattle.p414_ast.specs.declared.node.Label.{Label}
-use Rattle.p414_ast.specs.declared.node.Label.TheVariants as label
-use Rattle.p414_ast.specs.declared.syntax.Decl.{Decl}
-use Rattle.p414_ast.specs.declared.syntax.Sort.TheVariants as sort
-use Rattle.p414_ast.specs.Tree.{Stmt}
-use Rattle.p414_rules.specs.Names.{Name, names_in}
-use Rattle.p414_rules.specs.Arguments.{action_number}
-use Rattle.p414_rules.specs.ControlExpansion.{StatementExpands, NoStatements, Then, Apply, ApplyBranches, If, Call, NoElse, ElseBlock, ElseIf, NoBranches, Branch}
+use Rattle.p414_syntax.specs.declared.node.Label.{Label}
+use Rattle.p414_syntax.specs.declared.node.Label.TheVariants as label
+use Rattle.p414_syntax.specs.declared.syntax.Decl.{Decl}
+use Rattle.p414_syntax.specs.declared.syntax.Sort.TheVariants as sort
+use Rattle.p414_syntax.specs.Tree.{Stmt}
+use Rattle.p414_syntax.specs.Names.{Name, names_in}
+use Rattle.p414_syntax.specs.Arguments.{action_number}
+use Rattle.p414_syntax.specs.ControlExpansion.{StatementExpands, NoStatements, Then, Apply, ApplyBranches, If, Call, NoElse, ElseBlock, ElseIf, NoBranches, Branch}
 use Rattle.p414_sem.specs.Controls.{Applied, names_action, has_block_of, runs_block}
 use Rattle.p414_ready_controls.specs.Nodes.{kept_label, named_by, with_named, named_in}
 use Rattle.p414_control_run.specs.declared.taken.Taken.{Taken}

@@ -5,10 +5,10 @@ use Rattle.std.specs.Str.{bytes_eq}
 use Rattle.std.proofs.lemmas.List.Quantifiers.{position-Some}
 use Rattle.std.proofs.lemmas.List.{drop_all, length-map}
 use Rattle.state_store.specs.State.{Contents}
-use Rattle.p414_ast.specs.Tree.{Stmt, no_statements}
-use Rattle.p414_ast.specs.Views.{ControlTree}
-use Rattle.p414_rules.specs.Names.{Name}
-use Rattle.p414_rules.specs.ControlExpansion.{PipelineExpands, StatementExpands, control_name, control_number, controls}
+use Rattle.p414_syntax.specs.Tree.{Stmt, no_statements}
+use Rattle.p414_syntax.specs.Views.{ControlTree}
+use Rattle.p414_syntax.specs.Names.{Name}
+use Rattle.p414_syntax.specs.ControlExpansion.{PipelineExpands, StatementExpands, control_name, control_number, controls}
 use Rattle.p414_sem.specs.Conditions.{holds}
 use Rattle.p414_sem.specs.Expanded.{Expanded, IsExpanded}
 use Rattle.p414_sem.specs.Effects.{Moment}

@@ -1,7 +1,7 @@
 -- Which of the branches behind an application runs (P4_14 1.0.5, "Packet Processing and Control Flow"), with actions by number.
 use Rattle.std.specs.Prelude.{◌≡◌, ℕ, Bool, false, not, ◌==◌, List, Option, Some, None}
 use Rattle.std.specs.List.{list_any}
-use Rattle.p414_ast.specs.declared.syntax.Decl.{Decl}
+use Rattle.p414_syntax.specs.declared.syntax.Decl.{Decl}
 use Rattle.p414_sem.specs.Controls.{Applied}
 use Rattle.p414_ready_controls.specs.declared.nodes.ReadyLabel.{ReadyLabel}
 use Rattle.p414_ready_controls.specs.declared.nodes.ReadyLabel.TheVariants as label

@@ -1,11 +1,11 @@
 -- What is still to be run of a control (P4_14 1.0.5, "Packet Processing and Control Flow"), the first in front: nodes of statements, of
 -- which more may follow that are none of theirs, and what was taken where they are branches.
 use Rattle.std.specs.Prelude.{◌≡◌, ℕ, Bool, if◌then◌else◌, List, [], ◌∷◌, ◌++◌, drop, slice_index_or, Option, Some, None}
-use Rattle.p414_ast.specs.declared.node.Label.{Label}
-use Rattle.p414_ast.specs.declared.syntax.Decl.{Decl}
-use Rattle.p414_ast.specs.Tree.{Expr, Stmt}
-use Rattle.p414_rules.specs.Names.{Name}
-use Rattle.p414_rules.specs.ControlExpansion.{StatementExpands}
+use Rattle.p414_syntax.specs.declared.node.Label.{Label}
+use Rattle.p414_syntax.specs.declared.syntax.Decl.{Decl}
+use Rattle.p414_syntax.specs.Tree.{Expr, Stmt}
+use Rattle.p414_syntax.specs.Names.{Name}
+use Rattle.p414_syntax.specs.ControlExpansion.{StatementExpands}
 use Rattle.p414_sem.specs.Conditions.{holds}
 use Rattle.p414_sem.specs.Effects.{Moment}
 use Rattle.p414_sem.specs.Controls.{Setting, Applied, applied, run}

@@ -2,7 +2,7 @@
 -- and the shapes of the store stay, and what is left leads on to where all led to.
 use Rattle.std.specs.Prelude.{◌≡◌, ℕ, List, Option}
 use Rattle.state_store.specs.State.{Contents}
-use Rattle.p414_rules.specs.Names.{Name}
+use Rattle.p414_syntax.specs.Names.{Name}
 use Rattle.p414_sem.specs.Controls.{applied}
 use Rattle.p414_sem.specs.Effects.{Moment}
 use Rattle.p414_sem.specs.Expanded.{Expanded, IsExpanded}

@@ -1,16 +1,16 @@
 // The controls of a program.
 ghost use Rattle.std.specs.Prelude.{◌≡◌, slice_index_or, [], IfOk};
-ghost use Rattle.p414_rules.specs.ControlExpansion.{control_number};
+ghost use Rattle.p414_syntax.specs.ControlExpansion.{control_number};
 ghost use Rattle.p414_sem.specs.Signatures.{signature14};
 ghost use Rattle.p414_control_run.specs.internal.Bodies.{AreBodies};
 
 use match_core::Signature;
 use name_numbers::narrow;
 use p4x_bits::OutOfMemory;
-use p414_ast::Decl;
 use p414_control_check::Controls;
 use p414_names::names_of;
 use p414_ready_controls::{ReadyControls, ready_controls};
+use p414_syntax::Decl;
 use std::alloc::Global;
 
 const INGRESS: &[u8] = b"ingress";

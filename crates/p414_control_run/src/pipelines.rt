@@ -14,25 +14,33 @@ use crate::bodies::{Bodies, bodies_of};
 use crate::work::ControlStack;
 use match_core::{Entries, Signature};
 use p4x_bits::OutOfMemory;
-use p414_ast::Rule14;
 use p414_body_check::Program14;
 use p414_ready_tables::{ReadyTables, ready_tables};
 use p414_state::State14;
+use p414_syntax::Rule14;
 use state_store::Store;
 use std::alloc::Global;
 use std::marker::Model;
 
 /// The pipelines of a program, ready to run on its packets: its controls, its tables filled with entries, and its actions under a
 /// rule. Contracts see the declarations of the program, the rule and the entries.
-#[derive(Drop)]
 pub struct ReadyPipelines<'e> {
     pub(crate) tables: ReadyTables<'e>,
     pub(crate) bodies: Bodies,
 }
 
+impl Drop for ReadyPipelines<'_> {
+    fn drop(self) {
+        let ReadyPipelines {
+            tables: _tables,
+            bodies: _bodies,
+        } = self;
+    }
+}
+
 impl<'e> Model for ReadyPipelines<'e> {
     ghost use Rattle.std.specs.Coded.{codes};
-    ghost use Rattle.p414_ast.specs.contracts.syntax.Decl as declaration;
+    ghost use Rattle.p414_syntax.specs.contracts.syntax.Decl as declaration;
     ghost use Rattle.p414_ready_tables.specs.Loaded.{Loaded};
     ghost use Rattle.p414_control_run.specs.internal.Bodies.{AreBodies};
 

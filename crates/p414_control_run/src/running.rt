@@ -2,9 +2,9 @@
 ghost use Rattle.std.specs.Prelude.{◌≡◌, [], ◌∷◌, drop, if◌then◌else◌, Some, None, IfOk, OnOk};
 ghost use Rattle.match_core.specs.Stores.{shapes_of};
 ghost use Rattle.p414_layout.specs.Shapes.{layout_of};
-ghost use Rattle.p414_ast.specs.Tree.{Stmt};
-ghost use Rattle.p414_rules.specs.ControlExpansion.{PipelineExpands, control_number};
-ghost use Rattle.p414_rules.specs.Names.{Name};
+ghost use Rattle.p414_syntax.specs.Tree.{Stmt};
+ghost use Rattle.p414_syntax.specs.ControlExpansion.{PipelineExpands, control_number};
+ghost use Rattle.p414_syntax.specs.Names.{Name};
 ghost use Rattle.p414_sem.specs.Expanded.{Expanded, IsExpanded};
 ghost use Rattle.p414_sem.specs.Meanings.{Control14};
 ghost use Rattle.p414_sem.specs.Signatures.{signature14};

@@ -28,10 +28,18 @@ impl<'r> Model for Work<'r> {
 
 /// What a control works on beside its packet: the statements that are still to be run, and the numbers of conditions. Its room stays
 /// from one packet to the next.
-#[derive(Drop)]
 pub struct ControlStack<'r> {
     pub(crate) left: Stack<Work<'r>>,
     pub(crate) numbers: NumberStack,
+}
+
+impl Drop for ControlStack<'_> {
+    fn drop(self) {
+        let ControlStack {
+            left: _left,
+            numbers: _numbers,
+        } = self;
+    }
 }
 
 impl<'r> ControlStack<'r> {

@@ -1,21 +1,21 @@
 -- From the first rule that a test finds broken to what is said of a program.
 use Rattle.std.proofs.Common.{◌≡◌, inl, inr, Bool, true, false, cond, MatchBool, List, [], ◌∷◌, ◌++◌, Option, Some, None, MatchOption, Result, Ok, Err, refl, sym, ap, subst, ◌∙◌}
-use Rattle.p414_ast.specs.declared.syntax.Decl.{Decl}
-use Rattle.p414_ast.specs.declared.syntax.Syntax14.{Syntax14}
-use Rattle.p414_rules.specs.declared.rule.ProgramRule.{ProgramRule}
-use Rattle.p414_rules.specs.declared.rule.ProgramRule.TheVariants.{C1, C8}
-use Rattle.p414_rules.specs.Twice.{declares_twice}
-use Rattle.p414_rules.specs.Unknown.{has_unknown_name}
-use Rattle.p414_rules.specs.Widths.{has_bad_width, has_bad_layout}
-use Rattle.p414_rules.specs.Stacks.{has_bad_stack}
-use Rattle.p414_rules.specs.Selects.{has_bad_select}
-use Rattle.p414_rules.specs.Totals.{has_too_much}
-use Rattle.p414_rules.specs.Lists.{HasBadList}
-use Rattle.p414_rules.specs.Breaks.{IsBroken, IsFirstBroken, BreaksNone, Breaks14, declaration_rules, body_rules, rule_fault}
+use Rattle.p414_syntax.specs.declared.syntax.Decl.{Decl}
+use Rattle.p414_syntax.specs.declared.syntax.Syntax14.{Syntax14}
+use Rattle.p414_syntax.specs.declared.rule.ProgramRule.{ProgramRule}
+use Rattle.p414_syntax.specs.declared.rule.ProgramRule.TheVariants.{C1, C8}
+use Rattle.p414_syntax.specs.Twice.{declares_twice}
+use Rattle.p414_syntax.specs.Unknown.{has_unknown_name}
+use Rattle.p414_syntax.specs.Widths.{has_bad_width, has_bad_layout}
+use Rattle.p414_syntax.specs.Stacks.{has_bad_stack}
+use Rattle.p414_syntax.specs.Selects.{has_bad_select}
+use Rattle.p414_syntax.specs.Totals.{has_too_much}
+use Rattle.p414_syntax.specs.Lists.{HasBadList}
+use Rattle.p414_syntax.specs.Breaks.{IsBroken, IsFirstBroken, BreaksNone, Breaks14, declaration_rules, body_rules, rule_fault}
 use Rattle.p414_decl_check.specs.declared.fault.DeclFault.{DeclFault}
 use Rattle.p414_decl_check.specs.declared.fault.DeclFault.TheVariants.{Memory, Refused}
 use Rattle.p414_decl_check.specs.Answers.{flat_rules, Blames, IsAnswer, BlamesLeast}
-use Rattle.p414_rules.specs.Exact.{IsExact}
+use Rattle.p414_syntax.specs.Exact.{IsExact}
 use Rattle.p414_decl_check.specs.internal.Judged.{is_flat_broken, first_broken, behind_c1}
 
 -- a rule is broken exactly where its test says so

@@ -1,11 +1,11 @@
 -- What a check of declarations answers.
 use Rattle.std.specs.Prelude.{◌≡◌, List, [], ◌∷◌, Result, Ok, Err}
 use Rattle.p4x_fault.specs.declared.Fault.{Fault}
-use Rattle.p414_ast.specs.declared.syntax.Decl.{Decl}
-use Rattle.p414_ast.specs.declared.syntax.Syntax14.{Syntax14}
-use Rattle.p414_rules.specs.declared.rule.ProgramRule.{ProgramRule}
-use Rattle.p414_rules.specs.declared.rule.ProgramRule.TheVariants.{C1, C2, C3, C4, C5, C6, C7}
-use Rattle.p414_rules.specs.Breaks.{IsFirstBroken, BreaksNone, Breaks14, rule_fault}
+use Rattle.p414_syntax.specs.declared.syntax.Decl.{Decl}
+use Rattle.p414_syntax.specs.declared.syntax.Syntax14.{Syntax14}
+use Rattle.p414_syntax.specs.declared.rule.ProgramRule.{ProgramRule}
+use Rattle.p414_syntax.specs.declared.rule.ProgramRule.TheVariants.{C1, C2, C3, C4, C5, C6, C7}
+use Rattle.p414_syntax.specs.Breaks.{IsFirstBroken, BreaksNone, Breaks14, rule_fault}
 use Rattle.p414_decl_check.specs.declared.fault.DeclFault.{DeclFault}
 use Rattle.p414_decl_check.specs.declared.fault.DeclFault.TheVariants.{Memory, Refused}
 

@@ -1,10 +1,10 @@
 // C5: how far `current` looks ahead.
 ghost use Rattle.std.specs.Prelude.{◌≡◌};
 ghost use Rattle.std.specs.List.{list_any};
-ghost use Rattle.p414_rules.specs.Widths.{looks_too_far, statement_looks_too_far, return_looks_too_far, state_looks_too_far};
+ghost use Rattle.p414_syntax.specs.Widths.{looks_too_far, statement_looks_too_far, return_looks_too_far, state_looks_too_far};
 ghost use Rattle.p414_decl_check.specs.internal.Parts.{is_too_far};
 
-use p414_ast::{Decl, Literal, PStmt, PValue, Return};
+use p414_syntax::{Decl, Literal, PStmt, PValue, Return};
 
 /// Whether `current` with this offset and width takes no bits, or goes past the 128th.
 fn is_too_far(offset: Literal, bits: Literal) -> bool

@@ -1,13 +1,12 @@
 // The check of all declarations of a program.
-ghost use Rattle.p414_rules.specs.Breaks.{BreaksNone, declaration_rules};
+ghost use Rattle.p414_syntax.specs.Breaks.{BreaksNone, declaration_rules};
 ghost use Rattle.p414_decl_check.specs.Answers.{IsAnswer, BlamesLeast, flat_rules};
 
 use crate::fault::{DeclFault, refusal};
 use crate::flat::flat_names;
-use p414_ast::{Decl, Syntax14};
 use p414_list_check::has_bad_list;
 use p414_names::Names14;
-use p414_rules::ProgramRule;
+use p414_syntax::{Decl, ProgramRule, Syntax14};
 use std::alloc::Global;
 
 /// The names, if their declarations break C8 neither.

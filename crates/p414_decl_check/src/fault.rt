@@ -1,11 +1,11 @@
 // Why declarations aren't taken.
 ghost use Rattle.std.specs.Prelude.{◌≡◌};
-ghost use Rattle.p414_rules.specs.Breaks.{rule_fault};
+ghost use Rattle.p414_syntax.specs.Breaks.{rule_fault};
 ghost use Rattle.p414_decl_check.specs.declared.fault.DeclFault.TheVariants.{Memory, Refused};
 
 use p4x_bits::OutOfMemory;
 use p4x_fault::Fault;
-use p414_rules::ProgramRule;
+use p414_syntax::ProgramRule;
 use thiserror::Error;
 
 /// Why the declarations of a program aren't taken.

@@ -11,9 +11,8 @@ use crate::totals::{has_bad_layout, has_too_much};
 use crate::unknown::has_unknown_name;
 use crate::widths::has_bad_width;
 use p4x_bits::OutOfMemory;
-use p414_ast::Decl;
 use p414_names::{Names14, names_of};
-use p414_rules::ProgramRule;
+use p414_syntax::{Decl, ProgramRule};
 use p414_uses::{Use, uses_of};
 use std::alloc::Global;
 

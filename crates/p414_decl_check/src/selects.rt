@@ -1,12 +1,12 @@
 // C6: `latest` and selects.
 ghost use Rattle.std.specs.Prelude.{◌≡◌, map, sum_by, nat_lt, option_copied};
 ghost use Rattle.std.specs.List.{list_any};
-ghost use Rattle.p414_rules.specs.Selects.{is_early, latest_bits, value_bits, joins_too_much, state_joins_too_much, has_bad_select};
+ghost use Rattle.p414_syntax.specs.Selects.{is_early, latest_bits, value_bits, joins_too_much, state_joins_too_much, has_bad_select};
 ghost use Rattle.p414_uses.specs.Shown.{shown_use};
 ghost use Rattle.p414_uses.specs.internal.Collected.{AreUses};
 
-use p414_ast::{Decl, Inst, PValue, Return};
 use p414_names::Names14;
+use p414_syntax::{Decl, Inst, PValue, Return};
 use p414_uses::{Use, last_extracted};
 
 /// How many bits a select joins at most.

@@ -1,12 +1,12 @@
 // C4: sizes of header stacks, and indices.
 ghost use Rattle.std.specs.Prelude.{◌≡◌, map};
 ghost use Rattle.std.specs.List.{list_any};
-ghost use Rattle.p414_rules.specs.Stacks.{is_bad_size, declares_bad_size, is_bad_index, is_bad_extract, is_bad_instance, is_bad_extracted, is_misplaced, has_bad_stack};
+ghost use Rattle.p414_syntax.specs.Stacks.{is_bad_size, declares_bad_size, is_bad_index, is_bad_extract, is_bad_instance, is_bad_extracted, is_misplaced, has_bad_stack};
 ghost use Rattle.p414_uses.specs.Shown.{shown_use};
 ghost use Rattle.p414_uses.specs.internal.Collected.{AreUses};
 
-use p414_ast::{Decl, Index, Inst, Literal};
 use p414_names::{Names14, size_in};
+use p414_syntax::{Decl, Index, Inst, Literal};
 use p414_uses::Use;
 
 /// Whether a size of a stack is outside 1 to 256.

@@ -1,13 +1,13 @@
 // C5: header types of whole octets. C7: how many fields and bits there are.
 ghost use Rattle.std.specs.Prelude.{◌≡◌, ◌*◌, sum_by, nat_lt, option_copied, length};
 ghost use Rattle.std.specs.List.{list_any};
-ghost use Rattle.p414_rules.specs.Widths.{is_unaligned_header, has_bad_layout};
-ghost use Rattle.p414_rules.specs.Totals.{elements_of, fields_of_type, bits_of_type, instance_fields, header_bits, has_too_much};
+ghost use Rattle.p414_syntax.specs.Widths.{is_unaligned_header, has_bad_layout};
+ghost use Rattle.p414_syntax.specs.Totals.{elements_of, fields_of_type, bits_of_type, instance_fields, header_bits, has_too_much};
 ghost use Rattle.p414_names.specs.internal.Types.{IsUpTo};
 
 use crate::currents::some_state_looks_too_far;
-use p414_ast::{Decl, Literal};
 use p414_names::{MOST_HEADER_BITS, Names14};
+use p414_syntax::{Decl, Literal};
 
 /// How many fields all instances have at most.
 const MOST_FIELDS: u128 = 65_536;

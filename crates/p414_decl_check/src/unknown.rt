@@ -1,14 +1,14 @@
 // C2: a name is used that its sort or type doesn't have.
 ghost use Rattle.std.specs.Prelude.{◌≡◌, map, option_copied};
 ghost use Rattle.std.specs.List.{list_any};
-ghost use Rattle.p414_rules.specs.Names.{is_state, is_control};
-ghost use Rattle.p414_rules.specs.Unknown.{parse_of, is_next_state, is_list_item, is_unknown, lacks_start, lacks_ingress, has_unknown_name};
+ghost use Rattle.p414_syntax.specs.Names.{is_state, is_control};
+ghost use Rattle.p414_syntax.specs.Unknown.{parse_of, is_next_state, is_list_item, is_unknown, lacks_start, lacks_ingress, has_unknown_name};
 ghost use Rattle.p414_uses.specs.Shown.{shown_use};
 ghost use Rattle.p414_uses.specs.internal.Collected.{AreUses};
 ghost use Rattle.p414_decl_check.specs.internal.Parts.{lacks_field};
 
-use p414_ast::{Decl, Inst, Sort};
 use p414_names::{Names14, is_any_primitive};
+use p414_syntax::{Decl, Inst, Sort};
 use p414_uses::Use;
 
 /// Whether a parser state has the name.

@@ -1,10 +1,10 @@
 // C3: widths of fields, registers and calculations.
 ghost use Rattle.std.specs.Prelude.{◌≡◌};
 ghost use Rattle.std.specs.List.{list_any};
-ghost use Rattle.p414_rules.specs.Widths.{is_bad_width, is_bad_field, declares_bad_width, has_bad_width};
+ghost use Rattle.p414_syntax.specs.Widths.{is_bad_width, is_bad_field, declares_bad_width, has_bad_width};
 ghost use Rattle.p414_decl_check.specs.internal.Parts.{is_bad_given};
 
-use p414_ast::{Decl, Field, FieldWidth, Literal};
+use p414_syntax::{Decl, Field, FieldWidth, Literal};
 
 /// Whether a width is outside 1 to 128.
 fn is_bad_width(width: Literal) -> bool

@@ -1,6 +1,6 @@
 // What P4_14 tables, counters, header types and metadata declare: absent, one, and the first of two.
 use p4x_bits::{OutOfMemory, Rows, Text};
-use p414_ast::{
+use p414_syntax::{
     CounterType, ExprNode, Field, FieldWidth, HeaderType, Inst, Literal, Named, Nodes, Read,
     ReadKey, StateAttr, Stateful, Table, TableAttr, TypeTail,
 };

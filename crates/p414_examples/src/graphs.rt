@@ -2,7 +2,7 @@
 ghost use Rattle.parse_graph.specs.Graphs.{IsWhole};
 
 use crate::lines::{are_digits, cut};
-use p414_ast::Syntax14;
+use p414_syntax::Syntax14;
 use parse_graph::{Graph, StateNode, first_idle_cycle, graph};
 use std::alloc::Global;
 

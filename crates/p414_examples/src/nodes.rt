@@ -2,7 +2,7 @@
 ghost use Rattle.std.specs.Prelude.{◌≡◌, ℕ, length, suc, IfOk};
 
 use p4x_bits::{OutOfMemory, Text};
-use p414_ast::{BinaryOperator, Control, ControlParts, ExprNode, Literal, Nodes, StmtNode};
+use p414_syntax::{BinaryOperator, Control, ControlParts, ExprNode, Literal, Nodes, StmtNode};
 use std::alloc::Global;
 
 /// Puts a number, a truth value and their sum.

@@ -1,8 +1,8 @@
 // The numbers of declarations, sort by sort.
 use crate::lines::cut;
-use p414_ast::{Sort, Syntax14};
 use p414_body_check::{Program14, check14};
 use p414_reader::read14;
+use p414_syntax::{Sort, Syntax14};
 use std::alloc::Global;
 
 static SORTS: [Sort; 8] = [

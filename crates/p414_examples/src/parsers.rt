@@ -1,5 +1,4 @@
 // Parsers that are ready to run.
-use p414_ast::{Decl, Syntax14};
 use p414_names::{Names14, names_of};
 use p414_ready_parser::{
     CaseRow, CaseTest, InitialRow, Next, ReadyEnd, ReadyParser, ReadyState, ReadyStatement,
@@ -7,6 +6,7 @@ use p414_ready_parser::{
 };
 use p414_sem::Standard;
 use p414_slots::FieldSlot;
+use p414_syntax::{Decl, Syntax14};
 use std::alloc::Global;
 
 /// Whether the end of a state joins these values and has these rows.

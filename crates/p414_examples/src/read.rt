@@ -4,8 +4,8 @@ use crate::lines::number_of;
 use crate::parsers::has_parser;
 use crate::signatures::has_signature14;
 use crate::walks::{has_walk, is_sorted};
-use p414_ast::{Decl, Literal, Syntax14};
 use p414_reader::read14;
+use p414_syntax::{Decl, Literal, Syntax14};
 use std::alloc::Global;
 
 /// Whether the first declaration is a stack of headers of this size.

@@ -2,12 +2,12 @@
 // the widths of parameters, and what an object counts or keeps are seen where a program runs.
 use crate::lines::{cut, number_of};
 use match_core::{ActionSig, ObjectSig, Signature, TableSig};
-use p414_ast::Syntax14;
 use p414_body_check::{Program14, check14};
 use p414_program_signature::signature14;
-use p416_ast::Syntax16;
+use p414_syntax::Syntax14;
 use p416_reader::read16;
 use p416_signature::signature16;
+use p416_syntax::Syntax16;
 use std::alloc::Global;
 
 /// Whether actions have these names, with a comma behind each.

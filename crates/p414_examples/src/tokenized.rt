@@ -1,7 +1,7 @@
 // The tokens of a text.
 use crate::lines::{cut, number_of};
 use p4x_fault::Place;
-use p414_lexemes::Literal;
+use p414_syntax::Literal;
 use p414_tok::{Token14, TokenKind14, tokens};
 use std::alloc::Global;
 

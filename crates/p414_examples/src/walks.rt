@@ -1,6 +1,6 @@
 // What a walk over a control finds, a letter for each statement or expression, from the outside in; and the declarations of each sort.
 use crate::lines::cut;
-use p414_ast::{
+use p414_syntax::{
     Control, Decl, ExprHead, ExprView, Sorted, StmtHead, StmtView, Syntax14, Table, all_conditions,
     all_expressions, all_statements, sort_declarations,
 };

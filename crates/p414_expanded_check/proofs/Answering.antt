@@ -5,14 +5,14 @@ use Rattle.std.proofs.lemmas.Bool.{cases_lt}
 use Rattle.std.proofs.lemmas.List.{length-map}
 use Rattle.std.proofs.lemmas.Result.{IfOk-weaker}
 use Rattle.digraph.specs.Components.{Condensation, AreComponents}
-use Rattle.p414_ast.specs.declared.syntax.Decl.{Decl}
-use Rattle.p414_rules.specs.declared.place.ArgumentPlace.{ArgumentPlace}
-use Rattle.p414_rules.specs.declared.place.ArgumentPlace.TheVariants as place
-use Rattle.p414_rules.specs.Exact.{IsExact}
-use Rattle.p414_rules.specs.Arguments.{Invocation, invocations_of, actions}
-use Rattle.p414_rules.specs.ActionExpansion.{called_in}
-use Rattle.p414_rules.specs.Actions.{HasBadAction}
-use Rattle.p414_rules.specs.Calls.{ExpandsToWrongCall}
+use Rattle.p414_syntax.specs.declared.syntax.Decl.{Decl}
+use Rattle.p414_syntax.specs.declared.place.ArgumentPlace.{ArgumentPlace}
+use Rattle.p414_syntax.specs.declared.place.ArgumentPlace.TheVariants as place
+use Rattle.p414_syntax.specs.Exact.{IsExact}
+use Rattle.p414_syntax.specs.Arguments.{Invocation, invocations_of, actions}
+use Rattle.p414_syntax.specs.ActionExpansion.{called_in}
+use Rattle.p414_syntax.specs.Actions.{HasBadAction}
+use Rattle.p414_syntax.specs.Calls.{ExpandsToWrongCall}
 use Rattle.p414_list_check.proofs.Sized.{there_within}
 use Rattle.p414_action_check.specs.internal.Counted.{action_graph}
 use Rattle.p414_action_check.specs.internal.Known.{IsKnown}

@@ -6,14 +6,14 @@ use Rattle.std.specs.Option.{option_map_or}
 use Rattle.std.proofs.lemmas.Bool.{ltb-false}
 use Rattle.std.proofs.lemmas.List.{length-map}
 use Rattle.digraph.specs.Graphs.{Among, IsEdge}
-use Rattle.p414_ast.specs.declared.actions.Action.{Action}
-use Rattle.p414_ast.specs.declared.syntax.Decl.{Decl}
-use Rattle.p414_rules.specs.declared.place.ArgumentPlace.{ArgumentPlace}
-use Rattle.p414_rules.specs.Primitives.{primitive_places}
-use Rattle.p414_rules.specs.Twice.{declares_twice}
-use Rattle.p414_rules.specs.Arguments.{Argument, parameter_argument, Invocation, invocations_of, all_invocations, actions, action_number, placed, placed_argument, place_of_parameter, parameter_places}
-use Rattle.p414_rules.specs.ActionExpansion.{callee_number, called_in}
-use Rattle.p414_rules.specs.Calls.{takes_others, is_wrong_call, has_wrong_call}
+use Rattle.p414_syntax.specs.declared.actions.Action.{Action}
+use Rattle.p414_syntax.specs.declared.syntax.Decl.{Decl}
+use Rattle.p414_syntax.specs.declared.place.ArgumentPlace.{ArgumentPlace}
+use Rattle.p414_syntax.specs.Primitives.{primitive_places}
+use Rattle.p414_syntax.specs.Twice.{declares_twice}
+use Rattle.p414_syntax.specs.Arguments.{Argument, parameter_argument, Invocation, invocations_of, all_invocations, actions, action_number, placed, placed_argument, place_of_parameter, parameter_places}
+use Rattle.p414_syntax.specs.ActionExpansion.{callee_number, called_in}
+use Rattle.p414_syntax.specs.Calls.{takes_others, is_wrong_call, has_wrong_call}
 use Rattle.p414_list_check.proofs.Expanding.{at_row}
 use Rattle.p414_list_check.proofs.Sized.{there_within}
 use Rattle.p414_action_check.specs.internal.Counted.{action_graph}

@@ -1,13 +1,13 @@
 -- Where what is given for a parameter isn't taken is seen by what is come to.
 use Rattle.std.proofs.Common.{◌≡◌, ℕ, suc, zero, ◌+◌, Bool, true, false, ◌||◌, ◌&&◌, List, [], ◌∷◌, map, slice_get, slice_index, inl, inr, Option, Some, None, refl, sym, ap, ◌∙◌, subst, arith}
 use Rattle.std.specs.List.{list_any}
-use Rattle.p414_ast.specs.declared.actions.Action.{Action}
-use Rattle.p414_ast.specs.declared.syntax.Decl.{Decl}
-use Rattle.p414_rules.specs.declared.place.ArgumentPlace.{ArgumentPlace}
-use Rattle.p414_rules.specs.Exact.{IsExact}
-use Rattle.p414_rules.specs.Twice.{declares_twice}
-use Rattle.p414_rules.specs.Arguments.{Argument, Invocation, invocations_of, actions, action_number}
-use Rattle.p414_rules.specs.Calls.{has_wrong_call}
+use Rattle.p414_syntax.specs.declared.actions.Action.{Action}
+use Rattle.p414_syntax.specs.declared.syntax.Decl.{Decl}
+use Rattle.p414_syntax.specs.declared.place.ArgumentPlace.{ArgumentPlace}
+use Rattle.p414_syntax.specs.Exact.{IsExact}
+use Rattle.p414_syntax.specs.Twice.{declares_twice}
+use Rattle.p414_syntax.specs.Arguments.{Argument, Invocation, invocations_of, actions, action_number}
+use Rattle.p414_syntax.specs.Calls.{has_wrong_call}
 use Rattle.p414_list_check.proofs.Sized.{there_within}
 use Rattle.p414_expanded_check.specs.internal.Passing.{In, refuses, IsRefused}
 use Rattle.p414_expanded_check.specs.internal.Flow.{starts, count, all_passes, is_set, flags_at, refused_from, refused_by, refused_in, some_refused, IsOrder}

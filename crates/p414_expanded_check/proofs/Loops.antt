@@ -1,11 +1,11 @@
 -- Turns of the loops that find where parameters end.
 use Rattle.std.proofs.Common.{◌≡◌, ℕ, suc, zero, ◌+◌, ◌<◌, ◌≤◌, Bool, true, ◌||◌, ◌&&◌, List, [], ◌∷◌, ◌++◌, length, get_or, set, drop, map, Option, Some, None, refl, sym, ap, ◌∙◌, append_assoc, arith}
 use Rattle.std.specs.List.{cons_option}
-use Rattle.p414_ast.specs.declared.actions.Action.{Action}
-use Rattle.p414_ast.specs.declared.syntax.Decl.{Decl}
-use Rattle.p414_rules.specs.declared.place.ArgumentPlace.{ArgumentPlace}
-use Rattle.p414_rules.specs.Uses.{first_place, further_places}
-use Rattle.p414_rules.specs.Arguments.{Argument, action_in, actions}
+use Rattle.p414_syntax.specs.declared.actions.Action.{Action}
+use Rattle.p414_syntax.specs.declared.syntax.Decl.{Decl}
+use Rattle.p414_syntax.specs.declared.place.ArgumentPlace.{ArgumentPlace}
+use Rattle.p414_syntax.specs.Uses.{first_place, further_places}
+use Rattle.p414_syntax.specs.Arguments.{Argument, action_in, actions}
 use Rattle.p414_list_check.proofs.Loops.{next_items}
 use Rattle.p414_expanded_check.specs.declared.flow.Pass.{Pass}
 use Rattle.p414_expanded_check.specs.internal.Passing.{refuses}

@@ -7,13 +7,13 @@ use Rattle.std.specs.Str.{bytes_eq}
 use Rattle.std.specs.Prelude.{codes}
 use Rattle.std.proofs.lemmas.List.{length-map}
 use Rattle.std.proofs.lemmas.List.Folds.{list_any-append}
-use Rattle.p414_ast.specs.declared.actions.Action.{Action}
-use Rattle.p414_ast.specs.declared.syntax.Decl.{Decl}
-use Rattle.p414_rules.specs.declared.place.ArgumentPlace.{ArgumentPlace}
-use Rattle.p414_rules.specs.Primitives.{places_of, primitive_places}
-use Rattle.p414_rules.specs.Arguments.{Argument, number_argument, field_argument, parameter_argument, name_argument, Invocation, invocations_of, all_invocations, actions, action_number, action_of, wanted_by, wanted_of, placed, placed_argument}
-use Rattle.p414_rules.specs.ActionExpansion.{given_for, invoked_with, body_with, CallsExpand, NoCalls, OfPrimitive, OfAction}
-use Rattle.p414_rules.specs.Calls.{takes, is_wrong_count, is_wrong_argument, type_names, differ, takes_others, is_wrong_call, has_wrong_call, ExpandsToWrongCall}
+use Rattle.p414_syntax.specs.declared.actions.Action.{Action}
+use Rattle.p414_syntax.specs.declared.syntax.Decl.{Decl}
+use Rattle.p414_syntax.specs.declared.place.ArgumentPlace.{ArgumentPlace}
+use Rattle.p414_syntax.specs.Primitives.{places_of, primitive_places}
+use Rattle.p414_syntax.specs.Arguments.{Argument, number_argument, field_argument, parameter_argument, name_argument, Invocation, invocations_of, all_invocations, actions, action_number, action_of, wanted_by, wanted_of, placed, placed_argument}
+use Rattle.p414_syntax.specs.ActionExpansion.{given_for, invoked_with, body_with, CallsExpand, NoCalls, OfPrimitive, OfAction}
+use Rattle.p414_syntax.specs.Calls.{takes, is_wrong_count, is_wrong_argument, type_names, differ, takes_others, is_wrong_call, has_wrong_call, ExpandsToWrongCall}
 use Rattle.p414_action_check.specs.internal.Counted.{is_named, gives_name}
 use Rattle.p414_expanded_check.proofs.Members.{none_of, in_second, in_flat, in_map, in_got}
 use Rattle.p414_action_check.proofs.Numbers.{number_there, no_number, no_action}

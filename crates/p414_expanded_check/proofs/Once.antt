@@ -1,9 +1,9 @@
 -- Calls come to the same primitives, whichever way they are expanded, and where no action calls itself, to some.
 use Rattle.std.proofs.Common.{◌≡◌, ℕ, ◌⊎◌, List, [], ◌∷◌, ◌++◌, slice_get, inl, inr, Some, None, refl, sym, ap, ◌∙◌, subst}
-use Rattle.p414_ast.specs.declared.actions.Action.{Action}
-use Rattle.p414_ast.specs.declared.syntax.Decl.{Decl}
-use Rattle.p414_rules.specs.Arguments.{Invocation, invocations_of, actions, action_of}
-use Rattle.p414_rules.specs.ActionExpansion.{body_with, CallsExpand, NoCalls, OfPrimitive, OfAction, ActionExpands}
+use Rattle.p414_syntax.specs.declared.actions.Action.{Action}
+use Rattle.p414_syntax.specs.declared.syntax.Decl.{Decl}
+use Rattle.p414_syntax.specs.Arguments.{Invocation, invocations_of, actions, action_of}
+use Rattle.p414_syntax.specs.ActionExpansion.{body_with, CallsExpand, NoCalls, OfPrimitive, OfAction, ActionExpands}
 use Rattle.p414_expanded_check.specs.internal.Flow.{IsOrder}
 use Rattle.p414_expanded_check.proofs.Order.{some_primitives}
 

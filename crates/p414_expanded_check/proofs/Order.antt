@@ -3,10 +3,10 @@ use Rattle.std.proofs.Common.{◌≡◌, ℕ, ◌<◌, ◌≤◌, ◌⊎◌, Lis
 use Rattle.digraph.specs.Graphs.{Among, successors, IsEdge, Edge, Onward, OnCycle, IsClosed, Reaches}
 use Rattle.digraph.specs.Components.{Condensation, AreComponents, Rises}
 use Rattle.digraph.specs.Expansions as calls
-use Rattle.p414_ast.specs.declared.actions.Action.{Action}
-use Rattle.p414_ast.specs.declared.syntax.Decl.{Decl}
-use Rattle.p414_rules.specs.Arguments.{Invocation, invocations_of, actions}
-use Rattle.p414_rules.specs.ActionExpansion.{called_in, CallsExpand}
+use Rattle.p414_syntax.specs.declared.actions.Action.{Action}
+use Rattle.p414_syntax.specs.declared.syntax.Decl.{Decl}
+use Rattle.p414_syntax.specs.Arguments.{Invocation, invocations_of, actions}
+use Rattle.p414_syntax.specs.ActionExpansion.{called_in, CallsExpand}
 use Rattle.p414_list_check.proofs.Expanding.{at_row}
 use Rattle.p414_action_check.specs.internal.Counted.{action_graph}
 use Rattle.p414_action_check.proofs.Expanding.{come_from}

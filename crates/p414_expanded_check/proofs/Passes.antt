@@ -1,10 +1,10 @@
 -- What the passes of an action are.
 use Rattle.std.proofs.Common.{◌≡◌, ℕ, suc, zero, ◌+◌, ◌⊎◌, List, [], ◌∷◌, ◌++◌, get_or, map, flat_map, slice_get, slice_index, inl, inr, Option, Some, None, refl, sym, ap, ◌∙◌, subst, arith}
-use Rattle.p414_ast.specs.declared.actions.Action.{Action}
-use Rattle.p414_ast.specs.declared.syntax.Decl.{Decl}
-use Rattle.p414_rules.specs.declared.place.ArgumentPlace.{ArgumentPlace}
-use Rattle.p414_rules.specs.Primitives.{primitive_places}
-use Rattle.p414_rules.specs.Arguments.{Argument, number_argument, field_argument, parameter_argument, name_argument, Invocation, invocations_of, actions, action_number, placed, placed_argument}
+use Rattle.p414_syntax.specs.declared.actions.Action.{Action}
+use Rattle.p414_syntax.specs.declared.syntax.Decl.{Decl}
+use Rattle.p414_syntax.specs.declared.place.ArgumentPlace.{ArgumentPlace}
+use Rattle.p414_syntax.specs.Primitives.{primitive_places}
+use Rattle.p414_syntax.specs.Arguments.{Argument, number_argument, field_argument, parameter_argument, name_argument, Invocation, invocations_of, actions, action_number, placed, placed_argument}
 use Rattle.p414_expanded_check.specs.declared.flow.Pass.{Pass}
 use Rattle.p414_expanded_check.specs.internal.Passing.{In}
 use Rattle.p414_expanded_check.specs.internal.Flow.{place_number, pass_of, passes_on, passes_at, passes_by, passes_in, passes_of}

@@ -1,10 +1,10 @@
 // C13 after expansion.
 ghost use Rattle.std.specs.Prelude.{◌≡◌, false, map, IfOk};
-ghost use Rattle.p414_rules.specs.Exact.{IsExact};
-ghost use Rattle.p414_rules.specs.Breaks.{BreaksNone, declaration_rules};
-ghost use Rattle.p414_rules.specs.Arguments.{invocations_of, actions};
-ghost use Rattle.p414_rules.specs.Actions.{HasBadAction};
-ghost use Rattle.p414_rules.specs.Calls.{has_wrong_call, ExpandsToWrongCall};
+ghost use Rattle.p414_syntax.specs.Exact.{IsExact};
+ghost use Rattle.p414_syntax.specs.Breaks.{BreaksNone, declaration_rules};
+ghost use Rattle.p414_syntax.specs.Arguments.{invocations_of, actions};
+ghost use Rattle.p414_syntax.specs.Actions.{HasBadAction};
+ghost use Rattle.p414_syntax.specs.Calls.{has_wrong_call, ExpandsToWrongCall};
 ghost use Rattle.p414_action_check.specs.internal.Known.{IsKnown};
 ghost use Rattle.p414_expanded_check.specs.internal.Passing.{IsRefused};
 ghost use Rattle.p414_expanded_check.specs.internal.Flow.{starts, count, IsOrder, ArePasses};
@@ -16,7 +16,7 @@ use digraph::Components;
 use p4x_bits::OutOfMemory;
 use p414_calls::{ActionCalls, action_graph, calls_of};
 use p414_names::Names14;
-use p414_rules::ArgumentPlace::{self, *};
+use p414_syntax::ArgumentPlace::{self, *};
 use std::alloc::Global;
 
 /// The places of primitives, by their numbers.

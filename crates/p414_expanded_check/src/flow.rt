@@ -1,15 +1,14 @@
 // C13 after expansion: where the parameters of actions are passed on.
 ghost use Rattle.std.specs.Prelude.{◌≡◌, ◌+◌, ◌++◌, map, flat_map, length, slice_index, IfOk, OnOk};
-ghost use Rattle.p414_rules.specs.Uses.{first_place, further_places};
-ghost use Rattle.p414_rules.specs.Arguments.{action_in};
+ghost use Rattle.p414_syntax.specs.Uses.{first_place, further_places};
+ghost use Rattle.p414_syntax.specs.Arguments.{action_in};
 ghost use Rattle.p414_calls.specs.Shown.{shown_argument};
 ghost use Rattle.p414_expanded_check.specs.internal.Flow.{place_number, starts, count, pass_of, passes_on, first_pass, passes_at, passes_in, passes_of, all_passes, IsBegun};
 
 use p4x_bits::OutOfMemory;
-use p414_ast::Decl;
 use p414_calls::{ActionCalls, Argument, Invocation, action_number};
 use p414_names::{Names14, primitive_places};
-use p414_rules::ArgumentPlace;
+use p414_syntax::{ArgumentPlace, Decl};
 use std::alloc::Global;
 
 /// What comes to one number comes also to another: a parameter is given for a parameter, or stands at a place.

@@ -5,7 +5,7 @@ ghost use Rattle.p414_expanded_check.specs.internal.Passing.{refuses};
 
 use p414_call_check::{takes_field, takes_number};
 use p414_calls::Argument;
-use p414_rules::ArgumentPlace;
+use p414_syntax::ArgumentPlace;
 
 /// Whether a place doesn't take a number or a field.
 pub fn refuses(place: ArgumentPlace, argument: &Argument<'_>) -> bool

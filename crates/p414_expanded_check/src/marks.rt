@@ -4,7 +4,7 @@ ghost use Rattle.p414_expanded_check.specs.internal.Flow.{is_set, with_pass, wit
 
 use crate::flow::{Pass, place_number};
 use p4x_bits::OutOfMemory;
-use p414_rules::ArgumentPlace;
+use p414_syntax::ArgumentPlace;
 use std::alloc::Global;
 
 /// Whether a number is come to.

@@ -11,7 +11,7 @@ use crate::marks::is_set;
 use p4x_bits::OutOfMemory;
 use p414_calls::{ActionCalls, Argument, Invocation, action_number};
 use p414_names::Names14;
-use p414_rules::ArgumentPlace;
+use p414_syntax::ArgumentPlace;
 
 /// The next number; one that is too large is want of memory.
 fn next(number: usize) -> Result<usize, OutOfMemory>

@@ -11,14 +11,14 @@ use Rattle.digraph.specs.Components.{Condensation, AreComponents}
 use Rattle.digraph.proofs.Listing.{among_append}
 use Rattle.digraph.proofs.Members.{among_place}
 use Rattle.digraph.proofs.Sizing.{comes_before}
-use Rattle.p414_ast.specs.declared.calculations.FieldList.{FieldList}
-use Rattle.p414_ast.specs.declared.calculations.Item.{Item}
-use Rattle.p414_ast.specs.declared.calculations.Item.TheVariants as item
-use Rattle.p414_ast.specs.declared.parts.Inst.{Inst}
-use Rattle.p414_ast.specs.declared.syntax.Decl.{Decl}
-use Rattle.p414_rules.specs.Names.{Name}
-use Rattle.p414_rules.specs.Expansion.{lists, items_at, inner_number, inner_numbers, own_items, field_item, fields_of, Expands, Nothing, Own, Inner}
-use Rattle.p414_rules.specs.Lists.{HoldsItself}
+use Rattle.p414_syntax.specs.declared.calculations.FieldList.{FieldList}
+use Rattle.p414_syntax.specs.declared.calculations.Item.{Item}
+use Rattle.p414_syntax.specs.declared.calculations.Item.TheVariants as item
+use Rattle.p414_syntax.specs.declared.parts.Inst.{Inst}
+use Rattle.p414_syntax.specs.declared.syntax.Decl.{Decl}
+use Rattle.p414_syntax.specs.Names.{Name}
+use Rattle.p414_syntax.specs.Expansion.{lists, items_at, inner_number, inner_numbers, own_items, field_item, fields_of, Expands, Nothing, Own, Inner}
+use Rattle.p414_syntax.specs.Lists.{HoldsItself}
 use Rattle.p414_list_check.specs.internal.Expanded.{list_row, list_graph}
 use Rattle.p414_list_check.proofs.Expanding.{is_alone, list_of}
 use Rattle.p414_list_check.proofs.Holding.{held_is, holds_itself, closed}

@@ -4,11 +4,11 @@ use Rattle.std.specs.Prelude.{unwrap_or, IfOk}
 use Rattle.std.proofs.lemmas.Grind.{flat_map-append}
 use Rattle.std.proofs.lemmas.List.{append-nil, get_or_past}
 use Rattle.p4x_bits.specs.BitLists.{bits, octet_bits}
-use Rattle.p414_ast.specs.declared.calculations.FieldList.{FieldList}
-use Rattle.p414_ast.specs.declared.calculations.Item.{Item}
-use Rattle.p414_ast.specs.declared.calculations.Item.TheVariants as item
-use Rattle.p414_ast.specs.declared.syntax.Decl.{Decl}
-use Rattle.p414_rules.specs.Expansion.{lists, items_in}
+use Rattle.p414_syntax.specs.declared.calculations.FieldList.{FieldList}
+use Rattle.p414_syntax.specs.declared.calculations.Item.{Item}
+use Rattle.p414_syntax.specs.declared.calculations.Item.TheVariants as item
+use Rattle.p414_syntax.specs.declared.syntax.Decl.{Decl}
+use Rattle.p414_syntax.specs.Expansion.{lists, items_in}
 use Rattle.p414_sem.specs.Slots.{Slot, standard, declared, slot_of, bits_of_ref}
 use Rattle.p414_sem.specs.State.{State, read}
 use Rattle.p414_sem.specs.Expanded.{Expanded, IsExpanded, items_in_list}

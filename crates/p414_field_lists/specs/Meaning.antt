@@ -1,8 +1,8 @@
 -- That rows are those of a program's field lists.
 use Rattle.std.specs.Prelude.{◌≡◌, ℕ, List, length, Some}
-use Rattle.p414_ast.specs.declared.calculations.Item.{Item}
-use Rattle.p414_ast.specs.declared.syntax.Decl.{Decl}
-use Rattle.p414_rules.specs.Expansion.{lists, items_at, Expands}
+use Rattle.p414_syntax.specs.declared.calculations.Item.{Item}
+use Rattle.p414_syntax.specs.declared.syntax.Decl.{Decl}
+use Rattle.p414_syntax.specs.Expansion.{lists, items_at, Expands}
 use Rattle.p414_sem.specs.State.{State}
 use Rattle.p414_sem.specs.Expanded.{Expanded, IsExpanded, items_in_list}
 use Rattle.p414_sem.specs.Calculations.{list_bits}

@@ -1,10 +1,10 @@
 -- The rows of field lists (P4_14 1.0.5, "Field Lists"): fields stand by number, and lists are expanded.
 use Rattle.std.specs.Prelude.{ℕ, Bool, List, [], ◌∷◌, flat_map, slice_index_or, unwrap_or}
 use Rattle.p4x_bits.specs.BitLists.{bits, octet_bits}
-use Rattle.p414_ast.specs.declared.calculations.Item.{Item}
-use Rattle.p414_ast.specs.declared.calculations.Item.TheVariants as item
-use Rattle.p414_ast.specs.declared.parts.Ref.{Ref}
-use Rattle.p414_ast.specs.declared.syntax.Decl.{Decl}
+use Rattle.p414_syntax.specs.declared.calculations.Item.{Item}
+use Rattle.p414_syntax.specs.declared.calculations.Item.TheVariants as item
+use Rattle.p414_syntax.specs.declared.parts.Ref.{Ref}
+use Rattle.p414_syntax.specs.declared.syntax.Decl.{Decl}
 use Rattle.p414_sem.specs.Slots.{slot_of, bits_of_ref}
 use Rattle.p414_sem.specs.State.{State, read}
 use Rattle.p414_slots.specs.Shown.{slot_in, kept_slot}

@@ -42,7 +42,7 @@ fn read(state: &State14, slot: FieldSlot) -> u128
 }
 
 /// Some bits that are still to be put, at most 128, as the number that they make.
-#[derive(Clone, Copy, Debug, Drop)]
+#[derive(Clone, Copy, Drop)]
 struct Run {
     width: u8,
     number: u128,

@@ -6,9 +6,9 @@ ghost use Rattle.p414_field_lists.specs.internal.Expanding.{expanded_rows, list_
 use crate::items::add_own;
 use crate::rows::ItemRow;
 use p4x_bits::{OutOfMemory, Rows};
-use p414_ast::Item;
 use p414_list_check::inner_number;
 use p414_slots::Slots;
+use p414_syntax::Item;
 use std::alloc::Global;
 
 /// Puts the rows of the list with this number last.

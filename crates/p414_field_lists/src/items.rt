@@ -1,15 +1,15 @@
 // The rows of an item by itself.
 ghost use Rattle.std.specs.Prelude.{◌≡◌, ◌++◌, map, IfOk, OnOk};
-ghost use Rattle.p414_rules.specs.Names.{field_name};
-ghost use Rattle.p414_rules.specs.Expansion.{fields_of};
+ghost use Rattle.p414_syntax.specs.Names.{field_name};
+ghost use Rattle.p414_syntax.specs.Expansion.{fields_of};
 ghost use Rattle.p414_field_lists.specs.Rows.{field_row};
 ghost use Rattle.p414_field_lists.specs.internal.Expanding.{named_row, own_rows};
 
 use crate::rows::ItemRow;
 use p4x_bits::{OutOfMemory, Rows};
-use p414_ast::{Field, Inst, Item, Ref};
 use p414_names::is_standard;
 use p414_slots::Slots;
+use p414_syntax::{Field, Inst, Item, Ref};
 
 /// The fields of `standard_metadata` (P4_14 1.0.5, "Standard Intrinsic Metadata").
 const STANDARD_FIELDS: [&[u8]; 5] = [

@@ -1,8 +1,8 @@
 // The rows of all lists.
 ghost use Rattle.std.specs.Prelude.{◌≡◌, [], replicate, IfOk};
 ghost use Rattle.digraph.specs.Components.{AreComponents};
-ghost use Rattle.p414_rules.specs.Expansion.{lists};
-ghost use Rattle.p414_rules.specs.Lists.{HoldsItself};
+ghost use Rattle.p414_syntax.specs.Expansion.{lists};
+ghost use Rattle.p414_syntax.specs.Lists.{HoldsItself};
 ghost use Rattle.p414_list_check.specs.internal.Expanded.{list_graph};
 ghost use Rattle.p414_field_lists.specs.Rows.{rows_at};
 ghost use Rattle.p414_field_lists.specs.Meaning.{AreReady};
@@ -12,10 +12,10 @@ use crate::expand::list_rows;
 use crate::rows::ItemRow;
 use digraph::Components;
 use p4x_bits::{OutOfMemory, Rows};
-use p414_ast::{Decl, FieldList, References};
 use p414_list_check::list_graph;
 use p414_names::Names14;
 use p414_slots::Slots;
+use p414_syntax::{Decl, FieldList, References};
 use std::alloc::Global;
 use std::marker::Model;
 

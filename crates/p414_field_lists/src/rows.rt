@@ -2,7 +2,7 @@
 use p414_slots::FieldSlot;
 
 /// An item of a field list (P4_14 1.0.5, "Field Lists").
-#[derive(Clone, Copy, Debug, Drop)]
+#[derive(Clone, Copy, Drop)]
 pub enum ItemRow {
     /// The octets that aren't parsed.
     Payload,

@@ -1,10 +1,10 @@
 -- The action of a name is the declaration of that name among the actions.
 use Rattle.std.proofs.Common.{◌≡◌, ℕ, zero, suc, List, [], ◌∷◌, Option, Some, None, option_and_then, slice_get, refl}
-use Rattle.p414_ast.specs.declared.syntax.Decl.{Decl}
-use Rattle.p414_ast.specs.declared.syntax.Decl.TheVariants as decl
-use Rattle.p414_ast.specs.declared.syntax.Sort.TheVariants as sort
-use Rattle.p414_rules.specs.Names.{Name, declared_in, number_of, numbered, declaration_of}
-use Rattle.p414_rules.specs.Arguments.{actions, action_in, action_of}
+use Rattle.p414_syntax.specs.declared.syntax.Decl.{Decl}
+use Rattle.p414_syntax.specs.declared.syntax.Decl.TheVariants as decl
+use Rattle.p414_syntax.specs.declared.syntax.Sort.TheVariants as sort
+use Rattle.p414_syntax.specs.Names.{Name, declared_in, number_of, numbered, declaration_of}
+use Rattle.p414_syntax.specs.Arguments.{actions, action_in, action_of}
 
 -- the action with this number
 numbered_action : (ds : List Decl) (n : ℕ) → slice_get (actions ds) n ≡ option_and_then action_in (slice_get (declared_in sort.Action ds) n)

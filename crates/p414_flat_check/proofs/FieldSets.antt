@@ -8,11 +8,11 @@ use Rattle.std.proofs.lemmas.List.{map-append}
 use Rattle.std.proofs.lemmas.List.Folds.{list_any-append}
 use Rattle.std.proofs.lemmas.Slice.Eq.{bytes_eq-Decides}
 use Rattle.indexmap.specs.IndexSet.{insert_key}
-use Rattle.p414_ast.specs.declared.parts.Index.{Index}
-use Rattle.p414_ast.specs.declared.parts.Index.TheVariants.{At, Next, Last}
-use Rattle.p414_ast.specs.declared.parts.Ref.{Ref}
-use Rattle.p414_rules.specs.Names.{Name}
-use Rattle.p414_rules.specs.CalculatedFields.{is_same_index, is_same_field}
+use Rattle.p414_syntax.specs.declared.parts.Index.{Index}
+use Rattle.p414_syntax.specs.declared.parts.Index.TheVariants.{At, Next, Last}
+use Rattle.p414_syntax.specs.declared.parts.Ref.{Ref}
+use Rattle.p414_syntax.specs.Names.{Name}
+use Rattle.p414_syntax.specs.CalculatedFields.{is_same_index, is_same_field}
 use Rattle.p414_flat_check.specs.internal.Keys.{place_of, FieldKey, key_of, shown_key, is_same_key}
 
 -- two fields have one key where they are the same

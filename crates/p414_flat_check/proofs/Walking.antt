@@ -2,8 +2,8 @@
 use Rattle.std.proofs.Common.{◌≡◌, ℕ, ◌<◌, Bool, true, false, ◌||◌, ltb, List, [], ◌∷◌, ◌++◌, refl, sym, ap, ◌∙◌, arith}
 use Rattle.std.specs.List.{list_any}
 use Rattle.std.proofs.lemmas.List.Folds.{list_any-append}
-use Rattle.p414_ast.specs.Tree.{Expr, valid, truth, field, number, parenthesized, unary, binary}
-use Rattle.p414_rules.specs.Nesting.{depth}
+use Rattle.p414_syntax.specs.Tree.{Expr, valid, truth, field, number, parenthesized, unary, binary}
+use Rattle.p414_syntax.specs.Nesting.{depth}
 use Rattle.p414_flat_check.specs.declared.depths.Room.{Room}
 use Rattle.p414_flat_check.specs.internal.Rooms.{is_beyond}
 

@@ -2,15 +2,15 @@
 ghost use Rattle.std.specs.Prelude.{◌≡◌, ℕ, ◌||◌, false, [], IfOk, OnOk};
 ghost use Rattle.std.specs.List.{list_any};
 ghost use Rattle.std.specs.Option.{option_map_or};
-ghost use Rattle.p414_ast.specs.declared.parts.Ref.{Ref};
-ghost use Rattle.p414_rules.specs.Lists.{calculated_in, calculated_fields};
-ghost use Rattle.p414_rules.specs.CalculatedFields.{is_same_field, is_field_of, is_calculated, reads_calculated, is_calculated_entry, has_calculated_entry, has_calculated_condition};
+ghost use Rattle.p414_syntax.specs.declared.parts.Ref.{Ref};
+ghost use Rattle.p414_syntax.specs.Lists.{calculated_in, calculated_fields};
+ghost use Rattle.p414_syntax.specs.CalculatedFields.{is_same_field, is_field_of, is_calculated, reads_calculated, is_calculated_entry, has_calculated_entry, has_calculated_condition};
 ghost use Rattle.p414_flat_check.specs.internal.Keys.{place_of, shown_key, key_of, is_same_key};
 
 use indexmap::IndexSet;
 use p4x_bits::OutOfMemory;
-use p414_ast::{Calc, CalcCond, CalculatedField, Decl, Index, Ref};
 use p414_names::Names14;
+use p414_syntax::{Calc, CalcCond, CalculatedField, Decl, Index, Ref};
 use std::alloc::Global;
 use std::marker::Model;
 
@@ -116,10 +116,10 @@ struct Calculated<'a> {
 
 impl<'a> Model for Calculated<'a> {
     ghost use Rattle.std.specs.Prelude.{List};
-    ghost use Rattle.p414_ast.specs.declared.syntax.Decl.{Decl};
+    ghost use Rattle.p414_syntax.specs.declared.syntax.Decl.{Decl};
     ghost use Rattle.p414_flat_check.specs.internal.Keys.{AreCalculated};
     ghost use Rattle.std.specs.Coded.{codes};
-    ghost use Rattle.p414_ast.specs.contracts.syntax.Decl as declaration;
+    ghost use Rattle.p414_syntax.specs.contracts.syntax.Decl as declaration;
 
     ghost Value = { List Decl };
 

@@ -1,13 +1,13 @@
 // C23: cells of counters, meters and registers.
 ghost use Rattle.std.specs.Prelude.{◌≡◌, ◌++◌, map, sum_by, flat_map, nat_lt, option_to_list, option_copied, IfOk, OnOk};
 ghost use Rattle.std.specs.List.{list_any};
-ghost use Rattle.p414_ast.specs.References.{referred};
-ghost use Rattle.p414_rules.specs.Names.{repeats};
-ghost use Rattle.p414_rules.specs.Cells.{cells_of_counter, cells_in, cells, is_bad_cell_count, cell_count, direct_in, has_bad_cells};
+ghost use Rattle.p414_syntax.specs.References.{referred};
+ghost use Rattle.p414_syntax.specs.Names.{repeats};
+ghost use Rattle.p414_syntax.specs.Cells.{cells_of_counter, cells_in, cells, is_bad_cell_count, cell_count, direct_in, has_bad_cells};
 
 use p4x_bits::{OutOfMemory, Text};
-use p414_ast::{Decl, Literal, References, Stateful};
 use p414_names::{NameSet, Names14};
+use p414_syntax::{Decl, Literal, References, Stateful};
 use std::alloc::Global;
 
 /// How many cells one counter, meter or register has at most.

@@ -1,15 +1,15 @@
 // C28: expressions whose tree is over 64 deep.
 ghost use Rattle.std.specs.Prelude.{◌≡◌, ◌<◌, ◌++◌, IfOk, OnOk};
 ghost use Rattle.std.specs.List.{list_any};
-ghost use Rattle.p414_ast.specs.Heads.{of_expr_head};
-ghost use Rattle.p414_rules.specs.Nesting.{is_too_deep, has_deep_expression};
-ghost use Rattle.p414_rules.specs.Expressions.{conditions_of, lengths_of};
+ghost use Rattle.p414_syntax.specs.Heads.{of_expr_head};
+ghost use Rattle.p414_syntax.specs.Nesting.{is_too_deep, has_deep_expression};
+ghost use Rattle.p414_syntax.specs.Expressions.{conditions_of, lengths_of};
 ghost use Rattle.p414_flat_check.specs.internal.Rooms.{rooms_within, two_rooms};
 
 use crate::expressions::{conditions_of, lengths_of};
 use p4x_bits::OutOfMemory;
-use p414_ast::{Decl, ExprHead, ExprView};
 use p414_names::Names14;
+use p414_syntax::{Decl, ExprHead, ExprView};
 use std::alloc::Global;
 
 /// How deep an expression's tree may be.

@@ -2,16 +2,16 @@
 ghost use Rattle.std.specs.Prelude.{◌≡◌, ◌++◌, true, false, IfOk, OnOk};
 ghost use Rattle.std.specs.List.{list_any};
 ghost use Rattle.std.specs.Option.{option_to_list};
-ghost use Rattle.p414_rules.specs.Uses.{tail_expressions};
-ghost use Rattle.p414_rules.specs.Expressions.{conditions_in, conditions_of, lengths_in, lengths_of, is_not, takes_truth, gives_truth, is_truth, is_of_other_sort, has_wrong_operand, is_mistyped, is_minus, is_negation, is_negated_within, has_minus_sign, has_mistyped_expression};
+ghost use Rattle.p414_syntax.specs.Uses.{tail_expressions};
+ghost use Rattle.p414_syntax.specs.Expressions.{conditions_in, conditions_of, lengths_in, lengths_of, is_not, takes_truth, gives_truth, is_truth, is_of_other_sort, has_wrong_operand, is_mistyped, is_minus, is_negation, is_negated_within, has_minus_sign, has_mistyped_expression};
 ghost use Rattle.p414_flat_check.specs.internal.Parts.{inner_of, is_truth_outside};
 
 use p4x_bits::OutOfMemory;
-use p414_ast::{
+use p414_names::Names14;
+use p414_syntax::{
     BinaryOperator, Decl, ExprHead, ExprView, HeaderType, UnaryOperator, all_conditions,
     all_expressions,
 };
-use p414_names::Names14;
 use std::alloc::Global;
 
 /// Puts these expressions last.

@@ -3,13 +3,13 @@ ghost use Rattle.std.specs.Prelude.{◌≡◌, false, length, count_by, cond, na
 ghost use Rattle.std.specs.List.{list_any};
 ghost use Rattle.std.specs.Option.{option_map_or};
 ghost use Rattle.std.specs.Str.{bytes_eq};
-ghost use Rattle.p414_rules.specs.Names.{has_name};
-ghost use Rattle.p414_rules.specs.Arguments.{action_in, action_of};
-ghost use Rattle.p414_rules.specs.Tables.{table_in, tables, field_kinds, is_header_key, is_field_key, is_bad_key, has_bad_keys, has_bad_key, is_lpm_key, has_two_prefixes, has_two_lpm_keys, argument_count, takes_other_count, is_bad_default, defaults_badly, has_bad_default};
+ghost use Rattle.p414_syntax.specs.Names.{has_name};
+ghost use Rattle.p414_syntax.specs.Arguments.{action_in, action_of};
+ghost use Rattle.p414_syntax.specs.Tables.{table_in, tables, field_kinds, is_header_key, is_field_key, is_bad_key, has_bad_keys, has_bad_key, is_lpm_key, has_two_prefixes, has_two_lpm_keys, argument_count, takes_other_count, is_bad_default, defaults_badly, has_bad_default};
 
 use p4x_bits::{Rows, Text};
-use p414_ast::{Action, Decl, Number, Read, ReadKey, Sort, Table};
 use p414_names::{Names14, is_among};
+use p414_syntax::{Action, Decl, Number, Read, ReadKey, Sort, Table};
 
 /// How many keys a table has at most.
 const MOST_KEYS: usize = 64;

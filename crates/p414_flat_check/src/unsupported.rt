@@ -1,19 +1,19 @@
 // C25, but for what is written: what stands in declarations and is left out of this profile.
 ghost use Rattle.std.specs.Prelude.{◌≡◌, ◌||◌, not, is_some, map, IfOk};
 ghost use Rattle.std.specs.List.{list_any};
-ghost use Rattle.p414_ast.specs.Attributes.{length_of, direct_table_of, layout_of};
-ghost use Rattle.p414_rules.specs.Names.{has_name};
-ghost use Rattle.p414_rules.specs.Primitives.{left_out_fields};
-ghost use Rattle.p414_rules.specs.Fields.{is_rest_field};
-ghost use Rattle.p414_rules.specs.Uses.{uses};
-ghost use Rattle.p414_rules.specs.Unsupported.{is_unsupported_attribute, is_unsupported_field, algorithms, is_error_target, is_error_case, ends_in_error, is_unsupported_call, is_unsupported_counter, is_unsupported_meter, is_unsupported_register, declares_unsupported, is_last_index, is_last, is_unsupported_standard, is_unsupported_use};
+ghost use Rattle.p414_syntax.specs.Attributes.{length_of, direct_table_of, layout_of};
+ghost use Rattle.p414_syntax.specs.Names.{has_name};
+ghost use Rattle.p414_syntax.specs.Primitives.{left_out_fields};
+ghost use Rattle.p414_syntax.specs.Fields.{is_rest_field};
+ghost use Rattle.p414_syntax.specs.Uses.{uses};
+ghost use Rattle.p414_syntax.specs.Unsupported.{is_unsupported_attribute, is_unsupported_field, algorithms, is_error_target, is_error_case, ends_in_error, is_unsupported_call, is_unsupported_counter, is_unsupported_meter, is_unsupported_register, declares_unsupported, is_last_index, is_last, is_unsupported_standard, is_unsupported_use};
 ghost use Rattle.p414_uses.specs.Shown.{shown_use};
 
 use p4x_bits::{OutOfMemory, Text};
-use p414_ast::{
+use p414_names::{Names14, is_among, is_left_out_primitive, is_standard};
+use p414_syntax::{
     Call, Case, CaseTarget, Decl, Field, FieldWidth, HeaderType, Index, Inst, Ref, Return, Stateful,
 };
-use p414_names::{Names14, is_among, is_left_out_primitive, is_standard};
 use p414_uses::{Use, uses_of};
 use std::alloc::Global;
 

@@ -7,24 +7,24 @@ use Rattle.std.specs.Str.{bytes_eq}
 use Rattle.std.proofs.lemmas.List.{length-map}
 use Rattle.std.proofs.lemmas.List.Quantifiers.{position-Some}
 use Rattle.digraph.specs.Graphs.{Among}
-use Rattle.p414_ast.specs.declared.actions.Action.{Action}
-use Rattle.p414_ast.specs.declared.calculations.Item.{Item}
-use Rattle.p414_ast.specs.declared.calculations.Item.TheVariants as item
-use Rattle.p414_ast.specs.declared.syntax.Decl.{Decl}
-use Rattle.p414_ast.specs.declared.syntax.Decl.TheVariants as decl
-use Rattle.p414_ast.specs.declared.syntax.Sort.TheVariants as sort
-use Rattle.p414_ast.specs.Subtrees.{subtrees}
-use Rattle.p414_ast.specs.Views.{ControlTree}
-use Rattle.p414_rules.specs.Names.{Name, names_in}
-use Rattle.p414_rules.specs.Arguments.{action_number, actions, invocations_of}
-use Rattle.p414_rules.specs.ActionExpansion.{actions_called_by, called_in, callee_number}
-use Rattle.p414_rules.specs.Actions.{ActionCallsItself}
-use Rattle.p414_rules.specs.Breaks.{BreaksNone, IsBroken, program_rules}
-use Rattle.p414_rules.specs.ControlExpansion.{calls_in, controls, controls_called_by, control_name, control_number, own_call}
-use Rattle.p414_rules.specs.Controls.{ControlCallsItself}
-use Rattle.p414_rules.specs.Expansion.{held_by, inner_number, inner_numbers, items_at, list_name, list_number, lists}
-use Rattle.p414_rules.specs.Lists.{HoldsItself}
-use Rattle.p414_rules.specs.Unknown.{has_unknown_name}
+use Rattle.p414_syntax.specs.declared.actions.Action.{Action}
+use Rattle.p414_syntax.specs.declared.calculations.Item.{Item}
+use Rattle.p414_syntax.specs.declared.calculations.Item.TheVariants as item
+use Rattle.p414_syntax.specs.declared.syntax.Decl.{Decl}
+use Rattle.p414_syntax.specs.declared.syntax.Decl.TheVariants as decl
+use Rattle.p414_syntax.specs.declared.syntax.Sort.TheVariants as sort
+use Rattle.p414_syntax.specs.Subtrees.{subtrees}
+use Rattle.p414_syntax.specs.Views.{ControlTree}
+use Rattle.p414_syntax.specs.Names.{Name, names_in}
+use Rattle.p414_syntax.specs.Arguments.{action_number, actions, invocations_of}
+use Rattle.p414_syntax.specs.ActionExpansion.{actions_called_by, called_in, callee_number}
+use Rattle.p414_syntax.specs.Actions.{ActionCallsItself}
+use Rattle.p414_syntax.specs.Breaks.{BreaksNone, IsBroken, program_rules}
+use Rattle.p414_syntax.specs.ControlExpansion.{calls_in, controls, controls_called_by, control_name, control_number, own_call}
+use Rattle.p414_syntax.specs.Controls.{ControlCallsItself}
+use Rattle.p414_syntax.specs.Expansion.{held_by, inner_number, inner_numbers, items_at, list_name, list_number, lists}
+use Rattle.p414_syntax.specs.Lists.{HoldsItself}
+use Rattle.p414_syntax.specs.Unknown.{has_unknown_name}
 use Rattle.p414_control_check.proofs.Expanding.{AllAreThere}
 use Rattle.p414_laws.proofs.Declared.{all_there}
 use Rattle.p414_laws.proofs.Depths.{IsDeep, is_deep}

@@ -4,10 +4,10 @@ use Rattle.std.specs.List.{cons_option}
 use Rattle.std.specs.Option.{option_map_or}
 use Rattle.std.specs.Prelude.{filter_map}
 use Rattle.digraph.specs.Graphs.{Among}
-use Rattle.p414_ast.specs.declared.actions.Action.{Action}
-use Rattle.p414_ast.specs.declared.syntax.Decl.{Decl}
-use Rattle.p414_rules.specs.Arguments.{Argument, Invocation, invocations_of, actions, action_number, action_of}
-use Rattle.p414_rules.specs.ActionExpansion.{actions_called_by, body_with, callee_number, called_in, invoked_with, CallsExpand, NoCalls, OfPrimitive, OfAction}
+use Rattle.p414_syntax.specs.declared.actions.Action.{Action}
+use Rattle.p414_syntax.specs.declared.syntax.Decl.{Decl}
+use Rattle.p414_syntax.specs.Arguments.{Argument, Invocation, invocations_of, actions, action_number, action_of}
+use Rattle.p414_syntax.specs.ActionExpansion.{actions_called_by, body_with, callee_number, called_in, invoked_with, CallsExpand, NoCalls, OfPrimitive, OfAction}
 use Rattle.p414_laws.specs.Expansion.{calls_within}
 use Rattle.p414_laws.proofs.Depths.{IsDeep}
 use Rattle.p414_laws.proofs.Members.{among_first, among_rest}

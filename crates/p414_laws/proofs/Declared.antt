@@ -5,17 +5,17 @@ use Rattle.std.specs.List.{list_any}
 use Rattle.std.specs.Str.{bytes_eq}
 use Rattle.std.proofs.lemmas.List.Folds.{list_any-append}
 use Rattle.std.proofs.lemmas.Grind.{flat_map-append}
-use Rattle.p414_ast.specs.declared.parsers.Parser.{Parser}
-use Rattle.p414_ast.specs.declared.syntax.Decl.{Decl}
-use Rattle.p414_ast.specs.declared.syntax.Decl.TheVariants as decl
-use Rattle.p414_ast.specs.declared.syntax.Sort.TheVariants as sort
-use Rattle.p414_ast.specs.Tree.{Stmt, no_statements, then, apply, apply_branches, if_then, call, no_else, else_block, else_if, no_branches, branch}
-use Rattle.p414_ast.specs.Subtrees.{subtrees}
-use Rattle.p414_ast.specs.Views.{ControlTree}
-use Rattle.p414_rules.specs.Names.{Name, names_in, declared_in, number_of, is_control}
-use Rattle.p414_rules.specs.Uses.{Use, own_uses, uses_of, uses}
-use Rattle.p414_rules.specs.Unknown.{is_unknown, parse_of, has_unknown_name}
-use Rattle.p414_rules.specs.ControlExpansion.{controls, control_name, control_number}
+use Rattle.p414_syntax.specs.declared.parsers.Parser.{Parser}
+use Rattle.p414_syntax.specs.declared.syntax.Decl.{Decl}
+use Rattle.p414_syntax.specs.declared.syntax.Decl.TheVariants as decl
+use Rattle.p414_syntax.specs.declared.syntax.Sort.TheVariants as sort
+use Rattle.p414_syntax.specs.Tree.{Stmt, no_statements, then, apply, apply_branches, if_then, call, no_else, else_block, else_if, no_branches, branch}
+use Rattle.p414_syntax.specs.Subtrees.{subtrees}
+use Rattle.p414_syntax.specs.Views.{ControlTree}
+use Rattle.p414_syntax.specs.Names.{Name, names_in, declared_in, number_of, is_control}
+use Rattle.p414_syntax.specs.Uses.{Use, own_uses, uses_of, uses}
+use Rattle.p414_syntax.specs.Unknown.{is_unknown, parse_of, has_unknown_name}
+use Rattle.p414_syntax.specs.ControlExpansion.{controls, control_name, control_number}
 use Rattle.p414_control_check.proofs.Expanding.{CallsAreThere, AllAreThere}
 use Rattle.p414_laws.proofs.Places.{position_here, position_past}
 

@@ -4,7 +4,7 @@ use Rattle.std.specs.List.{list_any, IsDistinct, AllByRecursion}
 use Rattle.std.proofs.lemmas.Bool.{eqb-true}
 use Rattle.std.proofs.lemmas.Map.Steps.{length-le_from_distinct_below}
 use Rattle.digraph.specs.Graphs.{Among}
-use Rattle.p414_rules.specs.Walks.{IsWalk, IsCycle}
+use Rattle.p414_syntax.specs.Walks.{IsWalk, IsCycle}
 use Rattle.p414_laws.proofs.Members.{contains}
 
 -- chains from a node have so many nodes at most

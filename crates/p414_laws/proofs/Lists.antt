@@ -2,9 +2,9 @@
 use Rattle.std.proofs.Common.{◌≡◌, ℕ, suc, zero, List, [], ◌∷◌, ◌++◌, Option, Some, None, option_and_then, refl, sym, ap, subst}
 use Rattle.std.specs.Option.{option_map_or}
 use Rattle.digraph.specs.Graphs.{Among}
-use Rattle.p414_ast.specs.declared.calculations.Item.{Item}
-use Rattle.p414_ast.specs.declared.syntax.Decl.{Decl}
-use Rattle.p414_rules.specs.Expansion.{held_by, inner_list, inner_number, inner_numbers, items_at, own_items, Expands, Nothing, Own, Inner}
+use Rattle.p414_syntax.specs.declared.calculations.Item.{Item}
+use Rattle.p414_syntax.specs.declared.syntax.Decl.{Decl}
+use Rattle.p414_syntax.specs.Expansion.{held_by, inner_list, inner_number, inner_numbers, items_at, own_items, Expands, Nothing, Own, Inner}
 use Rattle.p414_laws.specs.Expansion.{items_within}
 use Rattle.p414_laws.proofs.Depths.{IsDeep}
 use Rattle.p414_laws.proofs.Members.{among_first, among_rest}

@@ -1,16 +1,16 @@
 -- What is expanded comes to one thing.
 use Rattle.std.proofs.Common.{◌≡◌, ℕ, inl, inr, List, [], ◌∷◌, ◌++◌, Option, Some, None, MatchOption, refl, sym, ap, ◌∙◌, subst, arith}
-use Rattle.p414_ast.specs.declared.actions.Action.{Action}
-use Rattle.p414_ast.specs.declared.calculations.Item.{Item}
-use Rattle.p414_ast.specs.declared.syntax.Decl.{Decl}
-use Rattle.p414_ast.specs.Tree.{Stmt, no_statements, then, apply_branches, if_then, else_block, else_if, branch}
-use Rattle.p414_ast.specs.Views.{ControlTree}
-use Rattle.p414_rules.specs.Names.{Name}
-use Rattle.p414_rules.specs.Arguments.{Invocation, invocations_of}
-use Rattle.p414_rules.specs.ActionExpansion.{ActionExpands, body_with, CallsExpand, NoCalls, OfPrimitive, OfAction}
-use Rattle.p414_rules.specs.ControlExpansion.{control_of, PipelineExpands, StatementExpands, NoStatements, Then, Apply, ApplyBranches, If, Call, NoElse, ElseBlock, ElseIf, NoBranches, Branch}
-use Rattle.p414_rules.specs.Expansion.{own_items, Expands, Nothing, Own, Inner}
-use Rattle.p414_rules.specs.ParserGraph.{AtMost, Order}
+use Rattle.p414_syntax.specs.declared.actions.Action.{Action}
+use Rattle.p414_syntax.specs.declared.calculations.Item.{Item}
+use Rattle.p414_syntax.specs.declared.syntax.Decl.{Decl}
+use Rattle.p414_syntax.specs.Tree.{Stmt, no_statements, then, apply_branches, if_then, else_block, else_if, branch}
+use Rattle.p414_syntax.specs.Views.{ControlTree}
+use Rattle.p414_syntax.specs.Names.{Name}
+use Rattle.p414_syntax.specs.Arguments.{Invocation, invocations_of}
+use Rattle.p414_syntax.specs.ActionExpansion.{ActionExpands, body_with, CallsExpand, NoCalls, OfPrimitive, OfAction}
+use Rattle.p414_syntax.specs.ControlExpansion.{control_of, PipelineExpands, StatementExpands, NoStatements, Then, Apply, ApplyBranches, If, Call, NoElse, ElseBlock, ElseIf, NoBranches, Branch}
+use Rattle.p414_syntax.specs.Expansion.{own_items, Expands, Nothing, Own, Inner}
+use Rattle.p414_syntax.specs.ParserGraph.{AtMost, Order}
 
 module _ (ds : List Decl) where
   pub items_once : (items a b : List Item) → Expands ds items a → Expands ds items b → a ≡ b

@@ -2,18 +2,18 @@
 use Rattle.std.proofs.Common.{◌≡◌, ℕ, suc, zero, ◌<◌, List, [], ◌∷◌, length, map, slice_get, slice_index_or, Option, Some, None, MatchOption, option_map, option_and_then, refl, sym, ap, ◌∙◌, subst, arith}
 use Rattle.std.specs.Option.{option_map_or}
 use Rattle.std.proofs.lemmas.List.{length-map}
-use Rattle.p414_ast.specs.declared.calculations.FieldList.{FieldList}
-use Rattle.p414_ast.specs.declared.calculations.Item.{Item}
-use Rattle.p414_ast.specs.declared.syntax.Decl.{Decl}
-use Rattle.p414_ast.specs.Tree.{Stmt, no_statements}
-use Rattle.p414_ast.specs.Views.{ControlTree}
-use Rattle.p414_rules.specs.Names.{Name}
-use Rattle.p414_rules.specs.Arguments.{Invocation, actions, invocations_of}
-use Rattle.p414_rules.specs.ActionExpansion.{ActionExpands}
-use Rattle.p414_rules.specs.Breaks.{BreaksNone, program_rules}
-use Rattle.p414_rules.specs.ControlExpansion.{control_number, controls, ingress, egress, PipelineExpands, StatementExpands}
-use Rattle.p414_rules.specs.Expansion.{items_at, items_in, lists, Expands}
-use Rattle.p414_rules.specs.ParserGraph.{Order}
+use Rattle.p414_syntax.specs.declared.calculations.FieldList.{FieldList}
+use Rattle.p414_syntax.specs.declared.calculations.Item.{Item}
+use Rattle.p414_syntax.specs.declared.syntax.Decl.{Decl}
+use Rattle.p414_syntax.specs.Tree.{Stmt, no_statements}
+use Rattle.p414_syntax.specs.Views.{ControlTree}
+use Rattle.p414_syntax.specs.Names.{Name}
+use Rattle.p414_syntax.specs.Arguments.{Invocation, actions, invocations_of}
+use Rattle.p414_syntax.specs.ActionExpansion.{ActionExpands}
+use Rattle.p414_syntax.specs.Breaks.{BreaksNone, program_rules}
+use Rattle.p414_syntax.specs.ControlExpansion.{control_number, controls, ingress, egress, PipelineExpands, StatementExpands}
+use Rattle.p414_syntax.specs.Expansion.{items_at, items_in, lists, Expands}
+use Rattle.p414_syntax.specs.ParserGraph.{Order}
 use Rattle.p414_sem.specs.Expanded.{Expanded, IsExpanded, items_in_list, primitives_at}
 use Rattle.p414_laws.specs.Expansion.{action_comes, control_comes, expansion, list_comes, pipeline_comes}
 use Rattle.p414_laws.proofs.Accepted.{accepted_there, actions_deep, controls_deep, lists_deep}

@@ -3,17 +3,17 @@
 -- calls or holds itself, so a chain of calls has each node once at most, and is no longer than there are nodes.
 use Rattle.std.specs.Prelude.{ℕ, zero, suc, List, [], ◌∷◌, flat_map, length, map}
 use Rattle.std.specs.Option.{option_map_or}
-use Rattle.p414_ast.specs.declared.actions.Action.{Action}
-use Rattle.p414_ast.specs.declared.calculations.FieldList.{FieldList}
-use Rattle.p414_ast.specs.declared.calculations.Item.{Item}
-use Rattle.p414_ast.specs.declared.syntax.Decl.{Decl}
-use Rattle.p414_ast.specs.Tree.{Stmt, no_statements, then, apply, apply_branches, if_then, call, no_else, else_block, else_if, no_branches, branch}
-use Rattle.p414_ast.specs.Views.{ControlTree}
-use Rattle.p414_rules.specs.Names.{Name}
-use Rattle.p414_rules.specs.Arguments.{Invocation, actions, action_of, invocations_of}
-use Rattle.p414_rules.specs.ActionExpansion.{body_with}
-use Rattle.p414_rules.specs.Expansion.{lists, inner_list, own_items}
-use Rattle.p414_rules.specs.ControlExpansion.{controls, control_of, ingress, egress}
+use Rattle.p414_syntax.specs.declared.actions.Action.{Action}
+use Rattle.p414_syntax.specs.declared.calculations.FieldList.{FieldList}
+use Rattle.p414_syntax.specs.declared.calculations.Item.{Item}
+use Rattle.p414_syntax.specs.declared.syntax.Decl.{Decl}
+use Rattle.p414_syntax.specs.Tree.{Stmt, no_statements, then, apply, apply_branches, if_then, call, no_else, else_block, else_if, no_branches, branch}
+use Rattle.p414_syntax.specs.Views.{ControlTree}
+use Rattle.p414_syntax.specs.Names.{Name}
+use Rattle.p414_syntax.specs.Arguments.{Invocation, actions, action_of, invocations_of}
+use Rattle.p414_syntax.specs.ActionExpansion.{body_with}
+use Rattle.p414_syntax.specs.Expansion.{lists, inner_list, own_items}
+use Rattle.p414_syntax.specs.ControlExpansion.{controls, control_of, ingress, egress}
 use Rattle.p414_sem.specs.Expanded.{Expanded}
 
 -- the primitives that a call comes to, where it is known what the calls of an action do

@@ -1,8 +1,8 @@
 -- What holds of each program that breaks no rule.
 use Rattle.std.specs.Prelude.{◌≡◌, ℕ, List}
-use Rattle.p414_ast.specs.declared.syntax.Decl.{Decl}
-use Rattle.p414_rules.specs.Breaks.{BreaksNone, program_rules}
-use Rattle.p414_rules.specs.ParserGraph.{Order}
+use Rattle.p414_syntax.specs.declared.syntax.Decl.{Decl}
+use Rattle.p414_syntax.specs.Breaks.{BreaksNone, program_rules}
+use Rattle.p414_syntax.specs.ParserGraph.{Order}
 use Rattle.p414_sem.specs.Expanded.{Expanded, IsExpanded}
 use Rattle.p414_laws.specs.Expansion.{expansion}
 

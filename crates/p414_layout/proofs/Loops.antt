@@ -1,8 +1,8 @@
 -- The turn of the loop over declarations.
 use Rattle.std.proofs.Common.{◌≡◌, ℕ, ◌+◌, ◌<◌, ◌∙◌, Bool, true, false, refl, sym, ap, List, [], ◌∷◌, ◌++◌, drop, get_or, length, map, cond, append_assoc, drop-cons, add-one}
-use Rattle.p414_ast.specs.declared.syntax.Decl.{Decl}
-use Rattle.p414_ast.specs.declared.syntax.Sort.TheVariants as sort
-use Rattle.p414_rules.specs.Names.{is_in, declared_in}
+use Rattle.p414_syntax.specs.declared.syntax.Decl.{Decl}
+use Rattle.p414_syntax.specs.declared.syntax.Sort.TheVariants as sort
+use Rattle.p414_syntax.specs.Names.{is_in, declared_in}
 use Rattle.p414_layout.specs.declared.shape.Shape.{Shape}
 use Rattle.p414_layout.specs.Shapes.{shape_in}
 

@@ -1,8 +1,8 @@
 -- Fields that lie side by side.
 use Rattle.std.proofs.Common.{◌≡◌, ℕ, zero, suc, ◌+◌, ◌<◌, ◌≤◌, List, [], ◌∷◌, ◌++◌, length, map, take, get_or, refl, sym, ap, ◌∙◌, arith}
 use Rattle.std.proofs.lemmas.List.{length-map, get_or-map, map-append, take_more}
-use Rattle.p414_ast.specs.declared.headers.Field.{Field}
-use Rattle.p414_rules.specs.Fields.{field_bits}
+use Rattle.p414_syntax.specs.declared.headers.Field.{Field}
+use Rattle.p414_syntax.specs.Fields.{field_bits}
 use Rattle.p414_layout.specs.declared.fields.FieldPlace.{FieldPlace}
 use Rattle.p414_layout.specs.Placed.{total, bits_before, place_width, ArePlaced}
 

@@ -4,15 +4,15 @@ use Rattle.std.specs.Prelude.{option_map, option_and_then, slice_get}
 use Rattle.std.specs.Option.{option_map_or}
 use Rattle.std.proofs.lemmas.List.{length-map}
 use Rattle.std.proofs.lemmas.List.Sums.{sum_by-cons}
-use Rattle.p414_lexemes.specs.declared.lexeme.Literal.{Literal}
-use Rattle.p414_ast.specs.declared.syntax.Decl.{Decl}
-use Rattle.p414_ast.specs.declared.syntax.Decl.TheVariants as decl
-use Rattle.p414_ast.specs.declared.syntax.Sort.TheVariants as sort
-use Rattle.p414_ast.specs.Views.{HeaderTypeTree}
-use Rattle.p414_rules.specs.Names.{Name, declared_in, numbered, number_of}
-use Rattle.p414_rules.specs.Cells.{literal_value}
-use Rattle.p414_rules.specs.Fields.{type_of, type_name_in, field_bits}
-use Rattle.p414_rules.specs.Totals.{elements_of, field_count, fields_of_type}
+use Rattle.p414_syntax.specs.declared.lexeme.Literal.{Literal}
+use Rattle.p414_syntax.specs.declared.syntax.Decl.{Decl}
+use Rattle.p414_syntax.specs.declared.syntax.Decl.TheVariants as decl
+use Rattle.p414_syntax.specs.declared.syntax.Sort.TheVariants as sort
+use Rattle.p414_syntax.specs.Views.{HeaderTypeTree}
+use Rattle.p414_syntax.specs.Names.{Name, declared_in, numbered, number_of}
+use Rattle.p414_syntax.specs.Cells.{literal_value}
+use Rattle.p414_syntax.specs.Fields.{type_of, type_name_in, field_bits}
+use Rattle.p414_syntax.specs.Totals.{elements_of, field_count, fields_of_type}
 use Rattle.p414_sem.specs.State.{Instance, blank_instance, new_instance}
 use Rattle.p414_sem.specs.Packing.{type_widths, widths_of_type, widths_of}
 use Rattle.p414_layout.specs.declared.shape.Shape.{Shape}

@@ -1,10 +1,10 @@
 -- What the instances of a program are made of (P4_14 1.0.5, "Header Type Declarations", "Header and Metadata Instances").
 use Rattle.std.specs.Prelude.{ℕ, true, false, List, [], map, length, slice_index_or, Option, Some, None, option_map}
-use Rattle.p414_ast.specs.declared.syntax.Decl.{Decl}
-use Rattle.p414_ast.specs.declared.syntax.Decl.TheVariants as decl
-use Rattle.p414_ast.specs.declared.syntax.Sort.TheVariants as sort
-use Rattle.p414_rules.specs.Names.{declared_in}
-use Rattle.p414_rules.specs.Cells.{literal_value}
+use Rattle.p414_syntax.specs.declared.syntax.Decl.{Decl}
+use Rattle.p414_syntax.specs.declared.syntax.Decl.TheVariants as decl
+use Rattle.p414_syntax.specs.declared.syntax.Sort.TheVariants as sort
+use Rattle.p414_syntax.specs.Names.{declared_in}
+use Rattle.p414_syntax.specs.Cells.{literal_value}
 use Rattle.p414_sem.specs.State.{Instance, blank_instance}
 use Rattle.p414_sem.specs.Packing.{widths_of_type}
 use Rattle.p414_layout.specs.declared.shape.Shape.{Shape}

@@ -1,17 +1,17 @@
 // The fields of an instance, side by side.
 ghost use Rattle.std.specs.Prelude.{◌≡◌, ℕ, ◌+◌, ◌<◌, ◌≤◌, false, map, length, slice_index, IfOk};
 ghost use Rattle.std.specs.List.{list_any};
-ghost use Rattle.p414_rules.specs.Fields.{field_bits};
-ghost use Rattle.p414_rules.specs.Widths.{is_bad_field};
+ghost use Rattle.p414_syntax.specs.Fields.{field_bits};
+ghost use Rattle.p414_syntax.specs.Widths.{is_bad_field};
 ghost use Rattle.p414_layout.specs.Placed.{total, octets_for, bits_before, place_width, ArePlaced};
 
 use p4x_bits::OutOfMemory;
-use p414_ast::{Field, FieldWidth};
+use p414_syntax::{Field, FieldWidth};
 use std::alloc::Global;
 use std::marker::Model;
 
 /// Where a field lies among the bits of its header, first field first.
-#[derive(Clone, Copy, Debug, PartialEq, Eq, Drop)]
+#[derive(Clone, Copy, PartialEq, Eq, Drop)]
 pub struct FieldPlace {
     /// The bits in front of it.
     pub at: usize,

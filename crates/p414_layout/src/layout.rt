@@ -1,18 +1,18 @@
 // The instances of a program.
 ghost use Rattle.std.specs.Prelude.{◌≡◌, false, [], ◌∷◌, ◌++◌, map, option_map, IfOk, OnOk};
-ghost use Rattle.p414_ast.specs.declared.syntax.Decl.TheVariants as decl;
-ghost use Rattle.p414_ast.specs.declared.syntax.Sort.TheVariants as sort;
-ghost use Rattle.p414_rules.specs.Names.{declared_in};
-ghost use Rattle.p414_rules.specs.Cells.{literal_value};
-ghost use Rattle.p414_rules.specs.Widths.{has_bad_width};
+ghost use Rattle.p414_syntax.specs.declared.syntax.Decl.TheVariants as decl;
+ghost use Rattle.p414_syntax.specs.declared.syntax.Sort.TheVariants as sort;
+ghost use Rattle.p414_syntax.specs.Names.{declared_in};
+ghost use Rattle.p414_syntax.specs.Cells.{literal_value};
+ghost use Rattle.p414_syntax.specs.Widths.{has_bad_width};
 ghost use Rattle.p414_sem.specs.Packing.{widths_of_type};
 ghost use Rattle.p414_layout.specs.Shapes.{shape_in, layout_of};
 
 use crate::fields::FieldPlaces;
 use crate::shape::Shape;
 use p4x_bits::OutOfMemory;
-use p414_ast::{Decl, Header, Literal, Metadata};
 use p414_names::Names14;
+use p414_syntax::{Decl, Header, Literal, Metadata};
 use std::alloc::Global;
 use std::marker::Model;
 

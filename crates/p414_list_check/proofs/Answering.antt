@@ -7,13 +7,13 @@ use Rattle.std.proofs.lemmas.List.{length-map}
 use Rattle.std.proofs.lemmas.Result.{IfOk-weaker}
 use Rattle.digraph.specs.Graphs.{IsClosed}
 use Rattle.digraph.specs.Expansions.{AreSizes, HasCycle}
-use Rattle.p414_ast.specs.declared.calculations.Item.{Item}
-use Rattle.p414_ast.specs.declared.syntax.Decl.{Decl}
-use Rattle.p414_rules.specs.Expansion.{lists}
-use Rattle.p414_rules.specs.Lists.{HoldsItself, InputsAreBad}
+use Rattle.p414_syntax.specs.declared.calculations.Item.{Item}
+use Rattle.p414_syntax.specs.declared.syntax.Decl.{Decl}
+use Rattle.p414_syntax.specs.Expansion.{lists}
+use Rattle.p414_syntax.specs.Lists.{HoldsItself, InputsAreBad}
 use Rattle.p414_list_check.specs.internal.Expanded.{list_row, list_graph, capped_count, own_counts, total_from, input_numbers}
 use Rattle.p414_list_check.specs.internal.Measures.{one, own_length, own_standard, exceeds}
-use Rattle.p414_rules.specs.Exact.{IsExact}
+use Rattle.p414_syntax.specs.Exact.{IsExact}
 use Rattle.p414_list_check.specs.internal.Judged.{IsExpandedBadly}
 use Rattle.p414_list_check.specs.Lengths.{AreLengths}
 use Rattle.p414_list_check.proofs.Holding.{closed, holds_none, holds_itself}

@@ -1,13 +1,13 @@
 -- Lengths, and fields of `standard_metadata`, of what items come to by themselves.
 use Rattle.std.proofs.Common.{◌≡◌, ℕ, ◌+◌, ◌||◌, Bool, true, false, cond, is_some, List, [], ◌∷◌, ◌++◌, length, map, sum_by, Option, Some, None, refl, sym, ap, ◌∙◌, arith}
 use Rattle.std.proofs.lemmas.List.Sums.{sum_by-cons}
-use Rattle.p414_ast.specs.declared.parts.Inst.{Inst}
-use Rattle.p414_ast.specs.declared.calculations.Item.{Item}
-use Rattle.p414_ast.specs.declared.calculations.Item.TheVariants as item
-use Rattle.p414_ast.specs.declared.syntax.Decl.{Decl}
-use Rattle.p414_rules.specs.Names.{Name}
-use Rattle.p414_rules.specs.Primitives.{is_standard, ports, counts}
-use Rattle.p414_rules.specs.Expansion.{list_number, inner_number, own_items, fields_of, field_item}
+use Rattle.p414_syntax.specs.declared.parts.Inst.{Inst}
+use Rattle.p414_syntax.specs.declared.calculations.Item.{Item}
+use Rattle.p414_syntax.specs.declared.calculations.Item.TheVariants as item
+use Rattle.p414_syntax.specs.declared.syntax.Decl.{Decl}
+use Rattle.p414_syntax.specs.Names.{Name}
+use Rattle.p414_syntax.specs.Primitives.{is_standard, ports, counts}
+use Rattle.p414_syntax.specs.Expansion.{list_number, inner_number, own_items, fields_of, field_item}
 use Rattle.p414_list_check.specs.internal.Measures.{one, standard, own_length, own_standard}
 use Rattle.p414_list_check.proofs.Expanding.{CountsOwn}
 

@@ -5,10 +5,10 @@ use Rattle.std.specs.List.{list_any}
 use Rattle.std.proofs.lemmas.List.{length-map}
 use Rattle.std.proofs.lemmas.List.Sums.{sum_by-cons}
 use Rattle.digraph.specs.Expansions.{AreSizes, HasCycle}
-use Rattle.p414_ast.specs.declared.calculations.Item.{Item}
-use Rattle.p414_ast.specs.declared.syntax.Decl.{Decl}
-use Rattle.p414_rules.specs.Expansion.{lists, list_number, items_in, items_at, Expands, Joins}
-use Rattle.p414_rules.specs.Lists.{HoldsItself, ListTooLong, InputsAreBad, is_bad_input, is_standard_item, all_inputs}
+use Rattle.p414_syntax.specs.declared.calculations.Item.{Item}
+use Rattle.p414_syntax.specs.declared.syntax.Decl.{Decl}
+use Rattle.p414_syntax.specs.Expansion.{lists, list_number, items_in, items_at, Expands, Joins}
+use Rattle.p414_syntax.specs.Lists.{HoldsItself, ListTooLong, InputsAreBad, is_bad_input, is_standard_item, all_inputs}
 use Rattle.p414_list_check.specs.internal.Expanded.{list_row, list_graph, own_counts, total_from}
 use Rattle.p414_list_check.specs.internal.Measures.{one, standard, own_length, own_standard, exceeds}
 use Rattle.p414_list_check.proofs.Expanding.{get_within}

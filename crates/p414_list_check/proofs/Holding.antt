@@ -5,12 +5,12 @@ use Rattle.std.specs.List.{cons_option}
 use Rattle.std.proofs.lemmas.List.{length-map}
 use Rattle.digraph.specs.Graphs.{Among, successors, IsEdge, WalkTo, Edge, Onward, OnCycle, IsClosed}
 use Rattle.digraph.specs.Expansions.{HasCycle}
-use Rattle.p414_ast.specs.declared.calculations.FieldList.{FieldList}
-use Rattle.p414_ast.specs.declared.calculations.Item.{Item}
-use Rattle.p414_ast.specs.declared.syntax.Decl.{Decl}
-use Rattle.p414_rules.specs.Walks.{IsWalk}
-use Rattle.p414_rules.specs.Lists.{HoldsItself}
-use Rattle.p414_rules.specs.Expansion.{lists, items_in, inner_number, inner_numbers, held_by}
+use Rattle.p414_syntax.specs.declared.calculations.FieldList.{FieldList}
+use Rattle.p414_syntax.specs.declared.calculations.Item.{Item}
+use Rattle.p414_syntax.specs.declared.syntax.Decl.{Decl}
+use Rattle.p414_syntax.specs.Walks.{IsWalk}
+use Rattle.p414_syntax.specs.Lists.{HoldsItself}
+use Rattle.p414_syntax.specs.Expansion.{lists, items_in, inner_number, inner_numbers, held_by}
 use Rattle.p414_list_check.specs.internal.Expanded.{list_row, list_graph}
 use Rattle.p414_list_check.proofs.Expanding.{inner_within}
 

@@ -1,10 +1,10 @@
 -- The names of the field lists are those of their sort.
 use Rattle.std.proofs.Common.{◌≡◌, List, [], ◌∷◌, map, refl, ap}
-use Rattle.p414_ast.specs.declared.syntax.Decl.{Decl}
-use Rattle.p414_ast.specs.declared.syntax.Decl.TheVariants as decl
-use Rattle.p414_ast.specs.declared.syntax.Sort.TheVariants as sort
-use Rattle.p414_rules.specs.Names.{Name, names_in, find_name, number_of}
-use Rattle.p414_rules.specs.Expansion.{lists, list_name, list_number}
+use Rattle.p414_syntax.specs.declared.syntax.Decl.{Decl}
+use Rattle.p414_syntax.specs.declared.syntax.Decl.TheVariants as decl
+use Rattle.p414_syntax.specs.declared.syntax.Sort.TheVariants as sort
+use Rattle.p414_syntax.specs.Names.{Name, names_in, find_name, number_of}
+use Rattle.p414_syntax.specs.Expansion.{lists, list_name, list_number}
 
 same_names : (ds : List Decl) → names_in sort.List ds ≡ map list_name (lists ds)
 same_names [] = refl

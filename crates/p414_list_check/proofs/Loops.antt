@@ -6,12 +6,12 @@ use Rattle.std.proofs.lemmas.List.{map-append}
 use Rattle.std.proofs.lemmas.List.Sums.{sum_by-drop_more}
 use Rattle.std.proofs.lemmas.List.Folds.{list_any-append}
 use Rattle.digraph.specs.Graphs.{with_edge}
-use Rattle.p414_ast.specs.declared.calculations.CalculatedField.{CalculatedField}
-use Rattle.p414_ast.specs.declared.calculations.FieldList.{FieldList}
-use Rattle.p414_ast.specs.declared.calculations.Item.{Item}
-use Rattle.p414_ast.specs.declared.syntax.Decl.{Decl}
-use Rattle.p414_rules.specs.Expansion.{lists, list_in, list_number, inner_number, inner_numbers}
-use Rattle.p414_rules.specs.Lists.{calculated_in, calculated_fields, input_of, inputs_of_field, all_inputs}
+use Rattle.p414_syntax.specs.declared.calculations.CalculatedField.{CalculatedField}
+use Rattle.p414_syntax.specs.declared.calculations.FieldList.{FieldList}
+use Rattle.p414_syntax.specs.declared.calculations.Item.{Item}
+use Rattle.p414_syntax.specs.declared.syntax.Decl.{Decl}
+use Rattle.p414_syntax.specs.Expansion.{lists, list_in, list_number, inner_number, inner_numbers}
+use Rattle.p414_syntax.specs.Lists.{calculated_in, calculated_fields, input_of, inputs_of_field, all_inputs}
 use Rattle.p414_list_check.specs.internal.Expanded.{with_edges, field_numbers, input_numbers}
 
 -- an item is counted

@@ -6,11 +6,11 @@ use Rattle.std.proofs.lemmas.List.Sums.{sum_by-append, sum_by-cons}
 use Rattle.digraph.specs.Graphs.{successors}
 use Rattle.digraph.specs.Expansions as calls
 use Rattle.digraph.specs.Expansions.{AreSizes, size_of}
-use Rattle.p414_ast.specs.declared.calculations.FieldList.{FieldList}
-use Rattle.p414_ast.specs.declared.calculations.Item.{Item}
-use Rattle.p414_ast.specs.declared.syntax.Decl.{Decl}
-use Rattle.p414_rules.specs.Names.{Name}
-use Rattle.p414_rules.specs.Expansion.{lists, list_number, items_in, items_at, inner_numbers, Expands, ComesTo, Joins}
+use Rattle.p414_syntax.specs.declared.calculations.FieldList.{FieldList}
+use Rattle.p414_syntax.specs.declared.calculations.Item.{Item}
+use Rattle.p414_syntax.specs.declared.syntax.Decl.{Decl}
+use Rattle.p414_syntax.specs.Names.{Name}
+use Rattle.p414_syntax.specs.Expansion.{lists, list_number, items_in, items_at, inner_numbers, Expands, ComesTo, Joins}
 use Rattle.p414_list_check.specs.internal.Expanded.{list_row, list_graph, capped_count, own_counts, total_from}
 use Rattle.p414_list_check.proofs.Expanding.{CountsOwn, row_count, comes, come_from, SomeItems, get_within, at_row, list_of, named_within}
 

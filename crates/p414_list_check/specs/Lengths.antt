@@ -1,8 +1,8 @@
 -- How many items each field list of a program has when it is expanded.
 use Rattle.std.specs.Prelude.{◌≡◌, ℕ, min, List, length, slice_index, Some}
-use Rattle.p414_ast.specs.declared.calculations.Item.{Item}
-use Rattle.p414_ast.specs.declared.syntax.Decl.{Decl}
-use Rattle.p414_rules.specs.Expansion.{lists, items_at, Expands}
+use Rattle.p414_syntax.specs.declared.calculations.Item.{Item}
+use Rattle.p414_syntax.specs.declared.syntax.Decl.{Decl}
+use Rattle.p414_syntax.specs.Expansion.{lists, items_at, Expands}
 
 -- each list comes to some items, and to so many, but at most 65,537
 pub record AreLengths (ds : List Decl) (lengths : List ℕ) : Type 0 where

@@ -1,12 +1,12 @@
 // C8: what needs no expansion.
 ghost use Rattle.std.specs.Prelude.{◌≡◌, cond, count_by, nat_lt, option_copied};
 ghost use Rattle.std.specs.List.{list_any};
-ghost use Rattle.p414_rules.specs.Lists.{is_bare_item, has_bare_number, is_update, is_verify, calculation_of, is_other_width, gives_other_width, condition_reads_standard, is_standard_condition, is_bad_calculated, calculated_in, calculated_fields, has_flat_fault};
+ghost use Rattle.p414_syntax.specs.Lists.{is_bare_item, has_bare_number, is_update, is_verify, calculation_of, is_other_width, gives_other_width, condition_reads_standard, is_standard_condition, is_bad_calculated, calculated_in, calculated_fields, has_flat_fault};
 
-use p414_ast::{
+use p414_names::{Names14, is_standard};
+use p414_syntax::{
     Calc, CalcCond, CalcUse, CalculatedField, Decl, FieldListCalculation, Item, Ref, Sort,
 };
-use p414_names::{Names14, is_standard};
 
 /// How many entries of a calculated field update it at most, and how many verify it.
 const MOST_ENTRIES: u32 = 16;

@@ -1,15 +1,15 @@
 // C8: what the items of a field list come to by themselves, and the lists that stand in it.
 ghost use Rattle.std.specs.Prelude.{◌≡◌, ◌+◌, ◌≤◌, ◌++◌, cond, length, map, min, sum_by, option_to_list, IfOk, OnOk};
 ghost use Rattle.std.specs.Option.{option_map_or};
-ghost use Rattle.p414_rules.specs.Fields.{instance_type};
-ghost use Rattle.p414_rules.specs.Totals.{field_count};
-ghost use Rattle.p414_rules.specs.Expansion.{list_number, inner_by_name, inner_number, fields_of, list_in};
+ghost use Rattle.p414_syntax.specs.Fields.{instance_type};
+ghost use Rattle.p414_syntax.specs.Totals.{field_count};
+ghost use Rattle.p414_syntax.specs.Expansion.{list_number, inner_by_name, inner_number, fields_of, list_in};
 ghost use Rattle.p414_list_check.specs.internal.Expanded.{capped_count, own_counts};
 ghost use Rattle.p414_list_check.specs.internal.Measures.{own_length_of, own_length, own_standard, own_of};
 
 use p4x_bits::OutOfMemory;
-use p414_ast::{Decl, Inst, Item, Sort};
 use p414_names::{Names14, is_standard};
+use p414_syntax::{Decl, Inst, Item, Sort};
 use std::alloc::Global;
 
 /// What is counted stays at this number, which is over each limit.

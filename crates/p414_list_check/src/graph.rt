@@ -1,13 +1,13 @@
 // C8: the field lists of a program as a graph.
 ghost use Rattle.std.specs.Prelude.{◌≡◌, ◌++◌, ◌∷◌, [], map, option_to_list, IfOk, OnOk};
-ghost use Rattle.p414_rules.specs.Expansion.{inner_number, inner_numbers, list_in};
+ghost use Rattle.p414_syntax.specs.Expansion.{inner_number, inner_numbers, list_in};
 ghost use Rattle.p414_list_check.specs.internal.Expanded.{list_row, list_graph, with_edges};
 
 use crate::expanded::inner_number;
 use digraph::Digraph;
 use p4x_bits::OutOfMemory;
-use p414_ast::{Decl, Item};
 use p414_names::Names14;
+use p414_syntax::{Decl, Item};
 use std::alloc::Global;
 
 /// Adds the edge to the list that an item stands for, if it stands for one.

@@ -1,15 +1,15 @@
 // C8: the lists that the calculations of calculated fields take.
 ghost use Rattle.std.specs.Prelude.{◌≡◌, ◌++◌, map, slice_index, IfOk, OnOk};
 ghost use Rattle.std.specs.List.{flat_map};
-ghost use Rattle.p414_rules.specs.Expansion.{list_number};
-ghost use Rattle.p414_rules.specs.Lists.{calculated_in};
+ghost use Rattle.p414_syntax.specs.Expansion.{list_number};
+ghost use Rattle.p414_syntax.specs.Lists.{calculated_in};
 ghost use Rattle.p414_list_check.specs.internal.Expanded.{entry_numbers, field_numbers, input_numbers, total_from};
 
 use crate::calculated::calculation_of;
 use crate::expanded::{capped, list_number};
 use p4x_bits::{OutOfMemory, Text};
-use p414_ast::{Calc, Decl};
 use p414_names::Names14;
+use p414_syntax::{Calc, Decl};
 use std::alloc::Global;
 
 /// Puts the numbers of the lists with these names last.

@@ -3,11 +3,11 @@ ghost use Rattle.std.specs.Prelude.{◌≡◌, ◌||◌, nat_lt, IfOk, MatchOpti
 ghost use Rattle.std.specs.List.{list_any};
 ghost use Rattle.digraph.specs.Components.{AreComponents};
 ghost use Rattle.digraph.specs.Expansions.{AreSizes, HasCycle};
-ghost use Rattle.p414_rules.specs.Lists.{HasBadList, HoldsItself, InputsAreBad};
+ghost use Rattle.p414_syntax.specs.Lists.{HasBadList, HoldsItself, InputsAreBad};
 ghost use Rattle.p414_list_check.specs.Lengths.{AreLengths};
 ghost use Rattle.p414_list_check.specs.internal.Expanded.{list_graph, own_counts, total_from};
 ghost use Rattle.p414_list_check.specs.internal.Measures.{own_of, exceeds};
-ghost use Rattle.p414_rules.specs.Exact.{IsExact};
+ghost use Rattle.p414_syntax.specs.Exact.{IsExact};
 ghost use Rattle.p414_list_check.specs.internal.Judged.{IsExpandedBadly};
 ghost use Rattle.p414_list_check.specs.declared.expanded.Measure.TheVariants.{Items, Standard};
 

@@ -4,9 +4,9 @@ use Rattle.std.specs.Prelude.{IfSome}
 use Rattle.std.specs.List.{cons_option}
 use Rattle.std.specs.Str.{bytes_eq}
 use Rattle.std.proofs.lemmas.List.Quantifiers.{position-Some}
-use Rattle.p414_ast.specs.declared.syntax.Decl.{Decl}
-use Rattle.p414_ast.specs.declared.syntax.Sort.{Sort}
-use Rattle.p414_rules.specs.Names.{Name, name_in, names_in, number_of}
+use Rattle.p414_syntax.specs.declared.syntax.Decl.{Decl}
+use Rattle.p414_syntax.specs.declared.syntax.Sort.{Sort}
+use Rattle.p414_syntax.specs.Names.{Name, name_in, names_in, number_of}
 
 one_more : {Y : Type 0} (o : Option Y) (ys : List Y) (n : ℕ) → length ys ≤ n → length (cons_option o ys) ≤ n + 1
 one_more (Some y) ys n h = omega arith

@@ -1,3 +1,4 @@
 pub mod Scopes
 pub mod Types
 pub mod Tables
+pub mod Places

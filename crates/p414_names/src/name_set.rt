@@ -1,7 +1,7 @@
 // Names that are borrowed from a syntax, in the order of their declarations.
 ghost use Rattle.std.specs.Prelude.{◌≡◌, true, false, [], ◌∷◌, ◌++◌, length, IfOk, IfSome, ◌<◌};
 ghost use Rattle.std.specs.Bool.{MatchBool};
-ghost use Rattle.p414_rules.specs.Names.{find_name, has_name};
+ghost use Rattle.p414_syntax.specs.Names.{find_name, has_name};
 
 use indexmap::IndexSet;
 use p4x_bits::OutOfMemory;
@@ -16,7 +16,7 @@ pub struct NameSet<'a> {
 
 impl<'a> Model for NameSet<'a> {
     ghost use Rattle.std.specs.Prelude.{ℕ, List, map};
-    ghost use Rattle.p414_ast.specs.References.{referred};
+    ghost use Rattle.p414_syntax.specs.References.{referred};
 
     ghost Value = { List (List ℕ) };
 

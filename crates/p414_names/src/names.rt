@@ -1,13 +1,13 @@
 // The names of a program, sort by sort.
 ghost use Rattle.std.specs.Prelude.{◌≡◌, true, false, map, take, option_copied, slice_get, length, ◌<◌, ◌≤◌, IfOk, IfSome, MatchOption};
 ghost use Rattle.std.specs.List.{list_any};
-ghost use Rattle.p414_ast.specs.References.{referred};
-ghost use Rattle.p414_rules.specs.Names.{names_in, number_of, declaration_of, is_declared};
-ghost use Rattle.p414_rules.specs.Twice.{sorts, repeats_in, has_field_twice, declares_twice};
-ghost use Rattle.p414_rules.specs.Fields.{types, type_of, type_bits, instance_of, type_name_in, size_in, is_header_in, is_instance, is_header, stack_size, instance_type, width_in_type, width_of, ref_width};
+ghost use Rattle.p414_syntax.specs.References.{referred};
+ghost use Rattle.p414_syntax.specs.Names.{names_in, number_of, declaration_of, is_declared};
+ghost use Rattle.p414_syntax.specs.Twice.{sorts, repeats_in, has_field_twice, declares_twice};
+ghost use Rattle.p414_syntax.specs.Fields.{types, type_of, type_bits, instance_of, type_name_in, size_in, is_header_in, is_instance, is_header, stack_size, instance_type, width_in_type, width_of, ref_width};
 ghost use Rattle.std.specs.Option.{option_map_or};
-ghost use Rattle.p414_rules.specs.Widths.{is_unaligned};
-ghost use Rattle.p414_rules.specs.Totals.{bits_of_type};
+ghost use Rattle.p414_syntax.specs.Widths.{is_unaligned};
+ghost use Rattle.p414_syntax.specs.Totals.{bits_of_type};
 ghost use Rattle.p414_names.specs.internal.Types.{IsUpTo};
 ghost use Rattle.p414_names.specs.internal.Tables.{scopes, type_name_of, declared_width, width_at};
 
@@ -16,7 +16,7 @@ use crate::scope::{Scope, scope_of};
 use crate::twice::some_repeat_within;
 use crate::types::{TypeFields, types_of};
 use p4x_bits::{OutOfMemory, Text};
-use p414_ast::{Decl, HeaderType, Literal, Ref, Sort};
+use p414_syntax::{Decl, HeaderType, Literal, Ref, Sort};
 use std::alloc::Global;
 use std::marker::Model;
 
@@ -36,19 +36,28 @@ const SORTS: [Sort; 8] = [
 const MOST_DECLS: usize = 0xffff_ffff;
 
 /// The names of a program, sort by sort, with what they are declared by. Contracts see the declarations of the program.
-#[derive(Drop)]
 pub struct Names14<'a> {
     decls: &'a [Decl],
     scopes: Vec<Scope<'a>>,
     types: Vec<TypeFields<'a>>,
 }
 
+impl Drop for Names14<'_> {
+    fn drop(self) {
+        let Names14 {
+            decls: _decls,
+            scopes: _scopes,
+            types: _types,
+        } = self;
+    }
+}
+
 impl<'a> Model for Names14<'a> {
     ghost use Rattle.std.specs.Prelude.{List};
-    ghost use Rattle.p414_ast.specs.declared.syntax.Decl.{Decl};
+    ghost use Rattle.p414_syntax.specs.declared.syntax.Decl.{Decl};
     ghost use Rattle.p414_names.specs.internal.Tables.{AreTables};
     ghost use Rattle.std.specs.Coded.{codes};
-    ghost use Rattle.p414_ast.specs.contracts.syntax.Decl as declaration;
+    ghost use Rattle.p414_syntax.specs.contracts.syntax.Decl as declaration;
 
     ghost Value = { List Decl };
 

@@ -1,12 +1,13 @@
 // The primitive actions and standard metadata.
 ghost use Rattle.std.specs.Prelude.{◌≡◌, Some, None, map, option_copied};
 ghost use Rattle.std.specs.List.{list_any};
-ghost use Rattle.p414_ast.specs.References.{referred};
-ghost use Rattle.p414_rules.specs.Names.{has_name};
-ghost use Rattle.p414_rules.specs.Primitives.{places_of, primitive_places, is_primitive, left_out_primitives, is_any_primitive, is_standard, standard_width};
+ghost use Rattle.p414_syntax.specs.References.{referred};
+ghost use Rattle.p414_syntax.specs.Names.{has_name};
+ghost use Rattle.p414_syntax.specs.Primitives.{places_of, primitive_places, is_primitive, left_out_primitives, is_any_primitive, is_standard, standard_width};
+ghost use Rattle.p414_names.specs.internal.Places.{last_places, object_places};
 
-use p414_rules::ArgumentPlace;
-use p414_rules::ArgumentPlace::*;
+use p414_syntax::ArgumentPlace;
+use p414_syntax::ArgumentPlace::*;
 
 const TWO_SOURCES: [&[u8]; 6] = [
     b"add",
@@ -83,6 +84,42 @@ pub fn is_among(name: &[u8], names: &[&[u8]]) -> bool
     false
 }
 
+/// What the arguments of hashes and of primitives on packets stand for.
+fn last_places(name: &[u8]) -> Option<&'static [ArgumentPlace]>
+    ensures { option_copied result ≡ last_places name.now }
+{
+    if name == HASH {
+        Some(&[Target, Unsigned, Calculation, Unsigned])
+    } else if is_among(name, &WITHOUT_ARGUMENTS) {
+        Some(&[])
+    } else if is_among(name, &ONE_LIST) {
+        Some(&[List])
+    } else if is_among(name, &CLONES) {
+        Some(&[Unsigned, List])
+    } else {
+        None
+    }
+}
+
+/// What the arguments of primitives on stacks and stateful objects stand for, and of those above.
+fn object_places(name: &[u8]) -> Option<&'static [ArgumentPlace]>
+    ensures { option_copied result ≡ object_places name.now }
+{
+    if is_among(name, &STACK_MOVES) {
+        Some(&[Stack, Elements])
+    } else if name == COUNT {
+        Some(&[Counter, Unsigned])
+    } else if name == REGISTER_READ {
+        Some(&[Target, Register, Unsigned])
+    } else if name == REGISTER_WRITE {
+        Some(&[Register, Unsigned, Source])
+    } else if name == EXECUTE_METER {
+        Some(&[Meter, Unsigned, Target])
+    } else {
+        last_places(name)
+    }
+}
+
 /// What the arguments of a primitive stand for, in order; none where the name is no primitive.
 pub fn places_of(name: &[u8]) -> Option<&'static [ArgumentPlace]>
     ensures { option_copied result ≡ places_of name.now }
@@ -97,26 +134,8 @@ pub fn places_of(name: &[u8]) -> Option<&'static [ArgumentPlace]>
         Some(&[Header])
     } else if name == COPY_HEADER {
         Some(&[Header, Header])
-    } else if is_among(name, &STACK_MOVES) {
-        Some(&[Stack, Elements])
-    } else if name == COUNT {
-        Some(&[Counter, Unsigned])
-    } else if name == REGISTER_READ {
-        Some(&[Target, Register, Unsigned])
-    } else if name == REGISTER_WRITE {
-        Some(&[Register, Unsigned, Source])
-    } else if name == EXECUTE_METER {
-        Some(&[Meter, Unsigned, Target])
-    } else if name == HASH {
-        Some(&[Target, Unsigned, Calculation, Unsigned])
-    } else if is_among(name, &WITHOUT_ARGUMENTS) {
-        Some(&[])
-    } else if is_among(name, &ONE_LIST) {
-        Some(&[List])
-    } else if is_among(name, &CLONES) {
-        Some(&[Unsigned, List])
     } else {
-        None
+        object_places(name)
     }
 }
 

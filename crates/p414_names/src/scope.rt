@@ -2,14 +2,14 @@
 ghost use Rattle.std.specs.Prelude.{◌≡◌, true, false, ◌∷◌, ◌++◌, [], Some, option_copied, slice_get, IfOk, OnOk, MatchOption};
 ghost use Rattle.std.specs.Bool.{MatchBool};
 ghost use Rattle.std.specs.List.{list_any};
-ghost use Rattle.p414_rules.specs.Names.{name_in, names_in, has_name, repeats, number_of, declaration_of};
-ghost use Rattle.p414_rules.specs.Twice.{is_reserved, repeats_in};
+ghost use Rattle.p414_syntax.specs.Names.{name_in, names_in, has_name, repeats, number_of, declaration_of};
+ghost use Rattle.p414_syntax.specs.Twice.{is_reserved, repeats_in};
 ghost use Rattle.p414_names.specs.internal.Scopes.{IsGathered, IsPut, declares_reserved};
 
 use crate::name_set::NameSet;
 use crate::primitives::{is_any_primitive, is_standard};
 use p4x_bits::{OutOfMemory, Text};
-use p414_ast::{Decl, References, Sort};
+use p414_syntax::{Decl, References, Sort};
 use std::alloc::Global;
 use std::marker::Model;
 
@@ -30,11 +30,11 @@ pub struct Scope<'a> {
 
 impl<'a> Model for Scope<'a> {
     ghost use Rattle.std.specs.Prelude.{List};
-    ghost use Rattle.p414_ast.specs.declared.syntax.Decl.{Decl};
-    ghost use Rattle.p414_ast.specs.declared.syntax.Sort.{Sort};
+    ghost use Rattle.p414_syntax.specs.declared.syntax.Decl.{Decl};
+    ghost use Rattle.p414_syntax.specs.declared.syntax.Sort.{Sort};
     ghost use Rattle.p414_names.specs.internal.Scopes.{IsGathered};
     ghost use Rattle.std.specs.Coded.{codes};
-    ghost use Rattle.p414_ast.specs.contracts.syntax.Decl as declaration;
+    ghost use Rattle.p414_syntax.specs.contracts.syntax.Decl as declaration;
 
     ghost Value = { Sort × List Decl };
 
@@ -132,6 +132,20 @@ impl<'a> Gathered<'a> {
     }
 }
 
+/// Puts the declarations of the sort behind none; false where a name is declared twice in it.
+fn put_all<'a>(all: &mut Gathered<'a>, sort: Sort, decls: &'a [Decl]) -> Result<bool, OutOfMemory>
+    requires names { all.old.names ≡ [] }
+    requires declared { all.old.declared ≡ [] }
+    ensures { IfOk result (λ fresh. MatchBool fresh ((repeats (names_in sort decls.now) ≡ false) × IsGathered sort decls.now all.new) (repeats (names_in sort decls.now) ≡ true)) }
+{
+    for decl in decls {
+        if !all.put(sort, decl)? {
+            return Ok(false);
+        }
+    }
+    Ok(true)
+}
+
 /// The names of a sort; none where a name is declared twice in it.
 fn gather(alloc: Global, sort: Sort, decls: &[Decl]) -> Result<Option<Gathered<'_>>, OutOfMemory>
     ensures { IfOk result (λ found. MatchOption found (repeats (names_in sort decls.now) ≡ true) (λ g. (repeats (names_in sort decls.now) ≡ false) × IsGathered sort decls.now g)) }
@@ -140,12 +154,11 @@ fn gather(alloc: Global, sort: Sort, decls: &[Decl]) -> Result<Option<Gathered<'
         names: NameSet::new(alloc),
         declared: References::new(alloc),
     };
-    for decl in decls {
-        if !all.put(sort, decl)? {
-            return Ok(None);
-        }
+    if put_all(&mut all, sort, decls)? {
+        Ok(Some(all))
+    } else {
+        Ok(None)
     }
-    Ok(Some(all))
 }
 
 /// The names of a sort; none where one of them is reserved there, or declared twice.

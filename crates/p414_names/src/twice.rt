@@ -1,12 +1,12 @@
 // C1: names that are declared twice within a declaration.
 ghost use Rattle.std.specs.Prelude.{◌≡◌, map, IfOk};
 ghost use Rattle.std.specs.List.{list_any};
-ghost use Rattle.p414_rules.specs.Names.{initial_name, repeats};
-ghost use Rattle.p414_rules.specs.Twice.{repeats_within};
+ghost use Rattle.p414_syntax.specs.Names.{initial_name, repeats};
+ghost use Rattle.p414_syntax.specs.Twice.{repeats_within};
 
 use crate::name_set::NameSet;
 use p4x_bits::{OutOfMemory, Text};
-use p414_ast::{Decl, Initial};
+use p414_syntax::{Decl, Initial};
 use std::alloc::Global;
 
 /// Whether one of these names stands twice.

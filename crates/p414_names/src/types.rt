@@ -1,15 +1,15 @@
 // Header types with the names of their fields.
 ghost use Rattle.std.specs.Prelude.{◌≡◌, ◌%◌, true, false, map, sum_by, nat_eq, option_copied, IfOk, MatchOption};
 ghost use Rattle.std.specs.List.{list_any};
-ghost use Rattle.p414_rules.specs.Names.{field_name, repeats};
-ghost use Rattle.p414_rules.specs.Fields.{field_bits, field_in, width_in, header_type_in, types, type_bits, is_rest_field};
-ghost use Rattle.p414_rules.specs.Twice.{has_field_twice};
+ghost use Rattle.p414_syntax.specs.Names.{field_name, repeats};
+ghost use Rattle.p414_syntax.specs.Fields.{field_bits, field_in, width_in, header_type_in, types, type_bits, is_rest_field};
+ghost use Rattle.p414_syntax.specs.Twice.{has_field_twice};
 ghost use Rattle.p414_names.specs.internal.Types.{IsTypePut, IsUpTo};
-ghost use Rattle.p414_rules.specs.Widths.{is_unaligned};
+ghost use Rattle.p414_syntax.specs.Widths.{is_unaligned};
 
 use crate::name_set::NameSet;
 use p4x_bits::OutOfMemory;
-use p414_ast::{Decl, Field, FieldWidth, HeaderType};
+use p414_syntax::{Decl, Field, FieldWidth, HeaderType};
 use std::alloc::Global;
 use std::marker::Model;
 
@@ -26,8 +26,8 @@ pub struct TypeFields<'a> {
 }
 
 impl<'a> Model for TypeFields<'a> {
-    ghost use Rattle.p414_ast.specs.Views.{HeaderTypeTree};
-    ghost use Rattle.p414_ast.specs.Code.{coded_header_type};
+    ghost use Rattle.p414_syntax.specs.Views.{HeaderTypeTree};
+    ghost use Rattle.p414_syntax.specs.Code.{coded_header_type};
 
     ghost Value = { HeaderTypeTree };
 

@@ -1,10 +1,10 @@
 -- The number of a name among the names of each sort is its number in the program.
 use Rattle.std.proofs.Common.{◌≡◌, refl}
-use Rattle.p414_ast.specs.declared.syntax.Decl.{Decl}
-use Rattle.p414_ast.specs.declared.syntax.Sort.{Sort}
-use Rattle.p414_ast.specs.declared.syntax.Sort.TheVariants as sort
+use Rattle.p414_syntax.specs.declared.syntax.Decl.{Decl}
+use Rattle.p414_syntax.specs.declared.syntax.Sort.{Sort}
+use Rattle.p414_syntax.specs.declared.syntax.Sort.TheVariants as sort
 use Rattle.std.specs.Prelude.{List}
-use Rattle.p414_rules.specs.Names.{Name, number_of}
+use Rattle.p414_syntax.specs.Names.{Name, number_of}
 use Rattle.p414_numbers.specs.Sorts.{names_by_sort, number_among}
 
 pub number_found : (s : Sort) (ds : List Decl) (name : Name) → number_among s (names_by_sort ds) name ≡ number_of s ds name

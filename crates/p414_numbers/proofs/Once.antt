@@ -1,10 +1,10 @@
 -- No name stands twice in its sort.
 use Rattle.std.proofs.Common.{◌≡◌, Bool, true, false, ◌||◌, List, ◌∷◌, refl}
 use Rattle.std.specs.List.{list_any}
-use Rattle.p414_ast.specs.declared.syntax.Decl.{Decl}
-use Rattle.p414_ast.specs.declared.syntax.Sort.{Sort}
-use Rattle.p414_rules.specs.Names.{Name, names_in, has_name, repeats, repeats_behind}
-use Rattle.p414_rules.specs.Twice.{sorts, is_reserved, repeats_in, declares_twice}
+use Rattle.p414_syntax.specs.declared.syntax.Decl.{Decl}
+use Rattle.p414_syntax.specs.declared.syntax.Sort.{Sort}
+use Rattle.p414_syntax.specs.Names.{Name, names_in, has_name, repeats, repeats_behind}
+use Rattle.p414_syntax.specs.Twice.{sorts, is_reserved, repeats_in, declares_twice}
 
 first_false : (a b : Bool) → (a || b) ≡ false → a ≡ false
 first_false true b h = cc

@@ -1,11 +1,11 @@
 -- The names of a program, sort by sort, and the number of a name (P4_14 1.0.5, "Summary of P4 BNF"; which sorts are told
 -- apart is this project's own).
 use Rattle.std.specs.Prelude.{ℕ, List, map, slice_get, Option, option_and_then}
-use Rattle.p414_ast.specs.declared.syntax.Decl.{Decl}
-use Rattle.p414_ast.specs.declared.syntax.Sort.{Sort}
-use Rattle.p414_ast.specs.declared.syntax.Sort.TheVariants as sort
-use Rattle.p414_rules.specs.Names.{Name, find_name, names_in}
-use Rattle.p414_rules.specs.Twice.{sorts}
+use Rattle.p414_syntax.specs.declared.syntax.Decl.{Decl}
+use Rattle.p414_syntax.specs.declared.syntax.Sort.{Sort}
+use Rattle.p414_syntax.specs.declared.syntax.Sort.TheVariants as sort
+use Rattle.p414_syntax.specs.Names.{Name, find_name, names_in}
+use Rattle.p414_syntax.specs.Twice.{sorts}
 
 -- where a sort stands among the sorts
 abbrev pub place_of : Sort → ℕ

@@ -1,13 +1,13 @@
 // The names of a program, sort by sort, with the number of each.
 ghost use Rattle.std.specs.Prelude.{◌≡◌, false, option_copied, IfOk};
 ghost use Rattle.std.specs.List.{list_any};
-ghost use Rattle.p414_rules.specs.Names.{name_in, names_in, repeats};
-ghost use Rattle.p414_rules.specs.Twice.{sorts, repeats_in, declares_twice};
+ghost use Rattle.p414_syntax.specs.Names.{name_in, names_in, repeats};
+ghost use Rattle.p414_syntax.specs.Twice.{sorts, repeats_in, declares_twice};
 ghost use Rattle.p414_numbers.specs.Sorts.{place_of, names_for, names_by_sort, number_among};
 
 use crate::owned_names::OwnedNames;
 use p4x_bits::{OutOfMemory, Text};
-use p414_ast::{Decl, Sort};
+use p414_syntax::{Decl, Sort};
 use std::alloc::Global;
 use std::marker::Model;
 

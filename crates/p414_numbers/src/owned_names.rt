@@ -1,6 +1,6 @@
 // Names that are copied, in the order of their declarations.
 ghost use Rattle.std.specs.Prelude.{◌≡◌, false, [], ◌∷◌, ◌++◌, OnOk};
-ghost use Rattle.p414_rules.specs.Names.{find_name, has_name};
+ghost use Rattle.p414_syntax.specs.Names.{find_name, has_name};
 
 use indexmap::IndexSet;
 use p4x_bits::OutOfMemory;

@@ -1,6 +1,6 @@
 -- The names and numbers of a program of the form are such as it may have.
 use Rattle.std.proofs.Common.{◌≡◌, Bool, true, false, if◌then◌else◌, Option, Some, None, ◌∙◌, sym, ap, refl}
-use Rattle.p414_ast.specs.declared.syntax.Syntax14.{Syntax14}
+use Rattle.p414_syntax.specs.declared.syntax.Syntax14.{Syntax14}
 use Rattle.p414_one_table.specs.declared.program.OneTable14.{OneTable14}
 use Rattle.p414_one_table.specs.Form.{of_decls, judged, one_table_of}
 use Rattle.p414_one_table.specs.Programs.{is_one_table}

@@ -3,32 +3,32 @@
 use Rattle.std.specs.Prelude.{ℕ, ◌-◌, ◌^◌, min, Bool, true, false, ◌&&◌, if◌then◌else◌, List, [], ◌∷◌, map, Option, Some, None, codes}
 use Rattle.std.specs.List.{list_all}
 use Rattle.std.specs.Str.{bytes_eq}
-use Rattle.p414_ast.specs.declared.parts.Sign.{Sign}
-use Rattle.p414_ast.specs.declared.parts.Sign.TheVariants as sign
-use Rattle.p414_ast.specs.declared.parts.Number.{Number}
-use Rattle.p414_ast.specs.declared.parts.Ref.{Ref}
-use Rattle.p414_ast.specs.declared.headers.Field.{Field as DeclaredField}
-use Rattle.p414_ast.specs.declared.headers.FieldWidth.{FieldWidth}
-use Rattle.p414_ast.specs.declared.headers.FieldWidth.TheVariants as width
-use Rattle.p414_ast.specs.declared.headers.Header.{Header}
-use Rattle.p414_ast.specs.declared.parsers.Parser.{Parser}
-use Rattle.p414_ast.specs.declared.parsers.PStmt.{PStmt}
-use Rattle.p414_ast.specs.declared.parsers.PStmt.TheVariants as statement
-use Rattle.p414_ast.specs.declared.parsers.Return.{Return}
-use Rattle.p414_ast.specs.declared.parsers.Return.TheVariants as end
-use Rattle.p414_ast.specs.declared.actions.Arg.{Arg}
-use Rattle.p414_ast.specs.declared.actions.Arg.TheVariants as arg
-use Rattle.p414_ast.specs.declared.actions.Call.{Call}
-use Rattle.p414_ast.specs.declared.actions.Action.{Action}
-use Rattle.p414_ast.specs.declared.tables.TableAttr.{TableAttr}
-use Rattle.p414_ast.specs.declared.tables.TableAttr.TheVariants as attribute
-use Rattle.p414_ast.specs.declared.tables.Table.{Table}
-use Rattle.p414_ast.specs.declared.syntax.Decl.{Decl}
-use Rattle.p414_ast.specs.declared.syntax.Decl.TheVariants as decl
-use Rattle.p414_ast.specs.declared.syntax.Syntax14.{Syntax14}
-use Rattle.p414_ast.specs.Conditions.{is_bare}
-use Rattle.p414_ast.specs.Tree.{Stmt, no_statements, then as followed_by, apply}
-use Rattle.p414_ast.specs.Views.{HeaderTypeTree, ControlTree}
+use Rattle.p414_syntax.specs.declared.parts.Sign.{Sign}
+use Rattle.p414_syntax.specs.declared.parts.Sign.TheVariants as sign
+use Rattle.p414_syntax.specs.declared.parts.Number.{Number}
+use Rattle.p414_syntax.specs.declared.parts.Ref.{Ref}
+use Rattle.p414_syntax.specs.declared.headers.Field.{Field as DeclaredField}
+use Rattle.p414_syntax.specs.declared.headers.FieldWidth.{FieldWidth}
+use Rattle.p414_syntax.specs.declared.headers.FieldWidth.TheVariants as width
+use Rattle.p414_syntax.specs.declared.headers.Header.{Header}
+use Rattle.p414_syntax.specs.declared.parsers.Parser.{Parser}
+use Rattle.p414_syntax.specs.declared.parsers.PStmt.{PStmt}
+use Rattle.p414_syntax.specs.declared.parsers.PStmt.TheVariants as statement
+use Rattle.p414_syntax.specs.declared.parsers.Return.{Return}
+use Rattle.p414_syntax.specs.declared.parsers.Return.TheVariants as end
+use Rattle.p414_syntax.specs.declared.actions.Arg.{Arg}
+use Rattle.p414_syntax.specs.declared.actions.Arg.TheVariants as arg
+use Rattle.p414_syntax.specs.declared.actions.Call.{Call}
+use Rattle.p414_syntax.specs.declared.actions.Action.{Action}
+use Rattle.p414_syntax.specs.declared.tables.TableAttr.{TableAttr}
+use Rattle.p414_syntax.specs.declared.tables.TableAttr.TheVariants as attribute
+use Rattle.p414_syntax.specs.declared.tables.Table.{Table}
+use Rattle.p414_syntax.specs.declared.syntax.Decl.{Decl}
+use Rattle.p414_syntax.specs.declared.syntax.Decl.TheVariants as decl
+use Rattle.p414_syntax.specs.declared.syntax.Syntax14.{Syntax14}
+use Rattle.p414_syntax.specs.Conditions.{is_bare}
+use Rattle.p414_syntax.specs.Tree.{Stmt, no_statements, then as followed_by, apply}
+use Rattle.p414_syntax.specs.Views.{HeaderTypeTree, ControlTree}
 use Rattle.p414_one_table.specs.declared.program.Field.{Field}
 use Rattle.p414_one_table.specs.declared.program.OneTable14.{OneTable14}
 use Rattle.p414_one_table.specs.Programs.{is_one_table}

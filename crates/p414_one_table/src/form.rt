@@ -9,7 +9,7 @@ use crate::parts::{
 };
 use crate::program::OneTable14;
 use p4x_bits::{OutOfMemory, Text};
-use p414_ast::{Action, Control, Decl, Header, HeaderType, Parser, Syntax14, Table};
+use p414_syntax::{Action, Control, Decl, Header, HeaderType, Parser, Syntax14, Table};
 use std::alloc::Global;
 
 fn with_port(

@@ -1,12 +1,12 @@
 // The parts of a program of the form, each by itself.
 ghost use Rattle.std.specs.Prelude.{◌≡◌, map, IfOk};
 ghost use Rattle.std.specs.List.{list_all};
-ghost use Rattle.p414_ast.specs.Conditions.{is_bare};
+ghost use Rattle.p414_syntax.specs.Conditions.{is_bare};
 ghost use Rattle.p414_one_table.specs.Form as parts;
 
 use crate::program::Field;
 use p4x_bits::{OutOfMemory, Rows, Text};
-use p414_ast::{
+use p414_syntax::{
     Action, Arg, Call, Control, Field as DeclaredField, FieldWidth, Header, HeaderType, Inst,
     Number, PStmt, Parser, Ref, Return, Sign, StmtHead, StmtView, TableAttr,
 };

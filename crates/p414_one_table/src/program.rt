@@ -2,7 +2,7 @@
 use p4x_bits::{Rows, Text};
 
 /// A field of the header.
-#[derive(Debug, Drop)]
+#[derive(Drop)]
 pub struct Field {
     /// Its name.
     pub name: Text,
@@ -11,7 +11,6 @@ pub struct Field {
 }
 
 /// A P4_14 program of the one-table form, by the names and numbers that are free in it.
-#[derive(Debug, Drop)]
 pub struct OneTable14 {
     /// The fields of the header type, in order.
     pub fields: Rows<Field>,
@@ -23,4 +22,16 @@ pub struct OneTable14 {
     pub port: u64,
     /// The table.
     pub table: Text,
+}
+
+impl Drop for OneTable14 {
+    fn drop(self) {
+        let OneTable14 {
+            fields: _fields,
+            instance: _instance,
+            action: _action,
+            port: _port,
+            table: _table,
+        } = self;
+    }
 }

@@ -7,15 +7,15 @@ use Rattle.std.proofs.lemmas.Bool.{cases_eq, cases_lt, ne_eqb}
 use Rattle.std.proofs.lemmas.List.{get_or_past, get_or-replicate, get_or-set_same, get_or-set_other, length-map, length-replicate}
 use Rattle.std.proofs.lemmas.List.Quantifiers.{position-Some}
 use Rattle.digraph.specs.Graphs.{Among}
-use Rattle.p414_ast.specs.declared.actions.Action.{Action}
-use Rattle.p414_ast.specs.declared.actions.Arg.{Arg}
-use Rattle.p414_ast.specs.declared.actions.Arg.TheVariants as arg
-use Rattle.p414_ast.specs.declared.actions.Call.{Call}
-use Rattle.p414_ast.specs.declared.parts.Inst.{Inst}
-use Rattle.p414_ast.specs.declared.syntax.Decl.{Decl}
-use Rattle.p414_rules.specs.declared.place.ArgumentPlace.{ArgumentPlace}
-use Rattle.p414_rules.specs.Names.{Name, find_name}
-use Rattle.p414_rules.specs.Arguments.{Argument, number_argument, field_argument, parameter_argument, name_argument, Invocation, PlacedArgument, parameter_or_name, argument_of, invocation_of, invocations_of, action_number, wanted_of, placed, placed_in}
+use Rattle.p414_syntax.specs.declared.actions.Action.{Action}
+use Rattle.p414_syntax.specs.declared.actions.Arg.{Arg}
+use Rattle.p414_syntax.specs.declared.actions.Arg.TheVariants as arg
+use Rattle.p414_syntax.specs.declared.actions.Call.{Call}
+use Rattle.p414_syntax.specs.declared.parts.Inst.{Inst}
+use Rattle.p414_syntax.specs.declared.syntax.Decl.{Decl}
+use Rattle.p414_syntax.specs.declared.place.ArgumentPlace.{ArgumentPlace}
+use Rattle.p414_syntax.specs.Names.{Name, find_name}
+use Rattle.p414_syntax.specs.Arguments.{Argument, number_argument, field_argument, parameter_argument, name_argument, Invocation, PlacedArgument, parameter_or_name, argument_of, invocation_of, invocations_of, action_number, wanted_of, placed, placed_in}
 use Rattle.p414_action_check.proofs.Expanding.{called}
 use Rattle.p414_sem.specs.Signatures.{is_use_of, use_widths_from, wanted_at, use_width, use_widths, greatest}
 use Rattle.p414_parameter_widths.specs.internal.Noting.{asked_more, noted, noted_argument, noted_from, row_at, noted_by, noted_invocation, noted_calls, width_of}

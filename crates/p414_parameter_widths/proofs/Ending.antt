@@ -6,11 +6,11 @@ use Rattle.std.proofs.lemmas.List.{ext_get_or, get_or_past, take_all, length-map
 use Rattle.std.proofs.lemmas.Option.{slice_get_past}
 use Rattle.digraph.specs.Graphs.{Among}
 use Rattle.digraph.specs.Components.{Condensation, AreComponents}
-use Rattle.p414_ast.specs.declared.actions.Action.{Action}
-use Rattle.p414_ast.specs.declared.syntax.Decl.{Decl}
-use Rattle.p414_rules.specs.Names.{Name}
-use Rattle.p414_rules.specs.Arguments.{actions, action_number}
-use Rattle.p414_rules.specs.ActionExpansion.{called_in}
+use Rattle.p414_syntax.specs.declared.actions.Action.{Action}
+use Rattle.p414_syntax.specs.declared.syntax.Decl.{Decl}
+use Rattle.p414_syntax.specs.Names.{Name}
+use Rattle.p414_syntax.specs.Arguments.{actions, action_number}
+use Rattle.p414_syntax.specs.ActionExpansion.{called_in}
 use Rattle.p414_list_check.proofs.Expanding.{get_within}
 use Rattle.p414_action_check.specs.internal.Counted.{action_graph}
 use Rattle.p414_sem.specs.Signatures.{parameter_width, widths_from, parameter_widths}

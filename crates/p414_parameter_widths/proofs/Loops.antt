@@ -1,10 +1,10 @@
 -- Turns of the loop that counts parameters.
 use Rattle.std.proofs.Common.{◌≡◌, ℕ, ◌+◌, ◌<◌, List, ◌++◌, length, get_or, drop, map, option_to_list, Option, Some, None, refl, sym, ap, ◌∙◌, append_assoc}
 use Rattle.std.specs.List.{cons_option}
-use Rattle.p414_ast.specs.declared.actions.Action.{Action}
-use Rattle.p414_ast.specs.declared.syntax.Decl.{Decl}
+use Rattle.p414_syntax.specs.declared.actions.Action.{Action}
+use Rattle.p414_syntax.specs.declared.syntax.Decl.{Decl}
 use Rattle.p414_list_check.proofs.Loops.{next_items}
-use Rattle.p414_rules.specs.Arguments.{action_in, actions}
+use Rattle.p414_syntax.specs.Arguments.{action_in, actions}
 
 kept_by : {B : Type 0} (f : Action → B) (o : Option Action) (rest : List Action) → map f (cons_option o rest) ≡ map f (option_to_list o) ++ map f rest
 kept_by f None rest = refl

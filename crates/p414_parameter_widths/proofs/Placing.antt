@@ -3,9 +3,9 @@ use Rattle.std.proofs.Common.{◌≡◌, ⊎_elim, ℕ, ◌+◌, ◌<◌, ◌≤
 use Rattle.std.proofs.lemmas.List.{drop_more, drop_all}
 use Rattle.std.proofs.lemmas.Bool.{cases_lt}
 use Rattle.std.proofs.lemmas.Option.{slice_get-get_or, slice_get_past}
-use Rattle.p414_rules.specs.declared.place.ArgumentPlace.{ArgumentPlace}
-use Rattle.p414_rules.specs.declared.place.ArgumentPlace.TheVariants as place
-use Rattle.p414_rules.specs.Arguments.{Argument, PlacedArgument, placed}
+use Rattle.p414_syntax.specs.declared.place.ArgumentPlace.{ArgumentPlace}
+use Rattle.p414_syntax.specs.declared.place.ArgumentPlace.TheVariants as place
+use Rattle.p414_syntax.specs.Arguments.{Argument, PlacedArgument, placed}
 use Rattle.p414_calls.specs.declared.argument.Argument as kept
 use Rattle.p414_calls.specs.Shown.{shown_argument}
 use Rattle.p414_parameter_widths.specs.internal.Noting.{placed_with}

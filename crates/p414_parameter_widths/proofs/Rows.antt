@@ -1,9 +1,9 @@
 -- The parameters of an action, as bits are asked of them.
 use Rattle.std.proofs.Common.{◌≡◌, ℕ, ◌<◌, ◌≤◌, ◌+◌, Bool, List, [], ◌∷◌, length, get_or, set, Option, Some, None, refl, sym, ap, ◌∙◌, length-set}
 use Rattle.std.proofs.lemmas.List.{get_or_default, set_past}
-use Rattle.p414_ast.specs.declared.syntax.Decl.{Decl}
-use Rattle.p414_rules.specs.declared.place.ArgumentPlace.{ArgumentPlace}
-use Rattle.p414_rules.specs.Arguments.{Argument, number_argument, field_argument, parameter_argument, name_argument, Invocation, PlacedArgument, placed_in, action_number}
+use Rattle.p414_syntax.specs.declared.syntax.Decl.{Decl}
+use Rattle.p414_syntax.specs.declared.place.ArgumentPlace.{ArgumentPlace}
+use Rattle.p414_syntax.specs.Arguments.{Argument, number_argument, field_argument, parameter_argument, name_argument, Invocation, PlacedArgument, placed_in, action_number}
 use Rattle.p414_parameter_widths.specs.internal.Noting.{asked_more, noted, noted_argument, noted_from, noted_in_primitive, primitive_bits, noted_by, noted_invocation, noted_calls}
 
 pub noted_within : (row : List (Option ℕ)) (p bits n : ℕ) (d : Option ℕ) → p < length row → n ≡ asked_more (get_or row p d) bits → set row p (Some n) ≡ noted row p bits

@@ -8,11 +8,11 @@ use Rattle.digraph.specs.Components.{Condensation, AreComponents}
 use Rattle.digraph.proofs.Listing.{among_append}
 use Rattle.digraph.proofs.Members.{among_place}
 use Rattle.digraph.proofs.Sizing.{comes_before}
-use Rattle.p414_ast.specs.declared.actions.Action.{Action}
-use Rattle.p414_ast.specs.declared.syntax.Decl.{Decl}
-use Rattle.p414_rules.specs.Arguments.{Invocation, invocations_of, actions}
-use Rattle.p414_rules.specs.ActionExpansion.{called_in}
-use Rattle.p414_rules.specs.Actions.{ActionCallsItself}
+use Rattle.p414_syntax.specs.declared.actions.Action.{Action}
+use Rattle.p414_syntax.specs.declared.syntax.Decl.{Decl}
+use Rattle.p414_syntax.specs.Arguments.{Invocation, invocations_of, actions}
+use Rattle.p414_syntax.specs.ActionExpansion.{called_in}
+use Rattle.p414_syntax.specs.Actions.{ActionCallsItself}
 use Rattle.p414_list_check.proofs.Expanding.{get_within, at_row}
 use Rattle.p414_action_check.specs.internal.Counted.{action_graph}
 use Rattle.p414_action_check.proofs.Expanding.{called}

@@ -1,6 +1,6 @@
 -- The widths of the parameters of all actions (P4_14 1.0.5, "Actions"; how wide a parameter is, is this project's own).
 use Rattle.std.specs.Prelude.{◌≡◌, ℕ, List, [], slice_index_or}
-use Rattle.p414_ast.specs.declared.syntax.Decl.{Decl}
+use Rattle.p414_syntax.specs.declared.syntax.Decl.{Decl}
 use Rattle.p414_sem.specs.Signatures.{parameter_widths}
 
 -- these are the widths of each action's parameters, by the numbers of the actions

@@ -1,6 +1,6 @@
 // The arguments of one call with what is wanted of each.
 ghost use Rattle.std.specs.Prelude.{◌≡◌, ◌++◌, map, IfOk, OnOk};
-ghost use Rattle.p414_rules.specs.Arguments.{placed, placed_in};
+ghost use Rattle.p414_syntax.specs.Arguments.{placed, placed_in};
 ghost use Rattle.p414_calls.specs.Shown.{shown_argument};
 ghost use Rattle.p414_call_check.specs.Shown.{shown_wanted, shown_placed};
 ghost use Rattle.p414_parameter_widths.specs.internal.Noting.{placed_with};
@@ -9,7 +9,7 @@ use p4x_bits::OutOfMemory;
 use p414_call_check::{PlacedArgument, Wanted, wanted_of};
 use p414_calls::{Argument, Invocation};
 use p414_names::Names14;
-use p414_rules::ArgumentPlace;
+use p414_syntax::ArgumentPlace;
 use std::alloc::Global;
 
 /// Puts an argument last, if something is wanted of it.

@@ -10,7 +10,7 @@ use p4x_bits::{Numbers, OutOfMemory};
 use p414_call_check::PlacedArgument;
 use p414_calls::{Argument, Invocation, action_number};
 use p414_names::Names14;
-use p414_rules::ArgumentPlace;
+use p414_syntax::ArgumentPlace;
 use std::alloc::Global;
 
 /// The bits of a parameter of which nothing is asked.

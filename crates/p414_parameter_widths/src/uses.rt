@@ -1,19 +1,18 @@
 // How many bits a primitive asks of what stands for its arguments.
 ghost use Rattle.std.specs.Prelude.{◌≡◌, filter_map, map};
-ghost use Rattle.p414_rules.specs.declared.place.ArgumentPlace.TheVariants as place;
-ghost use Rattle.p414_rules.specs.Names.{has_name};
-ghost use Rattle.p414_rules.specs.Arguments.{placed_argument};
+ghost use Rattle.p414_syntax.specs.declared.place.ArgumentPlace.TheVariants as place;
+ghost use Rattle.p414_syntax.specs.Names.{has_name};
+ghost use Rattle.p414_syntax.specs.Arguments.{placed_argument};
 ghost use Rattle.p414_calls.specs.Shown.{shown_argument};
 ghost use Rattle.p414_call_check.specs.Shown.{shown_placed};
 ghost use Rattle.p414_sem.specs.Slots.{bits_of_ref};
 ghost use Rattle.p414_sem.specs.Signatures.{indexed, first_of, is_unsigned, register_in, register_width, register_bits, target_bits};
 ghost use Rattle.p414_parameter_widths.specs.internal.Noting.{other_bits};
 
-use p414_ast::{Decl, Literal, Ref, Sort};
 use p414_call_check::PlacedArgument;
 use p414_calls::Argument;
 use p414_names::{Names14, is_among};
-use p414_rules::ArgumentPlace;
+use p414_syntax::{ArgumentPlace, Decl, Literal, Ref, Sort};
 
 /// The primitives whose arguments of kind `Unsigned` are an index or a session.
 const INDEXED: [&[u8]; 8] = [

@@ -2,8 +2,8 @@
 ghost use Rattle.std.specs.Prelude.{◌≡◌, [], map, option_to_list, replicate, slice_index, slice_index_or, IfOk, OnOk, ◌++◌};
 ghost use Rattle.std.specs.Option.{option_map_or};
 ghost use Rattle.digraph.specs.Components.{AreComponents};
-ghost use Rattle.p414_rules.specs.Actions.{ActionCallsItself};
-ghost use Rattle.p414_rules.specs.Arguments.{action_in, action_number, actions, invocations_of};
+ghost use Rattle.p414_syntax.specs.Actions.{ActionCallsItself};
+ghost use Rattle.p414_syntax.specs.Arguments.{action_in, action_number, actions, invocations_of};
 ghost use Rattle.p414_action_check.specs.internal.Counted.{action_graph};
 ghost use Rattle.p414_sem.specs.Signatures.{parameter_widths};
 ghost use Rattle.p414_parameter_widths.specs.Widths.{AreWidths};
@@ -12,9 +12,9 @@ ghost use Rattle.p414_parameter_widths.specs.internal.Noting.{noted_calls, param
 use crate::row::{blank_row, note_calls, row_at, widths_of};
 use digraph::Components;
 use p4x_bits::{Numbers, OutOfMemory};
-use p414_ast::Decl;
 use p414_calls::{ActionCalls, action_graph, action_number, calls_of};
 use p414_names::Names14;
+use p414_syntax::Decl;
 use std::alloc::Global;
 
 /// Puts the number of parameters last, if a declaration is an action.

@@ -10,34 +10,34 @@ use Rattle.std.proofs.lemmas.Bool.Decides.{nat_tests}
 use Rattle.std.proofs.lemmas.List.Elements.{All-cons, All-nil, All-append}
 use Rattle.std.proofs.lemmas.List.Folds.{list_any-append}
 use Rattle.std.proofs.lemmas.List.Sums.{sum_by-cons}
-use Rattle.p414_lexemes.specs.declared.lexeme.Literal.{Literal}
-use Rattle.p414_ast.specs.declared.headers.Initial.{Initial}
-use Rattle.p414_ast.specs.declared.parts.Index.{Index}
-use Rattle.p414_ast.specs.declared.parts.Index.TheVariants as index
-use Rattle.p414_ast.specs.declared.parts.Inst.{Inst}
-use Rattle.p414_ast.specs.declared.parsers.Parser.{Parser}
-use Rattle.p414_ast.specs.declared.parsers.PStmt.{PStmt}
-use Rattle.p414_ast.specs.declared.parsers.PStmt.TheVariants as pstmt
-use Rattle.p414_ast.specs.declared.parsers.PValue.{PValue}
-use Rattle.p414_ast.specs.declared.parsers.PValue.TheVariants as pvalue
-use Rattle.p414_ast.specs.declared.parsers.Return.{Return}
-use Rattle.p414_ast.specs.declared.parsers.Return.TheVariants as end_of
-use Rattle.p414_ast.specs.declared.syntax.Decl.{Decl}
-use Rattle.p414_ast.specs.declared.syntax.Decl.TheVariants as decl
-use Rattle.p414_ast.specs.declared.syntax.Sort.TheVariants as sort
-use Rattle.p414_ast.specs.declared.syntax.Syntax14.{Syntax14}
-use Rattle.p414_ast.specs.Attributes.{initials_of}
-use Rattle.p414_rules.specs.Names.{Name, number_of, numbered, names_in}
-use Rattle.p414_rules.specs.Cells.{literal_value}
-use Rattle.p414_rules.specs.Primitives.{is_standard}
-use Rattle.p414_rules.specs.Fields.{is_instance, size_in, stack_size}
-use Rattle.p414_rules.specs.ParserGraph.{instance_number, states}
-use Rattle.p414_rules.specs.Selects.{joins_too_much, state_joins_too_much, value_bits, has_bad_select}
-use Rattle.p414_rules.specs.Stacks.{has_bad_stack, is_misplaced, is_bad_extract}
-use Rattle.p414_rules.specs.Twice.{declares_twice}
-use Rattle.p414_rules.specs.Uses.{of_extracted, uses_of, uses_of_statements, uses_of_statement, uses_of_return, last_behind, last_of}
-use Rattle.p414_rules.specs.Widths.{looks_too_far, statement_looks_too_far, return_looks_too_far, state_looks_too_far, has_bad_layout}
-use Rattle.p414_rules.specs.Breaks.{IsBroken}
+use Rattle.p414_syntax.specs.declared.lexeme.Literal.{Literal}
+use Rattle.p414_syntax.specs.declared.headers.Initial.{Initial}
+use Rattle.p414_syntax.specs.declared.parts.Index.{Index}
+use Rattle.p414_syntax.specs.declared.parts.Index.TheVariants as index
+use Rattle.p414_syntax.specs.declared.parts.Inst.{Inst}
+use Rattle.p414_syntax.specs.declared.parsers.Parser.{Parser}
+use Rattle.p414_syntax.specs.declared.parsers.PStmt.{PStmt}
+use Rattle.p414_syntax.specs.declared.parsers.PStmt.TheVariants as pstmt
+use Rattle.p414_syntax.specs.declared.parsers.PValue.{PValue}
+use Rattle.p414_syntax.specs.declared.parsers.PValue.TheVariants as pvalue
+use Rattle.p414_syntax.specs.declared.parsers.Return.{Return}
+use Rattle.p414_syntax.specs.declared.parsers.Return.TheVariants as end_of
+use Rattle.p414_syntax.specs.declared.syntax.Decl.{Decl}
+use Rattle.p414_syntax.specs.declared.syntax.Decl.TheVariants as decl
+use Rattle.p414_syntax.specs.declared.syntax.Sort.TheVariants as sort
+use Rattle.p414_syntax.specs.declared.syntax.Syntax14.{Syntax14}
+use Rattle.p414_syntax.specs.Attributes.{initials_of}
+use Rattle.p414_syntax.specs.Names.{Name, number_of, numbered, names_in}
+use Rattle.p414_syntax.specs.Cells.{literal_value}
+use Rattle.p414_syntax.specs.Primitives.{is_standard}
+use Rattle.p414_syntax.specs.Fields.{is_instance, size_in, stack_size}
+use Rattle.p414_syntax.specs.ParserGraph.{instance_number, states}
+use Rattle.p414_syntax.specs.Selects.{joins_too_much, state_joins_too_much, value_bits, has_bad_select}
+use Rattle.p414_syntax.specs.Stacks.{has_bad_stack, is_misplaced, is_bad_extract}
+use Rattle.p414_syntax.specs.Twice.{declares_twice}
+use Rattle.p414_syntax.specs.Uses.{of_extracted, uses_of, uses_of_statements, uses_of_statement, uses_of_return, last_behind, last_of}
+use Rattle.p414_syntax.specs.Widths.{looks_too_far, statement_looks_too_far, return_looks_too_far, state_looks_too_far, has_bad_layout}
+use Rattle.p414_syntax.specs.Breaks.{IsBroken}
 use Rattle.p414_body_check.specs.Answers.{IsAccepted}
 use Rattle.p414_sem.specs.Wholes.{whole, wrapped}
 use Rattle.p414_sem.specs.Slots.{bits_of_ref}

@@ -10,18 +10,18 @@ use Rattle.std.proofs.lemmas.List.Folds.{list_any_at}
 use Rattle.std.proofs.lemmas.List.Quantifiers.{position-Some}
 use Rattle.std.proofs.lemmas.Option.{slice_get-map, unwrap_or-slice_get}
 use Rattle.std.proofs.lemmas.Slice.Eq.{bytes_eq-Decides}
-use Rattle.p414_ast.specs.declared.headers.Field.{Field}
-use Rattle.p414_ast.specs.declared.parts.Ref.{Ref}
-use Rattle.p414_ast.specs.declared.syntax.Decl.{Decl}
-use Rattle.p414_ast.specs.declared.syntax.Decl.TheVariants as decl
-use Rattle.p414_ast.specs.declared.syntax.Sort.TheVariants as sort
-use Rattle.p414_ast.specs.Views.{HeaderTypeTree}
-use Rattle.p414_rules.specs.Names.{Name, declared_in, find_name, names_in, number_of, numbered, field_name, has_name}
-use Rattle.p414_rules.specs.Primitives.{is_standard, left_out_fields, standard_width}
-use Rattle.p414_rules.specs.Fields.{type_of, type_name_in, instance_type, field_bits, width_in}
-use Rattle.p414_rules.specs.Expansion.{type_fields}
-use Rattle.p414_rules.specs.ParserGraph.{instance_number}
-use Rattle.p414_rules.specs.Twice.{declares_twice, repeats_in, is_reserved, sorts}
+use Rattle.p414_syntax.specs.declared.headers.Field.{Field}
+use Rattle.p414_syntax.specs.declared.parts.Ref.{Ref}
+use Rattle.p414_syntax.specs.declared.syntax.Decl.{Decl}
+use Rattle.p414_syntax.specs.declared.syntax.Decl.TheVariants as decl
+use Rattle.p414_syntax.specs.declared.syntax.Sort.TheVariants as sort
+use Rattle.p414_syntax.specs.Views.{HeaderTypeTree}
+use Rattle.p414_syntax.specs.Names.{Name, declared_in, find_name, names_in, number_of, numbered, field_name, has_name}
+use Rattle.p414_syntax.specs.Primitives.{is_standard, left_out_fields, standard_width}
+use Rattle.p414_syntax.specs.Fields.{type_of, type_name_in, instance_type, field_bits, width_in}
+use Rattle.p414_syntax.specs.Expansion.{type_fields}
+use Rattle.p414_syntax.specs.ParserGraph.{instance_number}
+use Rattle.p414_syntax.specs.Twice.{declares_twice, repeats_in, is_reserved, sorts}
 use Rattle.p414_sem.specs.declared.standard.Standard.{Standard}
 use Rattle.p414_sem.specs.declared.standard.Standard.TheVariants.{IngressPort, EgressSpec, EgressPort, PacketLength, InstanceType}
 use Rattle.p414_sem.specs.Slots.{Slot, standard, slot_of, declared_slot, standard_field, field_number, bits_of_ref}

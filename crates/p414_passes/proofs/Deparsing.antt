@@ -4,10 +4,10 @@ use Rattle.std.specs.Prelude.{flat_map, MatchBool}
 use Rattle.std.specs.Option.{option_map_or}
 use Rattle.p4x_bits.specs.BitLists.{num, bits, octet_bits, IsOctets}
 use Rattle.p4x_bits.proofs.BitLists.{octet_is}
-use Rattle.p414_ast.specs.declared.syntax.Decl.{Decl}
-use Rattle.p414_ast.specs.declared.syntax.Decl.TheVariants as decl
-use Rattle.p414_ast.specs.declared.syntax.Sort.TheVariants as sort
-use Rattle.p414_rules.specs.Names.{declared_in}
+use Rattle.p414_syntax.specs.declared.syntax.Decl.{Decl}
+use Rattle.p414_syntax.specs.declared.syntax.Decl.TheVariants as decl
+use Rattle.p414_syntax.specs.declared.syntax.Sort.TheVariants as sort
+use Rattle.p414_syntax.specs.Names.{declared_in}
 use Rattle.p414_sem.specs.Expanded.{Expanded}
 use Rattle.p414_sem.specs.Packing.{bits_in, octets_in}
 use Rattle.p414_sem.specs.Passes.{deparsed, header_octets, octets_at, octets_of}

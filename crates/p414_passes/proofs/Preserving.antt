@@ -3,17 +3,17 @@ use Rattle.std.proofs.Common.{◌≡◌, ℕ, zero, suc, ◌≤◌, List, [], �
 use Rattle.std.specs.Option.{option_map_or}
 use Rattle.std.specs.Prelude.{fold}
 use Rattle.std.proofs.lemmas.List.{get_or_past, length-map}
-use Rattle.p414_ast.specs.declared.calculations.FieldList.{FieldList}
-use Rattle.p414_ast.specs.declared.calculations.Item.{Item}
-use Rattle.p414_ast.specs.declared.calculations.Item.TheVariants as item
-use Rattle.p414_ast.specs.declared.syntax.Decl.{Decl}
-use Rattle.p414_ast.specs.declared.syntax.Decl.TheVariants as decl
-use Rattle.p414_ast.specs.declared.syntax.Sort.TheVariants as sort
-use Rattle.p414_ast.specs.Views.{HeaderTypeTree}
-use Rattle.p414_rules.specs.Expansion.{lists, items_in}
-use Rattle.p414_rules.specs.Fields.{field_bits, type_of}
-use Rattle.p414_rules.specs.Names.{Name, declared_in}
-use Rattle.p414_rules.specs.Totals.{field_count, fields_of_type}
+use Rattle.p414_syntax.specs.declared.calculations.FieldList.{FieldList}
+use Rattle.p414_syntax.specs.declared.calculations.Item.{Item}
+use Rattle.p414_syntax.specs.declared.calculations.Item.TheVariants as item
+use Rattle.p414_syntax.specs.declared.syntax.Decl.{Decl}
+use Rattle.p414_syntax.specs.declared.syntax.Decl.TheVariants as decl
+use Rattle.p414_syntax.specs.declared.syntax.Sort.TheVariants as sort
+use Rattle.p414_syntax.specs.Views.{HeaderTypeTree}
+use Rattle.p414_syntax.specs.Expansion.{lists, items_in}
+use Rattle.p414_syntax.specs.Fields.{field_bits, type_of}
+use Rattle.p414_syntax.specs.Names.{Name, declared_in}
+use Rattle.p414_syntax.specs.Totals.{field_count, fields_of_type}
 use Rattle.p414_sem.specs.Expanded.{Expanded, IsExpanded, items_in_list}
 use Rattle.p414_sem.specs.Packing.{type_widths, widths_of_type}
 use Rattle.p414_sem.specs.Passes.{Preserved, none_in, none_preserved, preserved_by, preserving_item, preserving_slot}

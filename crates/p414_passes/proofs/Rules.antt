@@ -1,10 +1,10 @@
 -- A program that breaks no rule has a state `start` and an order of headers.
 use Rattle.std.proofs.Common.{◌≡◌, ℕ, Bool, true, false, ◌||◌, List, refl, sym, subst}
 use Rattle.std.specs.Bool.{IsTrue}
-use Rattle.p414_ast.specs.declared.syntax.Syntax14.{Syntax14}
-use Rattle.p414_rules.specs.Breaks.{IsBroken}
-use Rattle.p414_rules.specs.ParserGraph.{HasNoOrder, Order}
-use Rattle.p414_rules.specs.Unknown.{lacks_start, lacks_ingress}
+use Rattle.p414_syntax.specs.declared.syntax.Syntax14.{Syntax14}
+use Rattle.p414_syntax.specs.Breaks.{IsBroken}
+use Rattle.p414_syntax.specs.ParserGraph.{HasNoOrder, Order}
+use Rattle.p414_syntax.specs.Unknown.{lacks_start, lacks_ingress}
 use Rattle.p414_body_check.specs.Answers.{IsAccepted}
 
 no_second : (a b c : Bool) → (IsTrue (a || (b || c)) → ⊥) → b ≡ false

@@ -1,7 +1,7 @@
 // An item as its pass begins.
 ghost use Rattle.std.specs.Prelude.{◌≡◌, ℕ, List, ◌^◌, ◌<◌, length, slice_index, IfOk, OnOk};
 ghost use Rattle.state_store.specs.Ports.{IsPort};
-ghost use Rattle.p414_ast.specs.declared.syntax.Decl.{Decl};
+ghost use Rattle.p414_syntax.specs.declared.syntax.Decl.{Decl};
 ghost use Rattle.p414_layout.specs.Shapes.{layout_of, shape_at};
 ghost use Rattle.p414_sem.specs.State.{new_state};
 ghost use Rattle.p414_sem.specs.Passes.{with_preserved};

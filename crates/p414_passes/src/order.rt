@@ -1,12 +1,12 @@
 // The order of a program's headers.
 ghost use Rattle.std.specs.Prelude.{IfOk};
 ghost use Rattle.p414_body_check.specs.Answers.{IsAccepted};
-ghost use Rattle.p414_rules.specs.ParserGraph.{Order};
+ghost use Rattle.p414_syntax.specs.ParserGraph.{Order};
 
 use deparse_order::OrderFault;
 use p4x_bits::{OutOfMemory, Rows};
-use p414_ast::Syntax14;
 use p414_body_check::Program14;
+use p414_syntax::Syntax14;
 use parse_graph::graph;
 use std::alloc::Global;
 

@@ -2,7 +2,7 @@
 ghost use Rattle.std.specs.Prelude.{◌≡◌, List, [], false, IfOk, OnOk};
 ghost use Rattle.state_store.specs.Ports.{IsPort};
 ghost use Rattle.p414_sem.specs.State.{without_requests};
-ghost use Rattle.p414_ast.specs.declared.syntax.Decl.{Decl};
+ghost use Rattle.p414_syntax.specs.declared.syntax.Decl.{Decl};
 ghost use Rattle.p414_layout.specs.Shapes.{layout_of};
 ghost use Rattle.p414_sem.specs.Passes.{cloned, egress_begins};
 ghost use Rattle.p414_state.specs.Packets.{with_state};

@@ -6,7 +6,7 @@ use Rattle.fabric.specs.declared.items.IngressNext.{IngressNext}
 use Rattle.fabric.specs.declared.items.IngressNext.TheVariants as after_ingress
 use Rattle.fabric.specs.declared.items.EgressNext.{EgressNext}
 use Rattle.fabric.specs.declared.items.EgressNext.TheVariants as after_egress
-use Rattle.p414_ast.specs.declared.syntax.Decl.{Decl}
+use Rattle.p414_syntax.specs.declared.syntax.Decl.{Decl}
 use Rattle.p414_layout.specs.declared.shape.Shape.{Shape}
 use Rattle.p414_layout.specs.Shapes.{layout_of}
 use Rattle.p414_sem.specs.Expanded.{Expanded}

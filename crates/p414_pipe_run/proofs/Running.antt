@@ -9,8 +9,8 @@ use Rattle.fabric.specs.Twins.{AlikeWhole}
 use Rattle.match_core.specs.declared.entries.Entries.{Entries}
 use Rattle.match_core.specs.declared.signatures.Signature.{Signature}
 use Rattle.match_core.specs.Stores.{first_store}
-use Rattle.p414_ast.specs.declared.syntax.Decl.{Decl}
-use Rattle.p414_ast.specs.declared.syntax.Rule14.{Rule14}
+use Rattle.p414_syntax.specs.declared.syntax.Decl.{Decl}
+use Rattle.p414_syntax.specs.declared.syntax.Rule14.{Rule14}
 use Rattle.p414_laws.proofs.Whole.{comes_to_one_thing}
 use Rattle.p414_ready_tables.specs.Loaded.{Loaded, setting}
 use Rattle.p414_sem.specs.Controls.{Setting}

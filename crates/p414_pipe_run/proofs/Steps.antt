@@ -3,8 +3,8 @@ use Rattle.std.proofs.Common.{◌≡◌, ℕ, Bool, false, List, Option, refl, s
 use Rattle.state_store.specs.State.{Contents}
 use Rattle.p414_act_run.specs.declared.calculations.Calculations.{Calculations}
 use Rattle.p414_act_run.specs.Sums.{sums_in}
-use Rattle.p414_ast.specs.declared.syntax.Decl.{Decl}
-use Rattle.p414_ast.specs.declared.syntax.Rule14.{Rule14}
+use Rattle.p414_syntax.specs.declared.syntax.Decl.{Decl}
+use Rattle.p414_syntax.specs.declared.syntax.Rule14.{Rule14}
 use Rattle.match_core.specs.declared.entries.Entries.{Entries}
 use Rattle.p414_calculated_fields.specs.declared.rows.CalculatedRow.{CalculatedRow}
 use Rattle.p414_calculated_fields.specs.Meaning.{MeansFields}
@@ -23,13 +23,13 @@ use Rattle.p414_passes.specs.Leaving.{AreWhole, leaving}
 use Rattle.p414_ready_actions.specs.Meaning.{AreSums}
 use Rattle.p414_ready_parser.specs.declared.parser.ReadyParser.{ReadyParser}
 use Rattle.p414_ready_parser.specs.Meaning.{Means}
-use Rattle.p414_ast.specs.Tree.{Stmt}
+use Rattle.p414_syntax.specs.Tree.{Stmt}
 use Rattle.match_core.specs.Stores.{shapes_of}
 use Rattle.p414_ready_tables.specs.Loaded.{Loaded, setting}
 use Rattle.p414_sem.specs.Controls.{control_run}
 use Rattle.p414_sem.specs.Signatures.{signature14}
-use Rattle.p414_rules.specs.Breaks.{BreaksNone, program_rules}
-use Rattle.p414_rules.specs.ParserGraph.{Order}
+use Rattle.p414_syntax.specs.Breaks.{BreaksNone, program_rules}
+use Rattle.p414_syntax.specs.ParserGraph.{Order}
 use Rattle.p414_sem.specs.CalculatedFields.{fails_verification, updated}
 use Rattle.p414_sem.specs.Effects.{Moment}
 use Rattle.p414_sem.specs.Expanded.{Expanded, IsExpanded}

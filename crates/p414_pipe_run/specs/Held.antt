@@ -1,6 +1,6 @@
 -- What is held of a packet between ingress and egress (P4_14 1.0.5, "Packet Processing and Control Flow").
 use Rattle.std.specs.Prelude.{◌≡◌, List}
-use Rattle.p414_ast.specs.declared.syntax.Decl.{Decl}
+use Rattle.p414_syntax.specs.declared.syntax.Decl.{Decl}
 use Rattle.p414_layout.specs.Shapes.{layout_of}
 use Rattle.p414_sem.specs.Passes.{Held}
 use Rattle.p414_pipe_run.specs.declared.held.Held14.{Held14}

@@ -6,7 +6,7 @@ use Rattle.fabric.specs.declared.items.IngressNext.TheVariants as ingress
 use Rattle.fabric.specs.declared.items.EgressEnd.{EgressEnd}
 use Rattle.fabric.specs.Fabric.{Machine}
 use Rattle.fabric.specs.Owned.{Own}
-use Rattle.p414_ast.specs.declared.syntax.Decl.{Decl}
+use Rattle.p414_syntax.specs.declared.syntax.Decl.{Decl}
 use Rattle.p414_layout.specs.Shapes.{layout_of}
 use Rattle.p414_sem.specs.Controls.{Setting}
 use Rattle.p414_sem.specs.Passes.{Preserved, Held, Ended, none_preserved, ingress14, reparse14, egress14}

@@ -1,7 +1,7 @@
 // How ingress and egress end.
 ghost use Rattle.std.specs.Prelude.{◌≡◌, List, IfOk, OnOk, option_map};
 ghost use Rattle.fabric.specs.Owned.{IsOwnClone, IsOwnEgress, IsOwnEgressNext, IsOwnIngress, IsOwnIngressNext};
-ghost use Rattle.p414_ast.specs.declared.syntax.Decl.{Decl};
+ghost use Rattle.p414_syntax.specs.declared.syntax.Decl.{Decl};
 ghost use Rattle.p414_layout.specs.Shapes.{layout_of};
 ghost use Rattle.p414_sem.specs.Passes.{asked_clone, asked_egress_clone, leaves, next_after};
 ghost use Rattle.p414_passes.specs.Kept.{FitsKept};

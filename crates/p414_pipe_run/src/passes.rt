@@ -29,7 +29,6 @@ use std::marker::Model;
 /// The passes of a program's packets (P4_14 1.0.5, "Packet Processing and Control Flow"): parsing, verification and ingress; parsing
 /// alone of a clone; egress, updates and deparsing. They keep the counters, registers and meters. Contracts see the program with its
 /// entries and rule, the store, and the applications of tables in the last call.
-#[derive(Drop)]
 pub struct Passes14<'r, 'e> {
     alloc: Global,
     ready: &'r ReadyProgram14<'e>,
@@ -42,9 +41,23 @@ pub struct Passes14<'r, 'e> {
     spare: Option<State14>,
 }
 
+impl Drop for Passes14<'_, '_> {
+    fn drop(self) {
+        let Passes14 {
+            alloc: _alloc,
+            ready: _ready,
+            stack: _stack,
+            store: _store,
+            events: _events,
+            usable: _usable,
+            spare: _spare,
+        } = self;
+    }
+}
+
 impl<'r, 'e> Model for Passes14<'r, 'e> {
     ghost use Rattle.std.specs.Coded.{codes};
-    ghost use Rattle.p414_ast.specs.contracts.syntax.Decl as declaration;
+    ghost use Rattle.p414_syntax.specs.contracts.syntax.Decl as declaration;
     ghost use Rattle.p414_pipe_run.specs.Prepared.{Running};
     ghost use Rattle.p414_pipe_run.specs.internal.Kept.{AreKept};
 
@@ -85,7 +98,16 @@ impl<'r, 'e> Passes14<'r, 'e> {
     pub fn into_store(self) -> Store
         ensures { result ≡ self.entry.between.store }
     {
-        self.store
+        let Passes14 {
+            alloc: _alloc,
+            ready: _ready,
+            stack: _stack,
+            store,
+            events: _events,
+            usable: _usable,
+            spare: _spare,
+        } = self;
+        store
     }
 }
 

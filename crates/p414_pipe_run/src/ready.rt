@@ -22,7 +22,6 @@ use fabric::Item;
 use match_core::{Entries, Signature};
 use p4x_bits::{Octets, OutOfMemory, Rows};
 use p414_act_run::{Calculations, calculations14};
-use p414_ast::Rule14;
 use p414_body_check::Program14;
 use p414_calculated_fields::{CalculatedFields, calculated_fields14};
 use p414_control_run::{ControlStack, ReadyPipelines, ready_pipelines};
@@ -34,13 +33,13 @@ use p414_passes::{
 };
 use p414_ready_parser::ReadyParser;
 use p414_state::{State14, layout14};
+use p414_syntax::Rule14;
 use state_store::Store;
 use std::alloc::Global;
 use std::marker::Model;
 
 /// A program with what fills its tables, under a rule, made ready to run packets: a packet's run looks up no name. Contracts see the
 /// declarations, the rule, the entries, and the order in which headers leave.
-#[derive(Drop)]
 pub struct ReadyProgram14<'r> {
     pipelines: ReadyPipelines<'r>,
     parser: ReadyParser,
@@ -51,9 +50,23 @@ pub struct ReadyProgram14<'r> {
     calculations: Calculations,
 }
 
+impl Drop for ReadyProgram14<'_> {
+    fn drop(self) {
+        let ReadyProgram14 {
+            pipelines: _pipelines,
+            parser: _parser,
+            layout: _layout,
+            order: _order,
+            lists: _lists,
+            fields: _fields,
+            calculations: _calculations,
+        } = self;
+    }
+}
+
 impl<'r> Model for ReadyProgram14<'r> {
     ghost use Rattle.std.specs.Coded.{codes};
-    ghost use Rattle.p414_ast.specs.contracts.syntax.Decl as declaration;
+    ghost use Rattle.p414_syntax.specs.contracts.syntax.Decl as declaration;
     ghost use Rattle.p414_pipe_run.specs.Prepared.{Prepared};
     ghost use Rattle.p414_pipe_run.specs.internal.Ready.{AreParts};
 

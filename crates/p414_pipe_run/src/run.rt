@@ -14,9 +14,9 @@ use crate::ready::ready_program14;
 use fabric::{Arrival, RunResult, serve_all};
 use match_core::{Entries, first_store};
 use p4x_bits::OutOfMemory;
-use p414_ast::Rule14;
 use p414_body_check::Program14;
 use p414_program_signature::signature14;
+use p414_syntax::Rule14;
 use std::alloc::Global;
 
 /// What a program does with packets that come in one after another, under this rule and with these entries, where each packet and all

@@ -6,15 +6,15 @@ use Rattle.std.proofs.lemmas.List.{length-map}
 use Rattle.std.proofs.lemmas.Result.{IfOk-weaker}
 use Rattle.digraph.specs.Graphs.{IsClosed}
 use Rattle.digraph.specs.Expansions.{AreSizes, HasCycle}
-use Rattle.p414_ast.specs.declared.syntax.Decl.{Decl}
-use Rattle.p414_rules.specs.Names.{Name}
-use Rattle.p414_rules.specs.Arguments.{invocations_of, actions}
-use Rattle.p414_rules.specs.ActionExpansion.{called_in}
-use Rattle.p414_rules.specs.Actions.{ActionCallsItself}
-use Rattle.p414_rules.specs.ControlExpansion.{ingress, egress}
-use Rattle.p414_rules.specs.Exact.{IsExact}
-use Rattle.p414_rules.specs.Tables.{tables}
-use Rattle.p414_rules.specs.Pipelines.{ingress_requests, egress_requests, IsApplied, ListsRequest, CountsAsIngress, HasMisplacedRequest}
+use Rattle.p414_syntax.specs.declared.syntax.Decl.{Decl}
+use Rattle.p414_syntax.specs.Names.{Name}
+use Rattle.p414_syntax.specs.Arguments.{invocations_of, actions}
+use Rattle.p414_syntax.specs.ActionExpansion.{called_in}
+use Rattle.p414_syntax.specs.Actions.{ActionCallsItself}
+use Rattle.p414_syntax.specs.ControlExpansion.{ingress, egress}
+use Rattle.p414_syntax.specs.Exact.{IsExact}
+use Rattle.p414_syntax.specs.Tables.{tables}
+use Rattle.p414_syntax.specs.Pipelines.{ingress_requests, egress_requests, IsApplied, ListsRequest, CountsAsIngress, HasMisplacedRequest}
 use Rattle.p414_pipeline_check.specs.internal.Applied.{AreApplied}
 use Rattle.p414_pipeline_check.specs.internal.Requests.{any_request, own_requests, all_calls, action_graph, tables_with_requests, AreListed, Marks, is_marked, is_misplaced, IsSomeMisplaced}
 use Rattle.p414_pipeline_check.proofs.Requesting.{calls_itself, closed, are_listed, listed_within}

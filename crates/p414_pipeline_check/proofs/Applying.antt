@@ -8,19 +8,19 @@ use Rattle.std.proofs.lemmas.List.{length-map, length-append, length-drop, get_o
 use Rattle.std.proofs.lemmas.List.Quantifiers.{position-Some}
 use Rattle.digraph.specs.Graphs.{Among, successors, IsEdge, WalkTo, Edge, Onward, Reaches, IsClosed}
 use Rattle.digraph.proofs.Listing.{among_append}
-use Rattle.p414_ast.specs.declared.tables.Table.{Table}
-use Rattle.p414_ast.specs.declared.syntax.Decl.{Decl}
-use Rattle.p414_ast.specs.declared.syntax.Decl.TheVariants as decl
-use Rattle.p414_ast.specs.declared.syntax.Sort.TheVariants as sort
-use Rattle.p414_ast.specs.Tree.{Stmt, no_statements, then, apply, apply_branches, if_then, call, no_else, else_block, else_if, no_branches, branch}
-use Rattle.p414_ast.specs.Subtrees.{subtrees}
-use Rattle.p414_ast.specs.Views.{ControlTree}
-use Rattle.p414_rules.specs.Names.{Name, names_in}
-use Rattle.p414_rules.specs.Walks.{IsWalk}
-use Rattle.p414_rules.specs.ControlExpansion.{controls, control_number, own_call, calls_in, controls_called_by, ingress, egress}
-use Rattle.p414_rules.specs.Tables.{tables, table_number}
-use Rattle.p414_rules.specs.Pipelines.{own_table, applied_in, applied_by, IsApplied, IsTableShared}
-use Rattle.p414_rules.specs.Exact.{IsExact}
+use Rattle.p414_syntax.specs.declared.tables.Table.{Table}
+use Rattle.p414_syntax.specs.declared.syntax.Decl.{Decl}
+use Rattle.p414_syntax.specs.declared.syntax.Decl.TheVariants as decl
+use Rattle.p414_syntax.specs.declared.syntax.Sort.TheVariants as sort
+use Rattle.p414_syntax.specs.Tree.{Stmt, no_statements, then, apply, apply_branches, if_then, call, no_else, else_block, else_if, no_branches, branch}
+use Rattle.p414_syntax.specs.Subtrees.{subtrees}
+use Rattle.p414_syntax.specs.Views.{ControlTree}
+use Rattle.p414_syntax.specs.Names.{Name, names_in}
+use Rattle.p414_syntax.specs.Walks.{IsWalk}
+use Rattle.p414_syntax.specs.ControlExpansion.{controls, control_number, own_call, calls_in, controls_called_by, ingress, egress}
+use Rattle.p414_syntax.specs.Tables.{tables, table_number}
+use Rattle.p414_syntax.specs.Pipelines.{own_table, applied_in, applied_by, IsApplied, IsTableShared}
+use Rattle.p414_syntax.specs.Exact.{IsExact}
 use Rattle.p414_control_check.proofs.Expanding.{named_within, there_within, among_left, among_right, filter_append}
 use Rattle.p414_control_check.proofs.Holding.{among, contains}
 use Rattle.p414_pipeline_check.specs.internal.Applied.{table_node, named_table, leads_to, control_row, table_row, control_rows, table_rows, applied_graph, IsReachedFrom, AreReachedFrom, AreApplied, IsBoth}

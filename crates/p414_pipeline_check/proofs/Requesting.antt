@@ -11,18 +11,18 @@ use Rattle.std.proofs.lemmas.List.Sums.{sum_by-append, sum_by-cons}
 use Rattle.digraph.specs.Graphs.{Among, successors, IsEdge, WalkTo, Edge, Onward, IsClosed}
 use Rattle.digraph.specs.Expansions as calls
 use Rattle.digraph.specs.Expansions.{AreSizes, HasCycle, size_of}
-use Rattle.p414_ast.specs.declared.actions.Action.{Action}
-use Rattle.p414_ast.specs.declared.tables.Table.{Table}
-use Rattle.p414_ast.specs.declared.syntax.Decl.{Decl}
-use Rattle.p414_ast.specs.declared.syntax.Decl.TheVariants as decl
-use Rattle.p414_ast.specs.declared.syntax.Sort.TheVariants as sort
-use Rattle.p414_rules.specs.Names.{Name, names_in}
-use Rattle.p414_rules.specs.Walks.{IsWalk}
-use Rattle.p414_rules.specs.Arguments.{Argument, Invocation, invocations_of, actions, action_number, action_of}
-use Rattle.p414_rules.specs.ActionExpansion.{invoked_with, body_with, CallsExpand, NoCalls, OfPrimitive, OfAction, ActionExpands, callee_number, called_in, actions_called_by}
-use Rattle.p414_rules.specs.Actions.{ActionCallsItself}
-use Rattle.p414_rules.specs.Tables.{tables, listed_in, listed_by}
-use Rattle.p414_rules.specs.Pipelines.{is_call_of, ListsRequest}
+use Rattle.p414_syntax.specs.declared.actions.Action.{Action}
+use Rattle.p414_syntax.specs.declared.tables.Table.{Table}
+use Rattle.p414_syntax.specs.declared.syntax.Decl.{Decl}
+use Rattle.p414_syntax.specs.declared.syntax.Decl.TheVariants as decl
+use Rattle.p414_syntax.specs.declared.syntax.Sort.TheVariants as sort
+use Rattle.p414_syntax.specs.Names.{Name, names_in}
+use Rattle.p414_syntax.specs.Walks.{IsWalk}
+use Rattle.p414_syntax.specs.Arguments.{Argument, Invocation, invocations_of, actions, action_number, action_of}
+use Rattle.p414_syntax.specs.ActionExpansion.{invoked_with, body_with, CallsExpand, NoCalls, OfPrimitive, OfAction, ActionExpands, callee_number, called_in, actions_called_by}
+use Rattle.p414_syntax.specs.Actions.{ActionCallsItself}
+use Rattle.p414_syntax.specs.Tables.{tables, listed_in, listed_by}
+use Rattle.p414_syntax.specs.Pipelines.{is_call_of, ListsRequest}
 use Rattle.p414_control_check.proofs.Expanding.{get_within, there_within, at_row}
 use Rattle.p414_control_check.proofs.Holding.{among, contains}
 use Rattle.p414_pipeline_check.specs.internal.Requests.{is_request, request_weight, own_requests, all_calls, action_graph, names_request, lists_request, tables_with_requests, AreListed}

@@ -2,14 +2,14 @@
 ghost use Rattle.std.specs.Prelude.{◌≡◌, ◌++◌, ◌∷◌, [], map, flat_map, option_map, option_to_list, IfOk, OnOk};
 ghost use Rattle.std.specs.List.{cons_option};
 ghost use Rattle.p414_control_check.specs.Edges.{with_edges};
-ghost use Rattle.p414_rules.specs.ControlExpansion.{control_in};
-ghost use Rattle.p414_rules.specs.Tables.{table_in};
+ghost use Rattle.p414_syntax.specs.ControlExpansion.{control_in};
+ghost use Rattle.p414_syntax.specs.Tables.{table_in};
 ghost use Rattle.p414_pipeline_check.specs.internal.Applied.{applied_graph, control_row, control_rows, leads_to, named_table, table_row, table_rows};
 
 use digraph::Digraph;
 use p4x_bits::OutOfMemory;
-use p414_ast::{Control, Decl, Sort, StmtHead, StmtView, all_statements};
 use p414_control_check::{Controls, add_edge_to};
+use p414_syntax::{Control, Decl, Sort, StmtHead, StmtView, all_statements};
 use std::alloc::Global;
 
 /// The node of the table with a name, if there is one: tables stand behind the controls.

@@ -1,10 +1,10 @@
 // C22: requests that are made in one pipeline alone, and are reached from the other one.
 ghost use Rattle.std.specs.Prelude.{◌≡◌, IfOk};
 ghost use Rattle.digraph.specs.Components.{AreComponents};
-ghost use Rattle.p414_rules.specs.Actions.{ActionCallsItself};
-ghost use Rattle.p414_rules.specs.ControlExpansion.{ingress, egress};
-ghost use Rattle.p414_rules.specs.Exact.{IsExact};
-ghost use Rattle.p414_rules.specs.Pipelines.{HasMisplacedRequest};
+ghost use Rattle.p414_syntax.specs.Actions.{ActionCallsItself};
+ghost use Rattle.p414_syntax.specs.ControlExpansion.{ingress, egress};
+ghost use Rattle.p414_syntax.specs.Exact.{IsExact};
+ghost use Rattle.p414_syntax.specs.Pipelines.{HasMisplacedRequest};
 ghost use Rattle.p414_pipeline_check.specs.internal.Applied.{applied_graph, AreApplied};
 ghost use Rattle.p414_pipeline_check.specs.internal.Requests.{action_graph, all_calls, is_misplaced, IsSomeMisplaced};
 

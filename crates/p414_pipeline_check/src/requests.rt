@@ -3,16 +3,16 @@ ghost use Rattle.std.specs.Prelude.{◌≡◌, ◌++◌, map, nat_lt, option_to_
 ghost use Rattle.std.specs.List.{list_any};
 ghost use Rattle.digraph.specs.Components.{AreComponents};
 ghost use Rattle.digraph.specs.Expansions.{AreSizes};
-ghost use Rattle.p414_rules.specs.Actions.{ActionCallsItself};
-ghost use Rattle.p414_rules.specs.Names.{has_name};
-ghost use Rattle.p414_rules.specs.Tables.{table_in};
+ghost use Rattle.p414_syntax.specs.Actions.{ActionCallsItself};
+ghost use Rattle.p414_syntax.specs.Names.{has_name};
+ghost use Rattle.p414_syntax.specs.Tables.{table_in};
 ghost use Rattle.p414_pipeline_check.specs.internal.Requests.{AreListed, action_graph, all_calls, any_request, is_request, lists_request, names_request, own_requests, primitives_of, tables_with_requests};
 
 use digraph::{Components, Digraph};
 use p4x_bits::{OutOfMemory, Text};
-use p414_ast::Decl;
 use p414_calls::{ActionCalls, Invocation, action_number};
 use p414_names::{Names14, is_among};
+use p414_syntax::Decl;
 use std::alloc::Global;
 
 /// Which requests are meant.

@@ -1,7 +1,7 @@
 // C17: tables that both pipelines apply.
 ghost use Rattle.std.specs.Prelude.{◌≡◌, false, slice_index_or, IfOk};
-ghost use Rattle.p414_rules.specs.Exact.{IsExact};
-ghost use Rattle.p414_rules.specs.Pipelines.{IsTableShared};
+ghost use Rattle.p414_syntax.specs.Exact.{IsExact};
+ghost use Rattle.p414_syntax.specs.Pipelines.{IsTableShared};
 ghost use Rattle.p414_pipeline_check.specs.internal.Applied.{applied_graph, IsBoth};
 
 use crate::applied::applied_tables;

@@ -7,13 +7,13 @@ use Rattle.std.proofs.lemmas.Bool.{lt-ltb, ltb-true}
 use Rattle.std.proofs.lemmas.List.{length-map}
 use Rattle.std.proofs.lemmas.List.Folds.{list_any_at}
 use Rattle.std.proofs.lemmas.List.Quantifiers.{position-Some}
-use Rattle.p414_ast.specs.declared.headers.Field.{Field}
-use Rattle.p414_ast.specs.declared.syntax.Decl.{Decl}
-use Rattle.p414_ast.specs.Views.{HeaderTypeTree}
-use Rattle.p414_rules.specs.Names.{Name, find_name, has_name, field_name}
-use Rattle.p414_rules.specs.Primitives.{is_standard, ports, counts, standard_width}
-use Rattle.p414_rules.specs.Fields.{instance_type, field_bits, width_in, width_of}
-use Rattle.p414_rules.specs.Expansion.{type_fields}
+use Rattle.p414_syntax.specs.declared.headers.Field.{Field}
+use Rattle.p414_syntax.specs.declared.syntax.Decl.{Decl}
+use Rattle.p414_syntax.specs.Views.{HeaderTypeTree}
+use Rattle.p414_syntax.specs.Names.{Name, find_name, has_name, field_name}
+use Rattle.p414_syntax.specs.Primitives.{is_standard, ports, counts, standard_width}
+use Rattle.p414_syntax.specs.Fields.{instance_type, field_bits, width_in, width_of}
+use Rattle.p414_syntax.specs.Expansion.{type_fields}
 use Rattle.p414_list_check.proofs.Expanding.{get_within}
 use Rattle.p414_preserved_check.specs.internal.Asking.{is_field}
 use Rattle.p414_preserved_check.proofs.Searching.{same_test}

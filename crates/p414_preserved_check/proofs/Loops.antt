@@ -3,15 +3,15 @@ use Rattle.std.proofs.Common.{◌≡◌, ℕ, zero, suc, ◌+◌, ◌<◌, ◌�
 use Rattle.std.specs.List.{list_any, cons_option}
 use Rattle.std.proofs.lemmas.Bool.{cases_lt, or_left}
 use Rattle.std.proofs.lemmas.List.Folds.{list_any-append}
-use Rattle.p414_ast.specs.declared.calculations.FieldList.{FieldList}
-use Rattle.p414_ast.specs.declared.syntax.Decl.{Decl}
-use Rattle.p414_ast.specs.declared.syntax.Sort.TheVariants as sort
+use Rattle.p414_syntax.specs.declared.calculations.FieldList.{FieldList}
+use Rattle.p414_syntax.specs.declared.syntax.Decl.{Decl}
+use Rattle.p414_syntax.specs.declared.syntax.Sort.TheVariants as sort
 use Rattle.p414_calls.specs.declared.argument.Argument.{Argument}
 use Rattle.p414_calls.specs.Shown.{shown_argument}
-use Rattle.p414_rules.specs.declared.place.ArgumentPlace.{ArgumentPlace}
-use Rattle.p414_rules.specs.Names.{Name, is_in, declared_in}
-use Rattle.p414_rules.specs.Expansion.{lists, list_in}
-use Rattle.p414_rules.specs.Payloads.{input_in, inputs}
+use Rattle.p414_syntax.specs.declared.place.ArgumentPlace.{ArgumentPlace}
+use Rattle.p414_syntax.specs.Names.{Name, is_in, declared_in}
+use Rattle.p414_syntax.specs.Expansion.{lists, list_in}
+use Rattle.p414_syntax.specs.Payloads.{input_in, inputs}
 use Rattle.p414_preserved_check.specs.declared.named.Wanted.{Wanted}
 use Rattle.p414_preserved_check.specs.internal.Asking.{initial_set}
 use Rattle.p414_preserved_check.specs.internal.Early.{early_from}

@@ -8,12 +8,12 @@ use Rattle.std.proofs.lemmas.List.Folds.{list_any-append}
 use Rattle.std.specs.Global.{Vec}
 use Rattle.digraph.specs.Graphs.{IsClosed}
 use Rattle.digraph.specs.Expansions.{AreSizes, HasCycle}
-use Rattle.p414_ast.specs.declared.calculations.Item.{Item}
-use Rattle.p414_ast.specs.declared.syntax.Decl.{Decl}
-use Rattle.p414_rules.specs.Names.{Name}
-use Rattle.p414_rules.specs.Lists.{HoldsItself}
-use Rattle.p414_rules.specs.Exact.{IsExact}
-use Rattle.p414_rules.specs.Expansion.{lists, list_number, items_in, items_at, inner_number, own_items, Expands, ComesTo, Joins}
+use Rattle.p414_syntax.specs.declared.calculations.Item.{Item}
+use Rattle.p414_syntax.specs.declared.syntax.Decl.{Decl}
+use Rattle.p414_syntax.specs.Names.{Name}
+use Rattle.p414_syntax.specs.Lists.{HoldsItself}
+use Rattle.p414_syntax.specs.Exact.{IsExact}
+use Rattle.p414_syntax.specs.Expansion.{lists, list_number, items_in, items_at, inner_number, own_items, Expands, ComesTo, Joins}
 use Rattle.p414_list_check.specs.internal.Expanded.{list_row, list_graph, capped_count, own_counts}
 use Rattle.p414_list_check.proofs.Expanding.{CountsOwn, get_within, named_within}
 use Rattle.p414_list_check.proofs.Holding.{closed, holds_itself}

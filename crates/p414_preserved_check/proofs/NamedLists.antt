@@ -2,17 +2,17 @@
 use Rattle.std.proofs.Common.{◌≡◌, ℕ, Bool, not, ◌&&◌, List, [], ◌∷◌, ◌++◌, map, flat_map, Option, Some, None, unwrap_or, refl, sym, ap, ◌∙◌, append-nil}
 use Rattle.std.specs.List.{list_any}
 use Rattle.std.proofs.lemmas.Grind.{flat_map-append}
-use Rattle.p414_ast.specs.declared.actions.Action.{Action}
-use Rattle.p414_ast.specs.declared.syntax.Decl.{Decl}
-use Rattle.p414_rules.specs.declared.place.ArgumentPlace.{ArgumentPlace}
-use Rattle.p414_rules.specs.declared.place.ArgumentPlace.TheVariants as place
-use Rattle.p414_rules.specs.Names.{Name}
-use Rattle.p414_rules.specs.Primitives.{places_of}
-use Rattle.p414_rules.specs.Arguments.{Argument, number_argument, field_argument, parameter_argument, name_argument, Invocation, PlacedArgument, placed_argument, placed, placed_in, place_of_parameter, wanted_by, action_of, actions, invocations_of, all_invocations}
-use Rattle.p414_rules.specs.Actions.{lists_at, lists_hashed_at, hashed_lists}
-use Rattle.p414_rules.specs.Distinct.{distinct}
-use Rattle.p414_rules.specs.Preserved.{list_of, preserved_lists}
-use Rattle.p414_rules.specs.Payloads.{all_hashed}
+use Rattle.p414_syntax.specs.declared.actions.Action.{Action}
+use Rattle.p414_syntax.specs.declared.syntax.Decl.{Decl}
+use Rattle.p414_syntax.specs.declared.place.ArgumentPlace.{ArgumentPlace}
+use Rattle.p414_syntax.specs.declared.place.ArgumentPlace.TheVariants as place
+use Rattle.p414_syntax.specs.Names.{Name}
+use Rattle.p414_syntax.specs.Primitives.{places_of}
+use Rattle.p414_syntax.specs.Arguments.{Argument, number_argument, field_argument, parameter_argument, name_argument, Invocation, PlacedArgument, placed_argument, placed, placed_in, place_of_parameter, wanted_by, action_of, actions, invocations_of, all_invocations}
+use Rattle.p414_syntax.specs.Actions.{lists_at, lists_hashed_at, hashed_lists}
+use Rattle.p414_syntax.specs.Distinct.{distinct}
+use Rattle.p414_syntax.specs.Preserved.{list_of, preserved_lists}
+use Rattle.p414_syntax.specs.Payloads.{all_hashed}
 use Rattle.p414_preserved_check.specs.declared.named.Wanted.{Wanted}
 use Rattle.p414_preserved_check.specs.declared.named.Wanted.TheVariants.{List as AList, Calculation}
 use Rattle.p414_preserved_check.specs.internal.Marks.{is_missing, is_marked_name, joins_marked}

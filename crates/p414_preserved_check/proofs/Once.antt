@@ -1,8 +1,8 @@
 -- Names that are put into a set, each once.
 use Rattle.std.proofs.Common.{◌≡◌, ℕ, ◌+◌, ◌<◌, Bool, true, false, if◌then◌else◌, List, [], ◌∷◌, ◌++◌, length, get_or, drop, map, refl, sym, ap, ◌∙◌, append_assoc}
 use Rattle.std.specs.Bool.{MatchBool}
-use Rattle.p414_rules.specs.Names.{Name, has_name}
-use Rattle.p414_rules.specs.Distinct.{distinct_behind}
+use Rattle.p414_syntax.specs.Names.{Name, has_name}
+use Rattle.p414_syntax.specs.Distinct.{distinct_behind}
 use Rattle.p414_preserved_check.specs.internal.Named.{added}
 use Rattle.p414_preserved_check.proofs.Loops.{next_items}
 

@@ -4,15 +4,15 @@ use Rattle.std.specs.List.{list_any}
 use Rattle.std.specs.Option.{option_map_or}
 use Rattle.std.specs.Str.{bytes_eq}
 use Rattle.std.proofs.lemmas.Bool.{lt-ltb}
-use Rattle.p414_ast.specs.declared.parts.Inst.{Inst}
-use Rattle.p414_ast.specs.declared.calculations.Item.{Item}
-use Rattle.p414_ast.specs.declared.calculations.Item.TheVariants as item
-use Rattle.p414_ast.specs.declared.syntax.Decl.{Decl}
-use Rattle.p414_ast.specs.declared.syntax.Sort.TheVariants as sort
-use Rattle.p414_rules.specs.Names.{Name, has_name, number_of, declared_in}
-use Rattle.p414_rules.specs.Expansion.{own_items, fields_of, field_item}
-use Rattle.p414_rules.specs.Preserved.{is_no_metadata_item, initialized_in, initialized, is_initialized}
-use Rattle.p414_rules.specs.Payloads.{is_payload}
+use Rattle.p414_syntax.specs.declared.parts.Inst.{Inst}
+use Rattle.p414_syntax.specs.declared.calculations.Item.{Item}
+use Rattle.p414_syntax.specs.declared.calculations.Item.TheVariants as item
+use Rattle.p414_syntax.specs.declared.syntax.Decl.{Decl}
+use Rattle.p414_syntax.specs.declared.syntax.Sort.TheVariants as sort
+use Rattle.p414_syntax.specs.Names.{Name, has_name, number_of, declared_in}
+use Rattle.p414_syntax.specs.Expansion.{own_items, fields_of, field_item}
+use Rattle.p414_syntax.specs.Preserved.{is_no_metadata_item, initialized_in, initialized, is_initialized}
+use Rattle.p414_syntax.specs.Payloads.{is_payload}
 use Rattle.p414_preserved_check.specs.internal.Asking.{is_anything, fills_by, is_no_metadata, no_metadata_by, initial_set, initial_sets, has_field, set_has, initialized_by}
 use Rattle.p414_preserved_check.specs.internal.Marks.{AsksOwn}
 use Rattle.p414_preserved_check.proofs.Searching.{or_nothing, any_map, common_turned, distinct_any}

@@ -2,16 +2,16 @@
 use Rattle.std.proofs.Common.{◌≡◌, ℕ, ◌⊎◌, inl, inr, ⊎_elim, Bool, true, false, not, ◌||◌, ◌&&◌, List, [], ◌∷◌, ◌++◌, map, slice_get, Some, None, option_map, refl, sym, ap, ◌∙◌}
 use Rattle.std.specs.List.{list_any}
 use Rattle.std.proofs.lemmas.Bool.{and_parts, and_from, or_cases, or_left, or_right, not-true, not_from_false, both_ways, false_from_ne_true}
-use Rattle.p414_ast.specs.declared.parts.Inst.{Inst}
-use Rattle.p414_ast.specs.declared.calculations.Item.{Item}
-use Rattle.p414_ast.specs.declared.calculations.Item.TheVariants as item
-use Rattle.p414_ast.specs.declared.syntax.Decl.{Decl}
-use Rattle.p414_rules.specs.Names.{Name}
-use Rattle.p414_rules.specs.Arguments.{all_invocations}
-use Rattle.p414_rules.specs.Distinct.{distinct}
-use Rattle.p414_rules.specs.Exact.{IsExact}
-use Rattle.p414_rules.specs.Expansion.{lists, list_number, items_in, items_at, inner_number, inner_list, own_items, fields_of, field_item, Expands, Nothing, Own, Inner, ComesTo, Joins}
-use Rattle.p414_rules.specs.Payloads.{is_payload, has_early_payload, ListHasEarlyPayload, inputs, InputHasEarlyPayload, all_hashed, HasBadPayload}
+use Rattle.p414_syntax.specs.declared.parts.Inst.{Inst}
+use Rattle.p414_syntax.specs.declared.calculations.Item.{Item}
+use Rattle.p414_syntax.specs.declared.calculations.Item.TheVariants as item
+use Rattle.p414_syntax.specs.declared.syntax.Decl.{Decl}
+use Rattle.p414_syntax.specs.Names.{Name}
+use Rattle.p414_syntax.specs.Arguments.{all_invocations}
+use Rattle.p414_syntax.specs.Distinct.{distinct}
+use Rattle.p414_syntax.specs.Exact.{IsExact}
+use Rattle.p414_syntax.specs.Expansion.{lists, list_number, items_in, items_at, inner_number, inner_list, own_items, fields_of, field_item, Expands, Nothing, Own, Inner, ComesTo, Joins}
+use Rattle.p414_syntax.specs.Payloads.{is_payload, has_early_payload, ListHasEarlyPayload, inputs, InputHasEarlyPayload, all_hashed, HasBadPayload}
 use Rattle.p414_list_check.proofs.Expanding.{is_alone, list_of}
 use Rattle.p414_preserved_check.specs.internal.Marks.{AsksOwn, AreMarks, is_marked_name, is_missing, joins_marked}
 use Rattle.p414_preserved_check.specs.internal.Asking.{is_anything, fills_by}

@@ -1,13 +1,13 @@
 -- C18 and C19 from what is found of the preserved lists.
 use Rattle.std.proofs.Common.{◌≡◌, ℕ, ◌<◌, ◌≤◌, inl, inr, Bool, true, List, length, sym, ap, ◌∙◌, arith}
 use Rattle.std.proofs.lemmas.Bool.{lt-ltb, ltb-true}
-use Rattle.p414_ast.specs.declared.calculations.Item.{Item}
-use Rattle.p414_ast.specs.declared.syntax.Decl.{Decl}
-use Rattle.p414_rules.specs.Names.{Name}
-use Rattle.p414_rules.specs.Arguments.{all_invocations}
-use Rattle.p414_rules.specs.Distinct.{distinct}
-use Rattle.p414_rules.specs.Exact.{IsExact}
-use Rattle.p414_rules.specs.Preserved.{preserved_lists, is_no_metadata_item, is_initialized, PreservesBad, HasBadPreservedList, PreservesInitialized}
+use Rattle.p414_syntax.specs.declared.calculations.Item.{Item}
+use Rattle.p414_syntax.specs.declared.syntax.Decl.{Decl}
+use Rattle.p414_syntax.specs.Names.{Name}
+use Rattle.p414_syntax.specs.Arguments.{all_invocations}
+use Rattle.p414_syntax.specs.Distinct.{distinct}
+use Rattle.p414_syntax.specs.Exact.{IsExact}
+use Rattle.p414_syntax.specs.Preserved.{preserved_lists, is_no_metadata_item, is_initialized, PreservesBad, HasBadPreservedList, PreservesInitialized}
 use Rattle.p414_preserved_check.specs.declared.named.Wanted.TheVariants.{List as AList}
 use Rattle.p414_preserved_check.specs.internal.Marks.{AreMarks, joins_marked}
 use Rattle.p414_preserved_check.specs.internal.Named.{named_by}

@@ -2,24 +2,24 @@
 ghost use Rattle.std.specs.Prelude.{◌≡◌, ◌++◌, ◌∷◌, [], is_some, length, map, option_to_list, IfOk, OnOk};
 ghost use Rattle.std.specs.List.{list_any};
 ghost use Rattle.std.specs.Option.{option_map_or};
-ghost use Rattle.p414_ast.specs.declared.syntax.Sort.TheVariants as sort;
-ghost use Rattle.p414_rules.specs.Names.{declared_in, has_name, initial_name};
-ghost use Rattle.p414_rules.specs.Primitives.{ports, counts};
-ghost use Rattle.p414_rules.specs.Distinct.{distinct};
-ghost use Rattle.p414_rules.specs.Fields.{instance_type, width_of};
-ghost use Rattle.p414_rules.specs.Totals.{field_count};
-ghost use Rattle.p414_rules.specs.Targets.{is_metadata};
-ghost use Rattle.p414_rules.specs.Expansion.{fields_of, inner_number, list_in};
-ghost use Rattle.p414_rules.specs.Preserved.{initialized_in, initialized};
-ghost use Rattle.p414_rules.specs.Payloads.{is_payload};
+ghost use Rattle.p414_syntax.specs.declared.syntax.Sort.TheVariants as sort;
+ghost use Rattle.p414_syntax.specs.Names.{declared_in, has_name, initial_name};
+ghost use Rattle.p414_syntax.specs.Primitives.{ports, counts};
+ghost use Rattle.p414_syntax.specs.Distinct.{distinct};
+ghost use Rattle.p414_syntax.specs.Fields.{instance_type, width_of};
+ghost use Rattle.p414_syntax.specs.Totals.{field_count};
+ghost use Rattle.p414_syntax.specs.Targets.{is_metadata};
+ghost use Rattle.p414_syntax.specs.Expansion.{fields_of, inner_number, list_in};
+ghost use Rattle.p414_syntax.specs.Preserved.{initialized_in, initialized};
+ghost use Rattle.p414_syntax.specs.Payloads.{is_payload};
 ghost use Rattle.p414_preserved_check.specs.internal.Marks.{one_if, own_has, own_mark, own_marks};
 ghost use Rattle.p414_preserved_check.specs.internal.Asking.{has_fields, fills_by, is_no_metadata, no_metadata_by, initial_set, initial_sets, set_has, is_field, some_initial, initialized_by, asked_of};
 
 use crate::named::add_name;
 use p4x_bits::OutOfMemory;
-use p414_ast::{Decl, Initial, Item, Sort};
 use p414_list_check::inner_number;
 use p414_names::{NameSet, Names14, is_among, is_standard};
+use p414_syntax::{Decl, Initial, Item, Sort};
 use std::alloc::Global;
 
 /// The fields of standard metadata.

@@ -2,9 +2,9 @@
 ghost use Rattle.std.specs.Prelude.{◌≡◌, Bool, not, ◌&&◌, length, map, IfOk};
 ghost use Rattle.std.specs.List.{list_any};
 ghost use Rattle.digraph.specs.Components.{AreComponents};
-ghost use Rattle.p414_ast.specs.References.{referred};
-ghost use Rattle.p414_ast.specs.declared.calculations.Item.{Item as AnyItem};
-ghost use Rattle.p414_rules.specs.Lists.{HoldsItself};
+ghost use Rattle.p414_syntax.specs.References.{referred};
+ghost use Rattle.p414_syntax.specs.declared.calculations.Item.{Item as AnyItem};
+ghost use Rattle.p414_syntax.specs.Lists.{HoldsItself};
 ghost use Rattle.p414_list_check.specs.internal.Expanded.{list_graph};
 ghost use Rattle.p414_preserved_check.specs.internal.Marks.{own_marks, AreMarks, AsksOwn, is_marked, is_marked_name, is_missing, joins_marked};
 

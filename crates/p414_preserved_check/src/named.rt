@@ -1,17 +1,17 @@
 // The field lists and the calculations that calls name.
 ghost use Rattle.std.specs.Prelude.{◌≡◌, ◌++◌, ◌∷◌, [], not, ◌&&◌, map, flat_map, option_copied, option_to_list, IfOk, OnOk};
 ghost use Rattle.std.specs.List.{list_any};
-ghost use Rattle.p414_ast.specs.References.{referred};
-ghost use Rattle.p414_rules.specs.Arguments.{all_invocations};
-ghost use Rattle.p414_rules.specs.Distinct.{distinct};
-ghost use Rattle.p414_rules.specs.Preserved.{list_at};
+ghost use Rattle.p414_syntax.specs.References.{referred};
+ghost use Rattle.p414_syntax.specs.Arguments.{all_invocations};
+ghost use Rattle.p414_syntax.specs.Distinct.{distinct};
+ghost use Rattle.p414_syntax.specs.Preserved.{list_at};
 ghost use Rattle.p414_calls.specs.Shown.{shown_argument};
 ghost use Rattle.p414_preserved_check.specs.internal.Named.{added, calculation_at, named_at, named_among, named_in, named_by};
 
 use p4x_bits::OutOfMemory;
 use p414_calls::{ActionCalls, Argument, Invocation, calls_of};
 use p414_names::{NameSet, Names14, primitive_places};
-use p414_rules::ArgumentPlace;
+use p414_syntax::ArgumentPlace;
 use std::alloc::Global;
 
 /// What calls name.

@@ -1,13 +1,13 @@
 // C20: where `payload` stands.
 ghost use Rattle.std.specs.Prelude.{◌≡◌, ◌||◌, not, ◌&&◌, false, map, option_to_list, IfOk};
 ghost use Rattle.std.specs.List.{list_any};
-ghost use Rattle.p414_ast.specs.References.{referred};
-ghost use Rattle.p414_rules.specs.Arguments.{all_invocations};
-ghost use Rattle.p414_rules.specs.Distinct.{distinct};
-ghost use Rattle.p414_rules.specs.Exact.{IsExact};
-ghost use Rattle.p414_rules.specs.Expansion.{lists, list_in};
-ghost use Rattle.p414_rules.specs.Lists.{HoldsItself};
-ghost use Rattle.p414_rules.specs.Payloads.{is_payload, input_in, inputs, HasBadPayload};
+ghost use Rattle.p414_syntax.specs.References.{referred};
+ghost use Rattle.p414_syntax.specs.Arguments.{all_invocations};
+ghost use Rattle.p414_syntax.specs.Distinct.{distinct};
+ghost use Rattle.p414_syntax.specs.Exact.{IsExact};
+ghost use Rattle.p414_syntax.specs.Expansion.{lists, list_in};
+ghost use Rattle.p414_syntax.specs.Lists.{HoldsItself};
+ghost use Rattle.p414_syntax.specs.Payloads.{is_payload, input_in, inputs, HasBadPayload};
 ghost use Rattle.p414_preserved_check.specs.internal.Asking.{is_anything, fills_by};
 ghost use Rattle.p414_preserved_check.specs.internal.Marks.{AreMarks, is_missing, is_marked_name};
 ghost use Rattle.p414_preserved_check.specs.internal.Early.{item_comes, early_items, is_early, some_early, early_names, is_early_input};
@@ -18,9 +18,9 @@ use crate::asking::{Asked, fills_by, is_payload, own_marks};
 use crate::marks::{is_marked, is_marked_name, is_missing, list_marks};
 use crate::named::{Wanted, named_once};
 use p4x_bits::{OutOfMemory, Text};
-use p414_ast::{Decl, Item};
 use p414_list_check::{calculation_of, inner_number};
 use p414_names::Names14;
+use p414_syntax::{Decl, Item};
 use std::alloc::Global;
 
 /// Whether what an item comes to has `payload`, given which lists come to it.

@@ -1,11 +1,11 @@
 // C18 and C19: what resubmit, recirculate and clones preserve.
 ghost use Rattle.std.specs.Prelude.{◌≡◌, ◌||◌, map, nat_lt, length, IfOk};
-ghost use Rattle.p414_ast.specs.References.{referred};
-ghost use Rattle.p414_rules.specs.Arguments.{all_invocations};
-ghost use Rattle.p414_rules.specs.Distinct.{distinct};
-ghost use Rattle.p414_rules.specs.Exact.{IsExact};
-ghost use Rattle.p414_rules.specs.Lists.{HoldsItself};
-ghost use Rattle.p414_rules.specs.Preserved.{is_no_metadata_item, is_initialized, PreservesBad, HasBadPreservedList, PreservesInitialized};
+ghost use Rattle.p414_syntax.specs.References.{referred};
+ghost use Rattle.p414_syntax.specs.Arguments.{all_invocations};
+ghost use Rattle.p414_syntax.specs.Distinct.{distinct};
+ghost use Rattle.p414_syntax.specs.Exact.{IsExact};
+ghost use Rattle.p414_syntax.specs.Lists.{HoldsItself};
+ghost use Rattle.p414_syntax.specs.Preserved.{is_no_metadata_item, is_initialized, PreservesBad, HasBadPreservedList, PreservesInitialized};
 ghost use Rattle.p414_preserved_check.specs.internal.Asking.{initial_sets};
 ghost use Rattle.p414_preserved_check.specs.internal.Marks.{AreMarks, joins_marked};
 ghost use Rattle.p414_preserved_check.specs.internal.Named.{named_by};

@@ -1,10 +1,10 @@
 -- In a program that breaks no rule no action calls itself.
 use Rattle.std.proofs.Common.{◌≡◌, ◌∙◌, false, true, inl, List, Option, Some, MatchOption, subst, sym, ap}
-use Rattle.p414_ast.specs.declared.syntax.Decl.{Decl}
-use Rattle.p414_ast.specs.declared.syntax.Syntax14.{Syntax14}
-use Rattle.p414_rules.specs.Actions.{ActionCallsItself}
-use Rattle.p414_rules.specs.Breaks.{BreaksNone, IsBroken, program_rules}
-use Rattle.p414_rules.specs.Twice.{declares_twice}
+use Rattle.p414_syntax.specs.declared.syntax.Decl.{Decl}
+use Rattle.p414_syntax.specs.declared.syntax.Syntax14.{Syntax14}
+use Rattle.p414_syntax.specs.Actions.{ActionCallsItself}
+use Rattle.p414_syntax.specs.Breaks.{BreaksNone, IsBroken, program_rules}
+use Rattle.p414_syntax.specs.Twice.{declares_twice}
 
 acyclic : (ds : List Decl) → BreaksNone ds program_rules → ActionCallsItself ds → ⊥
 unfolding IsBroken

@@ -1,12 +1,12 @@
 -- Lists of statements, branches and labels, and the trees that they are folded into.
 use Rattle.std.proofs.Common.{◌≡◌, ℕ, Bool, true, false, not, if◌then◌else◌, List, [], ◌∷◌, ◌++◌, map, codes, refl, sym, ap, subst, ◌∙◌, append_assoc, append-nil, bytes_eq}
 use Rattle.std.specs.List.{flat_map, list_all}
-use Rattle.p414_ast.specs.declared.node.Label.{Label}
-use Rattle.p414_ast.specs.declared.node.Label.TheVariants as label
-use Rattle.p414_ast.specs.Tree as tree
-use Rattle.p414_ast.specs.Tree.{Stmt, no_statements, no_branches, branch}
-use Rattle.p414_ast.specs.Written.{label_text, written_stmt}
-use Rattle.p414_ast.specs.Conditions.{is_among, all_different, is_mixed, are_labels, own_labels, is_label, labels_of, statement, block, branches, is_stmt}
+use Rattle.p414_syntax.specs.declared.node.Label.{Label}
+use Rattle.p414_syntax.specs.declared.node.Label.TheVariants as label
+use Rattle.p414_syntax.specs.Tree as tree
+use Rattle.p414_syntax.specs.Tree.{Stmt, no_statements, no_branches, branch}
+use Rattle.p414_syntax.specs.Written.{label_text, written_stmt}
+use Rattle.p414_syntax.specs.Conditions.{is_among, all_different, is_mixed, are_labels, own_labels, is_label, labels_of, statement, block, branches, is_stmt}
 use Rattle.predictive_parser.specs.Values.{newest, extended}
 use Rattle.p414_reader.specs.internal.Classes.{may_follow}
 use Rattle.p414_reader.specs.internal.Actions.{label_of}

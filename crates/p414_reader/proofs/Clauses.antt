@@ -3,9 +3,9 @@ use Rattle.std.proofs.Common.{◌≡◌, ℕ, List, Result, Ok, Err, refl, ap}
 use Rattle.std.specs.Prelude.{IfOk}
 use Rattle.p4x_fault.specs.declared.Fault.{Fault}
 use Rattle.p414_tok.specs.Front.{front}
-use Rattle.p414_ast.specs.declared.syntax.Decl.{Decl}
-use Rattle.p414_ast.specs.declared.syntax.Syntax14.{Syntax14}
-use Rattle.p414_ast.specs.Spells.{Spells}
+use Rattle.p414_syntax.specs.declared.syntax.Decl.{Decl}
+use Rattle.p414_syntax.specs.declared.syntax.Syntax14.{Syntax14}
+use Rattle.p414_syntax.specs.Spells.{Spells}
 use Rattle.text_reading.specs.declared.error.ReadError.{ReadError}
 use Rattle.text_reading.specs.Reading.{IfRefused, Answers}
 use Rattle.text_reading.proofs.Clauses.{ReadsExactly, found, accepts, refused, refuses, one}

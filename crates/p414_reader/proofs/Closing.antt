@@ -4,16 +4,16 @@ use Rattle.std.proofs.Common.{◌≡◌, ℕ, Bool, true, false, ◌&&◌, ◌||
 use Rattle.std.specs.Str.{bytes_eq}
 use Rattle.predictive_parser.specs.declared.symbol.Symbol.TheVariants.{Put}
 use Rattle.predictive_parser.proofs.Closings.{Closing, IsClosed, row_fits}
-use Rattle.p414_lexemes.specs.declared.lexeme.Lexeme.{Lexeme}
-use Rattle.p414_lexemes.specs.declared.lexeme.Lexeme.TheVariants as lexeme
-use Rattle.p414_lexemes.specs.declared.mark.Mark.{Mark}
-use Rattle.p414_lexemes.specs.declared.mark.Mark.TheVariants as mark
-use Rattle.p414_ast.specs.declared.node.UnaryOperator.{UnaryOperator}
-use Rattle.p414_ast.specs.declared.node.BinaryOperator.{BinaryOperator}
-use Rattle.p414_ast.specs.Words.{name, keyword, brace_open, brace_close, paren_open, paren_close, semicolon, colon, dot, equal}
-use Rattle.p414_ast.specs.Conditions.{is_expression_name, brace_of}
-use Rattle.p414_lexemes.specs.declared.keyword.Keyword.{Keyword}
-use Rattle.p414_lexemes.specs.declared.keyword.Keyword.TheVariants as key
+use Rattle.p414_syntax.specs.declared.lexeme.Lexeme.{Lexeme}
+use Rattle.p414_syntax.specs.declared.lexeme.Lexeme.TheVariants as lexeme
+use Rattle.p414_syntax.specs.declared.mark.Mark.{Mark}
+use Rattle.p414_syntax.specs.declared.mark.Mark.TheVariants as mark
+use Rattle.p414_syntax.specs.declared.node.UnaryOperator.{UnaryOperator}
+use Rattle.p414_syntax.specs.declared.node.BinaryOperator.{BinaryOperator}
+use Rattle.p414_syntax.specs.Words.{name, keyword, brace_open, brace_close, paren_open, paren_close, semicolon, colon, dot, equal}
+use Rattle.p414_syntax.specs.Conditions.{is_expression_name, brace_of}
+use Rattle.p414_syntax.specs.declared.keyword.Keyword.{Keyword}
+use Rattle.p414_syntax.specs.declared.keyword.Keyword.TheVariants as key
 use Rattle.p414_reader.specs.declared.symbols.Class.{Class}
 use Rattle.p414_reader.specs.declared.symbols.Class.TheVariants as class
 use Rattle.p414_reader.specs.declared.symbols.Action.TheVariants as action
@@ -40,7 +40,7 @@ use Rattle.p414_reader.specs.declared.built.Built.{Built}
 use Rattle.p414_reader.specs.internal.Classes.{is_mark, is_named, is_number, prefix_of, infix_of, is_prefix, is_infix, is_neither, accepts}
 use Rattle.p414_reader.specs.internal.Rows as rows
 use Rattle.p414_reader.specs.internal.Rows.{Sym, grammar14, prefix_rest, infix_rest, body_sym, block_sym}
-use Rattle.p414_lexemes.specs.Keywords.{keyword_text}
+use Rattle.p414_syntax.specs.Keywords.{keyword_text}
 
 -- a word of an attribute is taken or not by what is built; another token is not
 abbrev pub unless : Bool → Option Bool

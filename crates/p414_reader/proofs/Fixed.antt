@@ -2,20 +2,20 @@
 use Rattle.std.proofs.Common.{◌≡◌, ℕ, zero, suc, Bool, true, false, not, nat_eq, List, [], ◌∷◌, Option, Some, None, refl, sym, ap, subst, ◌∙◌, bytes_eq}
 use Rattle.std.proofs.lemmas.Bool.{eqb-true}
 use Rattle.predictive_parser.proofs.Meanings.{Fixed}
-use Rattle.p414_lexemes.specs.declared.keyword.Keyword.{Keyword}
-use Rattle.p414_lexemes.specs.declared.lexeme.Literal.{Literal}
-use Rattle.p414_lexemes.specs.declared.lexeme.Lexeme.{Lexeme}
-use Rattle.p414_lexemes.specs.declared.lexeme.Lexeme.TheVariants as lexeme
-use Rattle.p414_lexemes.specs.declared.mark.Mark.{Mark}
-use Rattle.p414_lexemes.specs.declared.mark.Mark.TheVariants as mark
-use Rattle.p414_ast.specs.Words.{keyword}
-use Rattle.p414_ast.specs.Conditions.{is_among}
+use Rattle.p414_syntax.specs.declared.keyword.Keyword.{Keyword}
+use Rattle.p414_syntax.specs.declared.lexeme.Literal.{Literal}
+use Rattle.p414_syntax.specs.declared.lexeme.Lexeme.{Lexeme}
+use Rattle.p414_syntax.specs.declared.lexeme.Lexeme.TheVariants as lexeme
+use Rattle.p414_syntax.specs.declared.mark.Mark.{Mark}
+use Rattle.p414_syntax.specs.declared.mark.Mark.TheVariants as mark
+use Rattle.p414_syntax.specs.Words.{keyword}
+use Rattle.p414_syntax.specs.Conditions.{is_among}
 use Rattle.p414_reader.specs.declared.symbols.Class.{Class}
 use Rattle.p414_reader.specs.declared.symbols.Class.TheVariants as class
 use Rattle.p414_reader.specs.declared.built.Built.{Built}
 use Rattle.p414_reader.specs.internal.Classes.{mark_number, is_mark, is_named, is_number, is_new, accepts}
 use Rattle.p414_reader.specs.internal.Rows.{grammar14}
-use Rattle.p414_lexemes.specs.Keywords.{keyword_text}
+use Rattle.p414_syntax.specs.Keywords.{keyword_text}
 use Rattle.p414_reader.proofs.Lists.{text_is, left_true, right_true, not_true}
 
 -- a mark is known by its number

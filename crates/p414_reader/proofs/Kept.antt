@@ -1,14 +1,14 @@
 -- Places of nodes, while more nodes are put behind: what is seen of them stays as it was.
 use Rattle.std.proofs.Common.{◌≡◌, ℕ, zero, suc, ◌<◌, ◌≤◌, List, [], ◌∷◌, length, refl, sym, subst, ap, ap₂, ◌∙◌, arith}
 use Rattle.std.specs.Prelude.{map, Result, Ok, Err, IfOk, OnOk, OnErr}
-use Rattle.p414_ast.specs.declared.headers.TypeTail.{TypeTail}
-use Rattle.p414_ast.specs.declared.headers.TypeTail.TheVariants.{Length, MaxLength}
-use Rattle.p414_ast.specs.declared.node.ExprNode.{ExprNode}
-use Rattle.p414_ast.specs.declared.node.ExprNode.TheVariants.{Valid, Truth, Field, Number, Parenthesized, Unary, Binary}
-use Rattle.p414_ast.specs.declared.node.StmtNode.{StmtNode}
-use Rattle.p414_ast.specs.declared.node.StmtNode.TheVariants.{NoStatements, Then, Apply, ApplyBranches, If, Call, NoElse, ElseBlock, ElseIf, NoBranches, Branch}
-use Rattle.p414_ast.specs.Tree.{Expr, Stmt, no_statements, if_then, Trees, expr_at, stmt_at, expr_of, stmt_of, ExprInOrder, StmtInOrder, Keeps, AddsExpr, AddsStmt}
-use Rattle.p414_ast.specs.Views.{TailTree, length_is, max_length_is, tail_tree, TailWithin, TailsWithin}
+use Rattle.p414_syntax.specs.declared.headers.TypeTail.{TypeTail}
+use Rattle.p414_syntax.specs.declared.headers.TypeTail.TheVariants.{Length, MaxLength}
+use Rattle.p414_syntax.specs.declared.node.ExprNode.{ExprNode}
+use Rattle.p414_syntax.specs.declared.node.ExprNode.TheVariants.{Valid, Truth, Field, Number, Parenthesized, Unary, Binary}
+use Rattle.p414_syntax.specs.declared.node.StmtNode.{StmtNode}
+use Rattle.p414_syntax.specs.declared.node.StmtNode.TheVariants.{NoStatements, Then, Apply, ApplyBranches, If, Call, NoElse, ElseBlock, ElseIf, NoBranches, Branch}
+use Rattle.p414_syntax.specs.Tree.{Expr, Stmt, no_statements, if_then, Trees, expr_at, stmt_at, expr_of, stmt_of, ExprInOrder, StmtInOrder, Keeps, AddsExpr, AddsStmt}
+use Rattle.p414_syntax.specs.Views.{TailTree, length_is, max_length_is, tail_tree, TailWithin, TailsWithin}
 use Rattle.predictive_parser.specs.Values.{newest, older, extended}
 use Rattle.p414_reader.specs.internal.Actions.{no_expr, on_expr, on_exprs}
 use Rattle.p414_reader.specs.internal.Forest.{Forest, forest_of, Rooted, over_stmt, over_stmts, over_if, add_tail, AllBelow, AllTailsWithin, StandIn, TakesExpr, TakesStmt}

@@ -12,7 +12,7 @@ use Rattle.std.specs.declared.alloc.Global.{Global}
 use Rattle.std.proofs.lemmas.List.Folds.{list_any-append}
 use Rattle.std.proofs.lemmas.Map.Lookups.{exact_bytes}
 use Rattle.std.proofs.lemmas.Map.Text.{is_eq-slice_cmp}
-use Rattle.p414_ast.specs.Conditions.{is_among, is_outcome}
+use Rattle.p414_syntax.specs.Conditions.{is_among, is_outcome}
 use Rattle.p414_reader.specs.internal.Labels.{IsRecord}
 
 abbrev pub Key : Type 0

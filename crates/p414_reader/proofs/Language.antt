@@ -4,10 +4,10 @@ use Rattle.predictive_parser.specs.Grammar.{parse}
 use Rattle.predictive_parser.specs.Answers.{IsRefusedAt}
 use Rattle.predictive_parser.proofs.Chains.{reads_all}
 use Rattle.predictive_parser.proofs.Languages.{IsLanguage, refused_at}
-use Rattle.p414_lexemes.specs.declared.lexeme.Lexeme.{Lexeme}
-use Rattle.p414_ast.specs.declared.syntax.Syntax14.{Syntax14}
-use Rattle.p414_ast.specs.Written.{written}
-use Rattle.p414_ast.specs.Spells.{Spells}
+use Rattle.p414_syntax.specs.declared.lexeme.Lexeme.{Lexeme}
+use Rattle.p414_syntax.specs.declared.syntax.Syntax14.{Syntax14}
+use Rattle.p414_syntax.specs.Written.{written}
+use Rattle.p414_syntax.specs.Spells.{Spells}
 use Rattle.p414_reader.specs.declared.symbols.Word.TheVariants as word
 use Rattle.predictive_parser.specs.declared.symbol.Symbol.TheVariants as symbol
 use Rattle.p414_reader.specs.declared.built.Built.{Built}

@@ -1,12 +1,12 @@
 -- Laws of lists, and of what is built of lists, that the words of every group share.
 use Rattle.std.proofs.Common.{◌≡◌, ℕ, Bool, true, false, not, ◌&&◌, ◌||◌, List, [], ◌∷◌, ◌++◌, map, Option, Some, None, refl, sym, ap, subst, ◌∙◌, append_assoc, append-nil, bytes_eq}
 use Rattle.std.proofs.lemmas.Slice.Eq.{bytes_eq-Decides}
-use Rattle.p414_lexemes.specs.declared.lexeme.Lexeme.{Lexeme}
-use Rattle.p414_ast.specs.declared.parts.Number.{Number}
-use Rattle.p414_ast.specs.declared.parts.Index.{Index}
-use Rattle.p414_ast.specs.Words.{name}
-use Rattle.p414_ast.specs.Written.{written_option, written_index}
-use Rattle.p414_ast.specs.Conditions.{is_among, all_different, is_bare}
+use Rattle.p414_syntax.specs.declared.lexeme.Lexeme.{Lexeme}
+use Rattle.p414_syntax.specs.declared.parts.Number.{Number}
+use Rattle.p414_syntax.specs.declared.parts.Index.{Index}
+use Rattle.p414_syntax.specs.Words.{name}
+use Rattle.p414_syntax.specs.Written.{written_option, written_index}
+use Rattle.p414_syntax.specs.Conditions.{is_among, all_different, is_bare}
 use Rattle.predictive_parser.specs.Values.{newest, older, extended}
 use Rattle.p414_reader.proofs.Meaning.{extended_by, with_arguments, with_tokens, StayDifferent}
 

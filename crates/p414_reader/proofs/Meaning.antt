@@ -4,41 +4,41 @@ use Rattle.std.specs.Prelude.{◌≡◌, ℕ, Bool, true, false, ◌&&◌, nat_l
 use Rattle.std.specs.List.{flat_map, list_all}
 use Rattle.std.specs.Option.{unwrap_or}
 use Rattle.predictive_parser.proofs.Meanings.{Meaning}
-use Rattle.p414_lexemes.specs.declared.keyword.Keyword.TheVariants as key
-use Rattle.p414_lexemes.specs.declared.lexeme.Literal.{Literal}
-use Rattle.p414_lexemes.specs.declared.lexeme.Lexeme.{Lexeme}
-use Rattle.p414_ast.specs.declared.parts.Number.{Number}
-use Rattle.p414_ast.specs.declared.parts.Index.{Index}
-use Rattle.p414_ast.specs.declared.parts.Inst.{Inst}
-use Rattle.p414_ast.specs.declared.parts.Ref.{Ref}
-use Rattle.p414_ast.specs.declared.headers.FieldWidth.{FieldWidth}
-use Rattle.p414_ast.specs.declared.headers.Field.{Field}
-use Rattle.p414_ast.specs.declared.headers.Initial.{Initial}
-use Rattle.p414_ast.specs.declared.headers.Initials.{Initials}
-use Rattle.p414_ast.specs.declared.calculations.Item.{Item}
-use Rattle.p414_ast.specs.declared.calculations.CalcCond.{CalcCond}
-use Rattle.p414_ast.specs.declared.calculations.Calc.{Calc}
-use Rattle.p414_ast.specs.declared.parsers.PValue.{PValue}
-use Rattle.p414_ast.specs.declared.parsers.PStmt.{PStmt}
-use Rattle.p414_ast.specs.declared.parsers.Masked.{Masked}
-use Rattle.p414_ast.specs.declared.parsers.CaseTarget.{CaseTarget}
-use Rattle.p414_ast.specs.declared.parsers.Case.{Case}
-use Rattle.p414_ast.specs.declared.parsers.Return.{Return}
-use Rattle.p414_ast.specs.declared.actions.Arg.{Arg}
-use Rattle.p414_ast.specs.declared.actions.Call.{Call}
-use Rattle.p414_ast.specs.declared.tables.Read.{Read}
-use Rattle.p414_ast.specs.declared.tables.TableAttr.{TableAttr}
-use Rattle.p414_ast.specs.declared.tables.TableAttr.TheVariants as table_attr
-use Rattle.p414_ast.specs.declared.objects.StateAttr.{StateAttr}
-use Rattle.p414_ast.specs.declared.objects.StateAttr.TheVariants as state_attr
-use Rattle.p414_ast.specs.declared.objects.CounterType.{CounterType}
-use Rattle.p414_ast.specs.declared.node.Label.{Label}
-use Rattle.p414_ast.specs.declared.syntax.Decl.{Decl}
-use Rattle.p414_ast.specs.Tree.{Expr, Stmt, no_statements, branch}
-use Rattle.p414_ast.specs.Views.{TailTree}
-use Rattle.p414_ast.specs.Words.{name, keyword, paren_open, paren_close, semicolon, dot}
-use Rattle.p414_ast.specs.Written.{written_option, after_commas, by_commas, in_braces, written_name, name_line, written_number, index_token, written_index, written_inst, written_ref, written_truth, written_expr, written_width, written_field_attributes, written_field, tail_word, written_tail, written_size, written_initial, written_initials, written_item, written_if, written_cond, written_calc, written_pvalue, written_pstmt, written_mask, written_masked, written_target, written_case, written_return, written_arg, written_call, written_read, written_arguments, table_word, written_table_attr, written_counter_type, state_word, written_state_attr, label_text, written_stmt, written_group, written_decl}
-use Rattle.p414_ast.specs.Conditions.{is_among, all_different, is_expression_name, is_expr, is_tail, is_item, is_pvalue, is_select_value, is_pstmt, is_case, is_return, is_table_attr, has_word, table_needs, counter_needs, register_needs, is_label, are_labels, statement, behind_if, block, is_stmt, is_balanced, is_group, is_decl}
+use Rattle.p414_syntax.specs.declared.keyword.Keyword.TheVariants as key
+use Rattle.p414_syntax.specs.declared.lexeme.Literal.{Literal}
+use Rattle.p414_syntax.specs.declared.lexeme.Lexeme.{Lexeme}
+use Rattle.p414_syntax.specs.declared.parts.Number.{Number}
+use Rattle.p414_syntax.specs.declared.parts.Index.{Index}
+use Rattle.p414_syntax.specs.declared.parts.Inst.{Inst}
+use Rattle.p414_syntax.specs.declared.parts.Ref.{Ref}
+use Rattle.p414_syntax.specs.declared.headers.FieldWidth.{FieldWidth}
+use Rattle.p414_syntax.specs.declared.headers.Field.{Field}
+use Rattle.p414_syntax.specs.declared.headers.Initial.{Initial}
+use Rattle.p414_syntax.specs.declared.headers.Initials.{Initials}
+use Rattle.p414_syntax.specs.declared.calculations.Item.{Item}
+use Rattle.p414_syntax.specs.declared.calculations.CalcCond.{CalcCond}
+use Rattle.p414_syntax.specs.declared.calculations.Calc.{Calc}
+use Rattle.p414_syntax.specs.declared.parsers.PValue.{PValue}
+use Rattle.p414_syntax.specs.declared.parsers.PStmt.{PStmt}
+use Rattle.p414_syntax.specs.declared.parsers.Masked.{Masked}
+use Rattle.p414_syntax.specs.declared.parsers.CaseTarget.{CaseTarget}
+use Rattle.p414_syntax.specs.declared.parsers.Case.{Case}
+use Rattle.p414_syntax.specs.declared.parsers.Return.{Return}
+use Rattle.p414_syntax.specs.declared.actions.Arg.{Arg}
+use Rattle.p414_syntax.specs.declared.actions.Call.{Call}
+use Rattle.p414_syntax.specs.declared.tables.Read.{Read}
+use Rattle.p414_syntax.specs.declared.tables.TableAttr.{TableAttr}
+use Rattle.p414_syntax.specs.declared.tables.TableAttr.TheVariants as table_attr
+use Rattle.p414_syntax.specs.declared.objects.StateAttr.{StateAttr}
+use Rattle.p414_syntax.specs.declared.objects.StateAttr.TheVariants as state_attr
+use Rattle.p414_syntax.specs.declared.objects.CounterType.{CounterType}
+use Rattle.p414_syntax.specs.declared.node.Label.{Label}
+use Rattle.p414_syntax.specs.declared.syntax.Decl.{Decl}
+use Rattle.p414_syntax.specs.Tree.{Expr, Stmt, no_statements, branch}
+use Rattle.p414_syntax.specs.Views.{TailTree}
+use Rattle.p414_syntax.specs.Words.{name, keyword, paren_open, paren_close, semicolon, dot}
+use Rattle.p414_syntax.specs.Written.{written_option, after_commas, by_commas, in_braces, written_name, name_line, written_number, index_token, written_index, written_inst, written_ref, written_truth, written_expr, written_width, written_field_attributes, written_field, tail_word, written_tail, written_size, written_initial, written_initials, written_item, written_if, written_cond, written_calc, written_pvalue, written_pstmt, written_mask, written_masked, written_target, written_case, written_return, written_arg, written_call, written_read, written_arguments, table_word, written_table_attr, written_counter_type, state_word, written_state_attr, label_text, written_stmt, written_group, written_decl}
+use Rattle.p414_syntax.specs.Conditions.{is_among, all_different, is_expression_name, is_expr, is_tail, is_item, is_pvalue, is_select_value, is_pstmt, is_case, is_return, is_table_attr, has_word, table_needs, counter_needs, register_needs, is_label, are_labels, statement, behind_if, block, is_stmt, is_balanced, is_group, is_decl}
 use Rattle.p414_reader.specs.declared.symbols.Word.{Word}
 use Rattle.p414_reader.specs.declared.symbols.Word.TheVariants as word
 use Rattle.p414_reader.specs.declared.symbols.PartWord.{PartWord}

@@ -1,6 +1,6 @@
 -- Attributes that are needed: whether their words stand among others, and among these and more.
 use Rattle.std.proofs.Common.{◌≡◌, ℕ, Bool, true, false, List, [], ◌∷◌, ◌++◌, map, refl, sym, ap, ◌∙◌, bytes_eq}
-use Rattle.p414_ast.specs.Conditions.{is_among, has_word}
+use Rattle.p414_syntax.specs.Conditions.{is_among, has_word}
 use Rattle.predictive_parser.specs.Values.{newest, extended}
 use Rattle.p414_reader.proofs.Lists.{map_one, text_is, neither_left, neither_right, neither_of}
 

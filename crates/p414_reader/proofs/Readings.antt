@@ -11,10 +11,10 @@ use Rattle.predictive_parser.specs.declared.symbol.Otherwise.TheVariants.{Refuse
 use Rattle.predictive_parser.specs.Grammar.{Like, lines_of, plain_lines, first_fit, move}
 use Rattle.predictive_parser.proofs.Chains as chains
 use Rattle.predictive_parser.proofs.Closings as closings
-use Rattle.p414_lexemes.specs.declared.lexeme.Lexeme.{Lexeme}
-use Rattle.p414_ast.specs.Words.{comma}
-use Rattle.p414_ast.specs.Written.{after_commas}
-use Rattle.p414_ast.specs.Conditions.{is_among, all_different}
+use Rattle.p414_syntax.specs.declared.lexeme.Lexeme.{Lexeme}
+use Rattle.p414_syntax.specs.Words.{comma}
+use Rattle.p414_syntax.specs.Written.{after_commas}
+use Rattle.p414_syntax.specs.Conditions.{is_among, all_different}
 use Rattle.p414_reader.specs.declared.symbols.Class.{Class}
 use Rattle.p414_reader.specs.declared.symbols.Action.{Action}
 use Rattle.p414_reader.specs.declared.symbols.Word.{Word}

@@ -4,13 +4,13 @@ use Rattle.std.specs.Prelude.{IfOk}
 use Rattle.std.specs.List.{list_all}
 use Rattle.std.proofs.lemmas.Bool.{and_from, and_parts}
 use Rattle.std.proofs.lemmas.Result.{IfOk-weaker}
-use Rattle.p414_lexemes.specs.Spelt.{is_spelt_lexeme}
+use Rattle.p414_syntax.specs.SpeltLexemes.{is_spelt_lexeme}
 use Rattle.p414_tok.proofs.Spelt.{division_spelt}
 use Rattle.p414_tok.proofs.Spaced.{spaced, spaced_division}
-use Rattle.p414_ast.specs.declared.syntax.Syntax14.{Syntax14}
-use Rattle.p414_ast.specs.Written.{written}
-use Rattle.p414_ast.specs.Conditions.{is_syntax}
-use Rattle.p414_ast.specs.Spelt.{is_spelt14}
+use Rattle.p414_syntax.specs.declared.syntax.Syntax14.{Syntax14}
+use Rattle.p414_syntax.specs.Written.{written}
+use Rattle.p414_syntax.specs.Conditions.{is_syntax}
+use Rattle.p414_syntax.specs.Spelt.{is_spelt14}
 use Rattle.text_reading.specs.declared.error.ReadError.{ReadError}
 use Rattle.p414_reader.specs.Reading.{Reads14}
 use Rattle.p414_reader.specs.internal.Machine.{IsRead14}

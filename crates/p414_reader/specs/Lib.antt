@@ -1,5 +1,5 @@
 -- Read Reading: which text reads as which syntax, and with which fault a text is refused. It stands on `Reads` and
--- `IsRefused` of text_reading, on the division into tokens of p414_tok, and on what a syntax is spelled with, of p414_ast.
+-- `IsRefused` of text_reading, on the division into tokens of p414_tok, and on what a syntax is spelled with, of p414_syntax.
 --
 -- `internal` has what only private functions and proofs name: the rows of the grammar, what each action builds, and the
 -- machine that reads by them.

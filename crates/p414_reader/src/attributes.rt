@@ -1,12 +1,11 @@
 // Attributes of header types, tables, counters, meters and registers, by the words that they begin with.
 ghost use Rattle.std.specs.Prelude.{◌≡◌, ℕ, List, map};
-ghost use Rattle.p414_ast.specs.Written.{table_word, state_word};
-ghost use Rattle.p414_ast.specs.Conditions.{is_among};
-ghost use Rattle.p414_lexemes.specs.Keywords.{keyword_text};
+ghost use Rattle.p414_syntax.specs.Written.{table_word, state_word};
+ghost use Rattle.p414_syntax.specs.Conditions.{is_among};
+ghost use Rattle.p414_syntax.specs.Keywords.{keyword_text};
 ghost use Rattle.p414_reader.specs.internal.Forest.{tail_text};
 
-use p414_ast::{StateAttr, TableAttr, TypeTail};
-use p414_lexemes::Keyword;
+use p414_syntax::{Keyword, StateAttr, TableAttr, TypeTail};
 
 /// What begins with a word of its own.
 pub trait Worded {

@@ -13,24 +13,32 @@ use crate::labels::Labels;
 use crate::parts::Parts;
 use crate::symbols::BodyAction;
 use p4x_bits::{OutOfMemory, Text};
-use p414_ast::{ExprNode, Label, StmtNode};
-use p414_lexemes::Keyword;
+use p414_syntax::{ExprNode, Keyword, Label, StmtNode};
 use predictive_parser::ValueStack;
 use std::alloc::Global;
 use std::marker::Model;
 
 /// Stacks of the parts of expressions and controls, of the declaration that is read.
-#[derive(Drop)]
 pub struct Bodies {
     pub forest: Forest,
     pub labels: ValueStack<Labels>,
     pub else_calls: ValueStack<bool>,
 }
 
+impl Drop for Bodies {
+    fn drop(self) {
+        let Bodies {
+            forest: _forest,
+            labels: _labels,
+            else_calls: _else_calls,
+        } = self;
+    }
+}
+
 impl Model for Bodies {
     ghost use Rattle.p414_reader.specs.internal.Bodies as bodies;
     ghost use Rattle.std.specs.Coded.{codes};
-    ghost use Rattle.p414_ast.specs.Code.{coded_expr, coded_stmt, coded_tail};
+    ghost use Rattle.p414_syntax.specs.Code.{coded_expr, coded_stmt, coded_tail};
 
     ghost Value = { bodies.Bodies };
 

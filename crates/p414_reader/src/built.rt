@@ -19,13 +19,12 @@ use crate::symbols::{Action, Class};
 use crate::tables::Tables;
 use crate::token::TokenView;
 use p4x_bits::{OutOfMemory, Rows};
-use p414_ast::{Decl, Lexeme, Mark, StateAttr};
+use p414_syntax::{Decl, Lexeme, Mark, StateAttr};
 use predictive_parser::ValueStack;
 use std::alloc::Global;
 use std::mem;
 
 /// Stacks of the parts that aren't part of a declaration yet, and the declarations.
-#[derive(Drop)]
 pub struct Built {
     pub parts: Parts,
     pub headers: Headers,
@@ -37,6 +36,23 @@ pub struct Built {
     pub bodies: Bodies,
     pub groups: ValueStack<Option<Rows<Lexeme>>>,
     pub decls: Rows<Decl>,
+}
+
+impl Drop for Built {
+    fn drop(self) {
+        let Built {
+            parts: _parts,
+            headers: _headers,
+            calculations: _calculations,
+            states: _states,
+            calls: _calls,
+            tables: _tables,
+            objects: _objects,
+            bodies: _bodies,
+            groups: _groups,
+            decls: _decls,
+        } = self;
+    }
 }
 
 impl Built {
@@ -72,8 +88,12 @@ impl Built {
             headers,
             calculations,
             states,
+            calls: _calls,
+            tables: _tables,
+            objects: _objects,
             bodies,
-            ..
+            groups: _groups,
+            decls: _decls,
         } = self;
         drop(parts);
         drop(headers);

@@ -1,8 +1,8 @@
 // Field lists and calculated fields, as they are put together.
 ghost use Rattle.std.specs.Prelude.{◌≡◌, OnOk, [], ◌∷◌, None};
-ghost use Rattle.p414_ast.specs.Conditions.{is_bare};
-ghost use Rattle.p414_lexemes.specs.declared.keyword.Keyword.TheVariants as key;
-ghost use Rattle.p414_lexemes.specs.Keywords.{keyword_text};
+ghost use Rattle.p414_syntax.specs.Conditions.{is_bare};
+ghost use Rattle.p414_syntax.specs.declared.keyword.Keyword.TheVariants as key;
+ghost use Rattle.p414_syntax.specs.Keywords.{keyword_text};
 ghost use Rattle.predictive_parser.specs.Values.{newest, older, extended};
 ghost use Rattle.p414_reader.specs.declared.built.Built.{Built};
 ghost use Rattle.p414_reader.specs.internal.Built.{no_calculations};
@@ -11,17 +11,25 @@ ghost use Rattle.p414_reader.specs.internal.Actions.{put_calculation, last_name,
 use crate::parts::Parts;
 use crate::symbols::CalculationAction;
 use p4x_bits::{OutOfMemory, Rows, Text};
-use p414_ast::{Calc, CalcCond, CalcUse, Inst, Item, Ref};
-use p414_lexemes::Keyword;
+use p414_syntax::{Calc, CalcCond, CalcUse, Inst, Item, Keyword, Ref};
 use predictive_parser::ValueStack;
 use std::alloc::Global;
 
 /// Stacks of the parts of field lists and calculated fields.
-#[derive(Drop)]
 pub struct Calculations {
     pub items: ValueStack<Rows<Item>>,
     pub conditions: ValueStack<Option<CalcCond>>,
     pub entries: ValueStack<Rows<Calc>>,
+}
+
+impl Drop for Calculations {
+    fn drop(self) {
+        let Calculations {
+            items: _items,
+            conditions: _conditions,
+            entries: _entries,
+        } = self;
+    }
 }
 
 impl Calculations {

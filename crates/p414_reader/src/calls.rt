@@ -7,15 +7,23 @@ ghost use Rattle.p414_reader.specs.internal.Actions.{put_call, arg_of, with_call
 use crate::parts::Parts;
 use crate::symbols::CallAction;
 use p4x_bits::{OutOfMemory, Rows, Text};
-use p414_ast::{Arg, Call, Inst, Ref};
+use p414_syntax::{Arg, Call, Inst, Ref};
 use predictive_parser::ValueStack;
 use std::alloc::Global;
 
 /// Stacks of the parts of actions.
-#[derive(Drop)]
 pub struct Calls {
     pub arguments: ValueStack<Rows<Arg>>,
     pub calls: ValueStack<Rows<Call>>,
+}
+
+impl Drop for Calls {
+    fn drop(self) {
+        let Calls {
+            arguments: _arguments,
+            calls: _calls,
+        } = self;
+    }
 }
 
 impl Calls {

@@ -1,6 +1,6 @@
 // Which row of an expression's word is taken: what follows an operator depends on how tightly it binds.
 ghost use Rattle.std.specs.Prelude.{◌≡◌, ◌<◌, length, Some, None, IfOk, slice_get};
-ghost use Rattle.p414_lexemes.specs.declared.lexeme.Lexeme.{Lexeme};
+ghost use Rattle.p414_syntax.specs.declared.lexeme.Lexeme.{Lexeme};
 ghost use Rattle.p414_reader.specs.declared.symbols.BodyWord.TheVariants as BodyWord;
 ghost use Rattle.p414_reader.specs.internal.Classes.{prefix_of};
 ghost use Rattle.p414_reader.specs.internal.Rows as specs;
@@ -13,8 +13,7 @@ use crate::rows::{DOT, PAREN_CLOSE, PAREN_OPEN, Sym};
 use crate::symbols::{Action, BodyAction, BodyWord, Class, PartAction, PartWord, Word};
 use crate::token::token_at;
 use p4x_bits::OutOfMemory;
-use p414_ast::Mark;
-use p414_lexemes::Keyword;
+use p414_syntax::{Keyword, Mark};
 use predictive_parser::{Alternative, Stack, Symbol, behind_operator, choose_first};
 
 const EXPR: Sym = Symbol::Word(Word::Body(BodyWord::Expr(0)));

@@ -6,7 +6,7 @@ ghost use Rattle.p414_reader.specs.internal.Actions.{put_decl, with_decl, statef
 use crate::built::Built;
 use crate::symbols::DeclKind;
 use p4x_bits::{OutOfMemory, Text};
-use p414_ast::{
+use p414_syntax::{
     Action, CalculatedField, Decl, FieldList, FieldListCalculation, Header, LeftOut, LeftOutKind,
     Metadata, Parser, Return, Stateful, Table,
 };

@@ -1,22 +1,21 @@
 // Expressions and statements over earlier ones, as they are put together.
 ghost use Rattle.std.specs.Prelude.{◌≡◌, [], ◌∷◌, length, map, IfOk, OnOk};
-ghost use Rattle.p414_ast.specs.Tree as tree;
-ghost use Rattle.p414_ast.specs.Tree.{parenthesized, unary, binary, no_statements, apply_branches, branch, else_block, else_if, expr_of, stmt_of, ExprInOrder, StmtInOrder};
-ghost use Rattle.p414_ast.specs.Views.{length_is, max_length_is, tail_tree, TailWithin};
-ghost use Rattle.p414_ast.specs.Written.{tail_word};
-ghost use Rattle.p414_ast.specs.Conditions.{is_among};
-ghost use Rattle.p414_lexemes.specs.Keywords.{keyword_text};
+ghost use Rattle.p414_syntax.specs.Tree as tree;
+ghost use Rattle.p414_syntax.specs.Tree.{parenthesized, unary, binary, no_statements, apply_branches, branch, else_block, else_if, expr_of, stmt_of, ExprInOrder, StmtInOrder};
+ghost use Rattle.p414_syntax.specs.Views.{length_is, max_length_is, tail_tree, TailWithin};
+ghost use Rattle.p414_syntax.specs.Written.{tail_word};
+ghost use Rattle.p414_syntax.specs.Conditions.{is_among};
+ghost use Rattle.p414_syntax.specs.Keywords.{keyword_text};
 ghost use Rattle.predictive_parser.specs.Values.{newest, extended};
 ghost use Rattle.p414_reader.specs.internal.Actions.{on_expr, on_exprs, with_stmt, with_else_call};
 ghost use Rattle.p414_reader.specs.internal.Forest.{TakesExpr, TakesStmt, over_stmt, over_stmts, over_if, add_tail};
 
 use crate::attributes::has_word;
 use p4x_bits::{OutOfMemory, Rows, Text};
-use p414_ast::{
-    BinaryOperator, Control, ExprNode, Field, HeaderType, Label, Nodes, StmtNode, TypeTail,
-    UnaryOperator,
+use p414_syntax::{
+    BinaryOperator, Control, ExprNode, Field, HeaderType, Keyword, Label, Nodes, StmtNode,
+    TypeTail, UnaryOperator,
 };
-use p414_lexemes::Keyword;
 use predictive_parser::ValueStack;
 use std::alloc::Global;
 use std::marker::Model;
@@ -35,7 +34,7 @@ pub struct Forest {
 impl Model for Forest {
     ghost use Rattle.p414_reader.specs.internal.Forest.{Rooted, forest_of, StandIn};
     ghost use Rattle.std.specs.Coded.{codes};
-    ghost use Rattle.p414_ast.specs.Code.{coded_expr, coded_stmt, coded_tail};
+    ghost use Rattle.p414_syntax.specs.Code.{coded_expr, coded_stmt, coded_tail};
 
     ghost Value = { Rooted };
 

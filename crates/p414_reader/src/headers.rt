@@ -7,17 +7,27 @@ ghost use Rattle.p414_reader.specs.internal.Actions.{put_header, with_headers};
 use crate::parts::Parts;
 use crate::symbols::HeaderAction;
 use p4x_bits::{OutOfMemory, Rows};
-use p414_ast::{Field, FieldWidth, Initial, Initials};
+use p414_syntax::{Field, FieldWidth, Initial, Initials};
 use predictive_parser::ValueStack;
 use std::alloc::Global;
 
 /// Stacks of the parts of header types and metadata.
-#[derive(Drop)]
 pub struct Headers {
     pub widths: ValueStack<FieldWidth>,
     pub fields: ValueStack<Rows<Field>>,
     pub initials: ValueStack<Rows<Initial>>,
     pub initials_options: ValueStack<Option<Initials>>,
+}
+
+impl Drop for Headers {
+    fn drop(self) {
+        let Headers {
+            widths: _widths,
+            fields: _fields,
+            initials: _initials,
+            initials_options: _initials_options,
+        } = self;
+    }
 }
 
 impl Headers {

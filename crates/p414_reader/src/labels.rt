@@ -1,21 +1,31 @@
 // The labels of a list of branches that is open.
 ghost use Rattle.std.specs.Prelude.{◌≡◌, [], ◌∷◌, ◌++◌, IfOk};
-ghost use Rattle.p414_ast.specs.Conditions.{is_outcome};
+ghost use Rattle.p414_syntax.specs.Conditions.{is_outcome};
 ghost use Rattle.p414_reader.specs.internal.Classes.{may_follow};
 
 use p4x_bits::{OutOfMemory, Rows, Text};
-use p414_lexemes::Keyword;
+use p414_syntax::Keyword;
 use std::alloc::Global;
 use std::collections::BTreeSet;
 use std::marker::Model;
 
 /// Labels, as they are read. Contracts see the list of their texts.
-#[derive(Drop)]
 pub struct Labels {
     texts: Rows<Text>,
     seen: BTreeSet<Vec<u8>>,
     has_outcome: bool,
     has_other: bool,
+}
+
+impl Drop for Labels {
+    fn drop(self) {
+        let Labels {
+            texts: _texts,
+            seen: _seen,
+            has_outcome: _has_outcome,
+            has_other: _has_other,
+        } = self;
+    }
 }
 
 impl Model for Labels {

@@ -6,7 +6,7 @@ ghost use Rattle.p414_reader.specs.declared.built.Built.{Built};
 use crate::parts::Parts;
 use crate::symbols::ObjectAction;
 use p4x_bits::{OutOfMemory, Rows};
-use p414_ast::StateAttr;
+use p414_syntax::StateAttr;
 use predictive_parser::ValueStack;
 use std::alloc::Global;
 

@@ -1,12 +1,11 @@
 // The operators of expressions.
 ghost use Rattle.std.specs.Prelude.{◌≡◌, ◌≤◌};
-ghost use Rattle.p414_ast.specs.Operators.{unary_power, binary_power};
+ghost use Rattle.p414_syntax.specs.Operators.{unary_power, binary_power};
 ghost use Rattle.p414_reader.specs.internal.Classes.{prefix_of, infix_of, infix_mark, is_prefix, is_infix};
 ghost use Rattle.p414_reader.specs.internal.Lexemes.{lexeme_of};
 
 use crate::token::TokenView;
-use p414_ast::{BinaryOperator, UnaryOperator};
-use p414_lexemes::{Keyword, Mark};
+use p414_syntax::{BinaryOperator, Keyword, Mark, UnaryOperator};
 use p414_tok::TokenKind14;
 use predictive_parser::may_follow;
 

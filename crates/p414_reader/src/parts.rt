@@ -7,8 +7,7 @@ ghost use Rattle.p414_reader.specs.declared.symbols.PartAction.TheVariants as Pa
 
 use crate::symbols::PartAction;
 use p4x_bits::{OutOfMemory, Rows, Text};
-use p414_ast::{Index, Inst, Literal, Number, Ref};
-use p414_lexemes::Keyword;
+use p414_syntax::{Index, Inst, Keyword, Literal, Number, Ref};
 use predictive_parser::ValueStack;
 use std::alloc::Global;
 
@@ -19,7 +18,6 @@ const NO_LITERAL: Literal = Literal {
 };
 
 /// Stacks of names, numbers, instances and fields.
-#[derive(Drop)]
 pub struct Parts {
     pub names: ValueStack<Text>,
     pub name_lists: ValueStack<Rows<Text>>,
@@ -31,6 +29,23 @@ pub struct Parts {
     pub instances: ValueStack<Inst>,
     pub fields: ValueStack<Ref>,
     pub field_options: ValueStack<Option<Text>>,
+}
+
+impl Drop for Parts {
+    fn drop(self) {
+        let Parts {
+            names: _names,
+            name_lists: _name_lists,
+            literals: _literals,
+            literal_options: _literal_options,
+            numbers: _numbers,
+            arguments: _arguments,
+            indexes: _indexes,
+            instances: _instances,
+            fields: _fields,
+            field_options: _field_options,
+        } = self;
+    }
 }
 
 impl Parts {

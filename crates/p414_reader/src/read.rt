@@ -1,8 +1,8 @@
 // The reading of a text.
 ghost use Rattle.std.specs.Prelude.{◌≡◌, Ok, Err, IfOk, IsTrue};
 ghost use Rattle.p4x_fault.specs.declared.Fault.{Fault};
-ghost use Rattle.p414_ast.specs.declared.syntax.Syntax14.{Syntax14};
-ghost use Rattle.p414_ast.specs.Spelt.{is_spelt14};
+ghost use Rattle.p414_syntax.specs.declared.syntax.Syntax14.{Syntax14};
+ghost use Rattle.p414_syntax.specs.Spelt.{is_spelt14};
 ghost use Rattle.p414_tok.specs.Lexemes.{lexemes};
 ghost use Rattle.predictive_parser.specs.Grammar.{parse};
 ghost use Rattle.text_reading.specs.Reading.{IfRefused, Answers};
@@ -16,7 +16,7 @@ ghost use Rattle.p414_reader.specs.internal.Machine.{HoldsDecls, IsRead14};
 use crate::built::Built;
 use crate::reading::Reading;
 use crate::symbols::Word;
-use p414_ast::Syntax14;
+use p414_syntax::Syntax14;
 use p414_tok::{Token14, tokens};
 use std::alloc::Global;
 use text_reading::{ReadError, parse_text};
@@ -25,7 +25,7 @@ use text_reading::{ReadError, parse_text};
 /// marks and grammar; the rules and their places are this project's own).
 ///
 /// What is given is a syntax that a text can have: it keeps to the grammar, each of its names is an identifier, and each
-/// of its numbers fits (`is_spelt14` of p414_ast).
+/// of its numbers fits (`is_spelt14` of p414_syntax).
 ///
 /// A text that can't be divided into tokens is refused with the L rule that it breaks and the place of what breaks it.
 /// A text whose tokens aren't those of a program is refused with S1, and the place of the first token that can't stand

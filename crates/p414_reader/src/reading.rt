@@ -3,7 +3,7 @@ ghost use Rattle.p414_reader.specs.declared.built.Built as built;
 ghost use Rattle.p414_reader.specs.internal.Rows.{grammar14};
 ghost use Rattle.p414_reader.specs.internal.Coded.{coded};
 ghost use Rattle.std.specs.Prelude.{◌≡◌, ◌<◌, length, None, IfOk};
-ghost use Rattle.p414_lexemes.specs.declared.lexeme.Lexeme.{Lexeme};
+ghost use Rattle.p414_syntax.specs.declared.lexeme.Lexeme.{Lexeme};
 ghost use Rattle.p414_tok.specs.Lexemes.{lexemes};
 
 use crate::built::Built;

@@ -6,7 +6,7 @@ ghost use Rattle.p414_reader.specs.internal.Rows as specs;
 ghost use Rattle.p414_reader.specs.internal.Coded.{coded};
 
 use crate::symbols::{Action, Class, Word};
-use p414_ast::Mark;
+use p414_syntax::Mark;
 use predictive_parser::{Otherwise, Row, Symbol, WordRows};
 
 /// A class, and the symbols that follow its token.

@@ -1,13 +1,13 @@
 // Parser states, as they are put together.
 ghost use Rattle.std.specs.Prelude.{◌≡◌, OnOk, [], ◌∷◌, None};
-ghost use Rattle.p414_ast.specs.Conditions.{is_bare};
-ghost use Rattle.p414_ast.specs.declared.parsers.PValue.TheVariants as value;
-ghost use Rattle.p414_ast.specs.declared.parsers.PStmt.TheVariants as statement;
-ghost use Rattle.p414_ast.specs.declared.parsers.CaseValues.TheVariants as case_values;
-ghost use Rattle.p414_ast.specs.declared.parsers.CaseTarget.TheVariants as target;
-ghost use Rattle.p414_ast.specs.declared.parsers.Return.TheVariants as end_of;
-ghost use Rattle.p414_lexemes.specs.declared.keyword.Keyword.TheVariants as key;
-ghost use Rattle.p414_lexemes.specs.Keywords.{keyword_text};
+ghost use Rattle.p414_syntax.specs.Conditions.{is_bare};
+ghost use Rattle.p414_syntax.specs.declared.parsers.PValue.TheVariants as value;
+ghost use Rattle.p414_syntax.specs.declared.parsers.PStmt.TheVariants as statement;
+ghost use Rattle.p414_syntax.specs.declared.parsers.CaseValues.TheVariants as case_values;
+ghost use Rattle.p414_syntax.specs.declared.parsers.CaseTarget.TheVariants as target;
+ghost use Rattle.p414_syntax.specs.declared.parsers.Return.TheVariants as end_of;
+ghost use Rattle.p414_syntax.specs.declared.keyword.Keyword.TheVariants as key;
+ghost use Rattle.p414_syntax.specs.Keywords.{keyword_text};
 ghost use Rattle.predictive_parser.specs.Values.{newest, older, extended};
 ghost use Rattle.p414_reader.specs.declared.built.Built.{Built};
 ghost use Rattle.p414_reader.specs.internal.Built.{no_states};
@@ -16,13 +16,13 @@ ghost use Rattle.p414_reader.specs.internal.Actions.{put_state, no_literal, last
 use crate::parts::Parts;
 use crate::symbols::StateAction;
 use p4x_bits::{OutOfMemory, Rows, Text};
-use p414_ast::{Case, CaseTarget, CaseValues, Inst, Masked, PStmt, PValue, Ref, Return};
-use p414_lexemes::Keyword;
+use p414_syntax::{
+    Case, CaseTarget, CaseValues, Inst, Keyword, Masked, PStmt, PValue, Ref, Return,
+};
 use predictive_parser::ValueStack;
 use std::alloc::Global;
 
 /// Stacks of the parts of parser states.
-#[derive(Drop)]
 pub struct States {
     pub values: ValueStack<PValue>,
     pub value_lists: ValueStack<Rows<PValue>>,
@@ -32,6 +32,21 @@ pub struct States {
     pub targets: ValueStack<CaseTarget>,
     pub cases: ValueStack<Rows<Case>>,
     pub ends: ValueStack<Return>,
+}
+
+impl Drop for States {
+    fn drop(self) {
+        let States {
+            values: _values,
+            value_lists: _value_lists,
+            statements: _statements,
+            masked: _masked,
+            case_values: _case_values,
+            targets: _targets,
+            cases: _cases,
+            ends: _ends,
+        } = self;
+    }
 }
 
 impl States {
@@ -177,7 +192,7 @@ fn value_of(field: Ref) -> PValue
     ensures { result ≡ value_of field }
 {
     if is_latest(&field.instance) {
-        PValue::Latest(field.field)
+        PValue::Latest(field.into_field())
     } else {
         PValue::Field(field)
     }

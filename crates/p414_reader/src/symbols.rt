@@ -1,6 +1,7 @@
 // What the rows of the grammar are made of: classes of tokens, actions and words.
-use p414_ast::{BinaryOperator, CalcUse, CounterType, LeftOutKind, Mark, Sign, UnaryOperator};
-use p414_lexemes::Keyword;
+use p414_syntax::{
+    BinaryOperator, CalcUse, CounterType, Keyword, LeftOutKind, Mark, Sign, UnaryOperator,
+};
 
 /// A class of tokens.
 #[derive(Clone, Copy, Drop)]

@@ -8,15 +8,23 @@ ghost use Rattle.p414_reader.specs.internal.Actions.{put_table, last_name, last_
 use crate::parts::Parts;
 use crate::symbols::TableAction;
 use p4x_bits::{OutOfMemory, Rows, Text};
-use p414_ast::{Inst, Read, ReadKey, Ref, TableAttr};
+use p414_syntax::{Inst, Read, ReadKey, Ref, TableAttr};
 use predictive_parser::ValueStack;
 use std::alloc::Global;
 
 /// Stacks of the parts of tables.
-#[derive(Drop)]
 pub struct Tables {
     pub reads: ValueStack<Rows<Read>>,
     pub attributes: ValueStack<Rows<TableAttr>>,
+}
+
+impl Drop for Tables {
+    fn drop(self) {
+        let Tables {
+            reads: _reads,
+            attributes: _attributes,
+        } = self;
+    }
 }
 
 impl Tables {

@@ -1,14 +1,14 @@
 // Tokens, read where they lie in the text.
 ghost use Rattle.std.specs.Prelude.{◌≡◌, ◌<◌, length, map, take, drop, ◌-◌, Some, slice_get, IfOk, true, not};
 ghost use Rattle.std.specs.Str.{bytes_eq};
-ghost use Rattle.p414_ast.specs.Conditions.{is_among, is_expression_name, brace_of};
-ghost use Rattle.p414_lexemes.specs.Keywords.{keyword_text};
+ghost use Rattle.p414_syntax.specs.Conditions.{is_among, is_expression_name, brace_of};
+ghost use Rattle.p414_syntax.specs.Keywords.{keyword_text};
 ghost use Rattle.p414_reader.specs.internal.Classes.{mark_number, is_mark, is_named, is_number, is_neither, text_of, literal_of};
 ghost use Rattle.p414_tok.specs.Lexemes.{lexemes};
 ghost use Rattle.p414_reader.specs.internal.Lexemes.{lexeme_of};
 
 use p4x_bits::{OutOfMemory, Text};
-use p414_lexemes::{Keyword, Lexeme, Literal, Mark};
+use p414_syntax::{Keyword, Lexeme, Literal, Mark};
 use p414_tok::{Token14, TokenKind14};
 use std::alloc::Global;
 

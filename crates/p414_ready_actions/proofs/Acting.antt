@@ -2,11 +2,11 @@
 use Rattle.std.proofs.Common.{◌≡◌, ℕ, ◌==◌, Bool, true, false, cond, ◌&&◌, List, [], ◌∷◌, length, map, pos, negsuc, refl, sym, ap, ap₂, ◌∙◌}
 use Rattle.std.specs.Prelude.{codes}
 use Rattle.std.specs.Str.{bytes_eq}
-use Rattle.p414_ast.specs.declared.syntax.Decl.{Decl}
-use Rattle.p414_ast.specs.declared.syntax.Rule14.{Rule14}
-use Rattle.p414_ast.specs.declared.syntax.Rule14.TheVariants.{Sequential, Parallel}
-use Rattle.p414_rules.specs.Primitives.{hash}
-use Rattle.p414_rules.specs.Arguments.{Invocation}
+use Rattle.p414_syntax.specs.declared.syntax.Decl.{Decl}
+use Rattle.p414_syntax.specs.declared.syntax.Rule14.{Rule14}
+use Rattle.p414_syntax.specs.declared.syntax.Rule14.TheVariants.{Sequential, Parallel}
+use Rattle.p414_syntax.specs.Primitives.{hash}
+use Rattle.p414_syntax.specs.Arguments.{Invocation}
 use Rattle.p414_sem.specs.Slots.{Slot, standard, declared, Target}
 use Rattle.p414_sem.specs.State.{State, is_live}
 use Rattle.p414_sem.specs.Wholes.{kept}

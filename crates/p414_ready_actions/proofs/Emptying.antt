@@ -6,11 +6,11 @@ use Rattle.std.specs.Option.{option_map_or}
 use Rattle.std.proofs.lemmas.Bool.{cases_lt}
 use Rattle.std.proofs.lemmas.List.{get_or-set_other}
 use Rattle.std.proofs.lemmas.Option.{slice_get-map}
-use Rattle.p414_ast.specs.declared.actions.Action.{Action}
-use Rattle.p414_ast.specs.declared.syntax.Decl.{Decl}
-use Rattle.p414_rules.specs.Names.{Name}
-use Rattle.p414_rules.specs.Arguments.{Argument, Invocation, invocations_of, actions, action_number, action_of}
-use Rattle.p414_rules.specs.ActionExpansion.{CallsExpand, NoCalls, OfPrimitive, OfAction, invoked_with, body_with}
+use Rattle.p414_syntax.specs.declared.actions.Action.{Action}
+use Rattle.p414_syntax.specs.declared.syntax.Decl.{Decl}
+use Rattle.p414_syntax.specs.Names.{Name}
+use Rattle.p414_syntax.specs.Arguments.{Argument, Invocation, invocations_of, actions, action_number, action_of}
+use Rattle.p414_syntax.specs.ActionExpansion.{CallsExpand, NoCalls, OfPrimitive, OfAction, invoked_with, body_with}
 use Rattle.p414_ready_actions.specs.internal.Known.{AreKnown}
 use Rattle.p414_ready_actions.specs.internal.Empty.{AreEmpty, IsEmpty, is_empty_call, is_marked}
 

@@ -2,8 +2,8 @@
 use Rattle.std.proofs.Common.{◌≡◌, ℕ, ◌+◌, ◌<◌, List, [], ◌∷◌, ◌++◌, length, get_or, drop, option_to_list, Option, Some, None, refl, sym, ap, ◌∙◌, append_assoc, drop-cons, add-one}
 use Rattle.std.specs.Prelude.{filter_map}
 use Rattle.std.specs.List.{cons_option}
-use Rattle.p414_ast.specs.declared.syntax.Decl.{Decl}
-use Rattle.p414_rules.specs.Names.{Name}
+use Rattle.p414_syntax.specs.declared.syntax.Decl.{Decl}
+use Rattle.p414_syntax.specs.Names.{Name}
 
 next_items : {X : Type 0} (xs : List X) (i : ℕ) (d : X) → i < length xs → drop i xs ≡ get_or xs i d ∷ drop (i + 1) xs
 next_items xs i d h = rw (add-one, drop-cons xs i d h) refl

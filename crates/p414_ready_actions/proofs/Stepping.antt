@@ -1,11 +1,11 @@
 -- Calls are expanded step by step.
 use Rattle.std.proofs.Common.{◌≡◌, ℕ, List, [], ◌∷◌, ◌++◌, map, slice_get, Some, None, refl, sym, ap, ap₂, ◌∙◌, subst, append_assoc, append-nil}
 use Rattle.std.specs.Prelude.{option_and_then}
-use Rattle.p414_ast.specs.declared.actions.Action.{Action}
-use Rattle.p414_ast.specs.declared.syntax.Decl.{Decl}
-use Rattle.p414_rules.specs.Names.{Name}
-use Rattle.p414_rules.specs.Arguments.{Argument, number_argument, field_argument, parameter_argument, name_argument, Invocation, invocations_of, actions, action_number}
-use Rattle.p414_rules.specs.ActionExpansion.{CallsExpand, NoCalls, OfPrimitive, OfAction, given_for, invoked_with, body_with}
+use Rattle.p414_syntax.specs.declared.actions.Action.{Action}
+use Rattle.p414_syntax.specs.declared.syntax.Decl.{Decl}
+use Rattle.p414_syntax.specs.Names.{Name}
+use Rattle.p414_syntax.specs.Arguments.{Argument, number_argument, field_argument, parameter_argument, name_argument, Invocation, invocations_of, actions, action_number}
+use Rattle.p414_syntax.specs.ActionExpansion.{CallsExpand, NoCalls, OfPrimitive, OfAction, given_for, invoked_with, body_with}
 use Rattle.p414_ready_actions.specs.declared.rows.ReadyPrimitive.{ReadyPrimitive}
 use Rattle.p414_ready_actions.specs.Meaning.{AreRows}
 use Rattle.p414_ready_actions.specs.Words.{called_with, row_by, row_of, word_of}

@@ -1,10 +1,10 @@
 -- What it is for rows to be an action of a program.
 use Rattle.std.specs.Prelude.{◌≡◌, ℕ, ◌<◌, List, length, map}
-use Rattle.p414_ast.specs.declared.syntax.Decl.{Decl}
-use Rattle.p414_ast.specs.declared.syntax.Rule14.{Rule14}
-use Rattle.p414_rules.specs.Names.{Name}
-use Rattle.p414_rules.specs.Arguments.{Invocation, actions}
-use Rattle.p414_rules.specs.ActionExpansion.{ActionExpands}
+use Rattle.p414_syntax.specs.declared.syntax.Decl.{Decl}
+use Rattle.p414_syntax.specs.declared.syntax.Rule14.{Rule14}
+use Rattle.p414_syntax.specs.Names.{Name}
+use Rattle.p414_syntax.specs.Arguments.{Invocation, actions}
+use Rattle.p414_syntax.specs.ActionExpansion.{ActionExpands}
 use Rattle.p414_sem.specs.State.{State}
 use Rattle.p414_sem.specs.Expanded.{Expanded, IsExpanded}
 use Rattle.p414_sem.specs.Calculations.{calculation_named, result_of}

@@ -3,11 +3,11 @@ use Rattle.std.specs.Prelude.{ℕ, if◌then◌else◌, false, pos, List, [], le
 use Rattle.std.specs.Str.{bytes_eq}
 use Rattle.state_store.specs.Ports.{drop_port}
 use Rattle.fabric.specs.declared.items.RequestKind.TheVariants.{CloneI2E, CloneE2E, Resubmit, Recirculate}
-use Rattle.p414_ast.specs.declared.syntax.Decl.{Decl}
-use Rattle.p414_ast.specs.declared.syntax.Sort.TheVariants as sort
-use Rattle.p414_rules.specs.Names.{Name, names_in, number_of}
-use Rattle.p414_rules.specs.Primitives.{hash}
-use Rattle.p414_rules.specs.Arguments.{Argument, Invocation}
+use Rattle.p414_syntax.specs.declared.syntax.Decl.{Decl}
+use Rattle.p414_syntax.specs.declared.syntax.Sort.TheVariants as sort
+use Rattle.p414_syntax.specs.Names.{Name, names_in, number_of}
+use Rattle.p414_syntax.specs.Primitives.{hash}
+use Rattle.p414_syntax.specs.Arguments.{Argument, Invocation}
 use Rattle.p414_sem.specs.Operations.{Source, Term, number, just, on_mask, sum, difference, conjunction, disjunction, exclusive, left_shift, right_shift, cell, Primitive, write, add_header, remove_header, copy_header, push, pop, count_cell, write_cell, execute_meter, nothing, argument_at, name_in_argument, source, target, element, stack, object, element_count, writes, writes_sum, changes, modifies, egress_spec, clones, repeats_packet}
 use Rattle.p414_ready_actions.specs.declared.words.PrimitiveWord.{PrimitiveWord}
 use Rattle.p414_ready_actions.specs.declared.words.PrimitiveWord.TheVariants as word

@@ -1,7 +1,7 @@
 // What the arguments of primitives are by number.
 ghost use Rattle.std.specs.Prelude.{◌≡◌, false, map, slice_get, pos, neg_ℤ, codes, IfOk};
 ghost use Rattle.std.specs.Option.{option_map_or};
-ghost use Rattle.p414_rules.specs.Names.{has_name};
+ghost use Rattle.p414_syntax.specs.Names.{has_name};
 ghost use Rattle.p414_calls.specs.Shown.{shown_argument};
 ghost use Rattle.p414_sem.specs.Operations.{argument_at, element, element_count, list_at, name_in_argument, object, source, source_of, stack, target};
 ghost use Rattle.p414_sem.specs.Slots.{element_of, field_target, is_saturating, is_saturating_ref};
@@ -15,11 +15,10 @@ use crate::names::ActionNames;
 use crate::rows::{ReadyElement, ReadySource, ReadyTarget};
 use name_numbers::narrow;
 use p4x_bits::{OutOfMemory, Text};
-use p414_ast::{Field, HeaderType, Inst, Number, Ref, Sign};
 use p414_calls::Argument;
-use p414_lexemes::Literal;
 use p414_names::is_standard;
 use p414_slots::{element_number, narrow_number};
+use p414_syntax::{Field, HeaderType, Inst, Literal, Number, Ref, Sign};
 use p414_wholes::Whole;
 
 const SATURATING: &[u8] = b"saturating";

@@ -2,7 +2,7 @@
 // primitives that come of it, each for as many actions as it stands within.
 ghost use Rattle.std.specs.Prelude.{◌≡◌, map, option_copied, slice_get, IfOk};
 ghost use Rattle.std.specs.List.{list_all};
-ghost use Rattle.p414_rules.specs.Arguments.{actions, invocations_of};
+ghost use Rattle.p414_syntax.specs.Arguments.{actions, invocations_of};
 ghost use Rattle.p414_ready_actions.specs.internal.Empty.{AreEmpty, is_empty_call, is_marked};
 
 use p4x_bits::OutOfMemory;

@@ -1,7 +1,7 @@
 // Calls of actions, expanded.
 ghost use Rattle.std.specs.Prelude.{◌≡◌, ◌++◌, ◌∷◌, List, [], map, Some, IfOk, MatchOption, OnOk};
-ghost use Rattle.p414_rules.specs.Arguments.{Invocation as Called, action_number};
-ghost use Rattle.p414_rules.specs.ActionExpansion.{CallsExpand, given_for};
+ghost use Rattle.p414_syntax.specs.Arguments.{Invocation as Called, action_number};
+ghost use Rattle.p414_syntax.specs.ActionExpansion.{CallsExpand, given_for};
 ghost use Rattle.p414_calls.specs.Shown.{shown_argument};
 ghost use Rattle.p414_ready_actions.specs.Meaning.{AreRows, Means};
 ghost use Rattle.p414_ready_actions.specs.Words.{row_of};
@@ -26,8 +26,8 @@ struct Body<'c, 'a> {
 
 impl<'c, 'a> Model for Body<'c, 'a> {
     ghost use Rattle.std.specs.Prelude.{List, map};
-    ghost use Rattle.p414_rules.specs.Arguments.{Invocation as Called};
-    ghost use Rattle.p414_rules.specs.ActionExpansion.{invoked_with};
+    ghost use Rattle.p414_syntax.specs.Arguments.{Invocation as Called};
+    ghost use Rattle.p414_syntax.specs.ActionExpansion.{invoked_with};
     ghost use Rattle.p414_calls.specs.Shown.{shown_argument};
 
     ghost Value = { List Called };

@@ -1,10 +1,10 @@
 // What the actions of a program are made of, by number.
 ghost use Rattle.std.specs.Prelude.{◌≡◌, ◌++◌, length, map, option_copied, option_to_list, slice_get, unwrap_or, IfOk, IsTrue, OnOk};
-ghost use Rattle.p414_ast.specs.References.{referred};
-ghost use Rattle.p414_ast.specs.declared.syntax.Sort.TheVariants as sort;
-ghost use Rattle.p414_rules.specs.Names.{find_name, name_in, names_in};
-ghost use Rattle.p414_rules.specs.Expansion.{list_number};
-ghost use Rattle.p414_rules.specs.Arguments.{action_number, actions, invocations_of};
+ghost use Rattle.p414_syntax.specs.References.{referred};
+ghost use Rattle.p414_syntax.specs.declared.syntax.Sort.TheVariants as sort;
+ghost use Rattle.p414_syntax.specs.Names.{find_name, name_in, names_in};
+ghost use Rattle.p414_syntax.specs.Expansion.{list_number};
+ghost use Rattle.p414_syntax.specs.Arguments.{action_number, actions, invocations_of};
 ghost use Rattle.p414_sem.specs.Operations.{in_order, object_number};
 ghost use Rattle.p414_ready_actions.specs.Words.{calculation_number};
 ghost use Rattle.p414_ready_actions.specs.internal.Empty.{IsEmpty};
@@ -13,17 +13,16 @@ use crate::empties::{empties, is_marked};
 use digraph::Components;
 use name_numbers::{Numbering, narrow, number_names};
 use p4x_bits::OutOfMemory;
-use p414_ast::Decl;
 use p414_calls::{ActionCalls, action_graph, action_number, calls_of};
 use p414_list_check::list_number;
 use p414_names::Names14;
 use p414_slots::Slots;
+use p414_syntax::Decl;
 use std::alloc::Global;
 use std::marker::Model;
 
 /// The actions of a program with what their calls name: fields, headers, stateful objects, calculations and field lists, by
 /// number. Contracts see the declarations of the program.
-#[derive(Drop)]
 pub struct ActionNames<'n, 'a> {
     slots: Slots<'n, 'a>,
     calls: Vec<ActionCalls<'a>>,
@@ -32,11 +31,23 @@ pub struct ActionNames<'n, 'a> {
     empty: Vec<bool>,
 }
 
+impl Drop for ActionNames<'_, '_> {
+    fn drop(self) {
+        let ActionNames {
+            slots: _slots,
+            calls: _calls,
+            objects: _objects,
+            calculations: _calculations,
+            empty: _empty,
+        } = self;
+    }
+}
+
 impl<'n, 'a> Model for ActionNames<'n, 'a> {
     ghost use Rattle.std.specs.Prelude.{List};
     ghost use Rattle.std.specs.Coded.{codes};
-    ghost use Rattle.p414_ast.specs.declared.syntax.Decl.{Decl};
-    ghost use Rattle.p414_ast.specs.contracts.syntax.Decl as declaration;
+    ghost use Rattle.p414_syntax.specs.declared.syntax.Decl.{Decl};
+    ghost use Rattle.p414_syntax.specs.contracts.syntax.Decl as declaration;
     ghost use Rattle.p414_ready_actions.specs.internal.Known.{AreKnown};
 
     ghost Value = { List Decl };

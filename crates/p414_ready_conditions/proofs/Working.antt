@@ -1,11 +1,11 @@
 -- What is done for an expression comes to the same rows, and is less.
 use Rattle.std.proofs.Common.{◌≡◌, ℕ, suc, ◌+◌, ◌*◌, ◌<◌, Bool, true, false, cond, List, [], ◌∷◌, ◌++◌, length, refl, sym, ap, ◌∙◌, append_assoc, append-nil, length-append, subst, arith}
 use Rattle.std.proofs.lemmas.Grind.{flat_map-append}
-use Rattle.p414_ast.specs.declared.node.BinaryOperator.{BinaryOperator}
-use Rattle.p414_ast.specs.declared.syntax.Decl.{Decl}
-use Rattle.p414_ast.specs.Tree.{Expr, valid, truth, field, number, parenthesized, unary, binary}
-use Rattle.p414_ast.specs.Subtrees.{subexpressions}
-use Rattle.p414_rules.specs.Expressions.{takes_truth}
+use Rattle.p414_syntax.specs.declared.node.BinaryOperator.{BinaryOperator}
+use Rattle.p414_syntax.specs.declared.syntax.Decl.{Decl}
+use Rattle.p414_syntax.specs.Tree.{Expr, valid, truth, field, number, parenthesized, unary, binary}
+use Rattle.p414_syntax.specs.Subtrees.{subexpressions}
+use Rattle.p414_syntax.specs.Expressions.{takes_truth}
 use Rattle.p414_ready_conditions.specs.declared.making.Work.{Work}
 use Rattle.p414_ready_conditions.specs.declared.making.Work.TheVariants as work
 use Rattle.p414_ready_conditions.specs.declared.rows.ConditionRow.{ConditionRow}

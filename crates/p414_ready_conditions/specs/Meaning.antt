@@ -1,7 +1,7 @@
 -- What it is for rows to be a condition of a program.
 use Rattle.std.specs.Prelude.{◌≡◌, List}
-use Rattle.p414_ast.specs.declared.syntax.Decl.{Decl}
-use Rattle.p414_ast.specs.Tree.{Expr}
+use Rattle.p414_syntax.specs.declared.syntax.Decl.{Decl}
+use Rattle.p414_syntax.specs.Tree.{Expr}
 use Rattle.p414_sem.specs.State.{State}
 use Rattle.p414_sem.specs.Conditions.{holds}
 use Rattle.p414_ready_conditions.specs.declared.rows.ConditionRow.{ConditionRow}

@@ -1,12 +1,12 @@
 -- What is kept of a condition (P4_14 1.0.5, "Packet Processing and Control Flow"): operands stand in front of their operators,
 -- the right one first, names stand by number, and each operator of a comparison has the comparison's width.
 use Rattle.std.specs.Prelude.{ℕ, ◌≤◌, max, true, false, if◌then◌else◌, List, [], ◌∷◌, ◌++◌}
-use Rattle.p414_ast.specs.declared.node.BinaryOperator.{BinaryOperator}
-use Rattle.p414_ast.specs.declared.parts.Inst.{Inst}
-use Rattle.p414_ast.specs.declared.syntax.Decl.{Decl}
-use Rattle.p414_ast.specs.Tree.{Expr, valid, truth, field, number, parenthesized, unary, binary}
-use Rattle.p414_rules.specs.Primitives.{is_standard}
-use Rattle.p414_rules.specs.Expressions.{takes_truth}
+use Rattle.p414_syntax.specs.declared.node.BinaryOperator.{BinaryOperator}
+use Rattle.p414_syntax.specs.declared.parts.Inst.{Inst}
+use Rattle.p414_syntax.specs.declared.syntax.Decl.{Decl}
+use Rattle.p414_syntax.specs.Tree.{Expr, valid, truth, field, number, parenthesized, unary, binary}
+use Rattle.p414_syntax.specs.Primitives.{is_standard}
+use Rattle.p414_syntax.specs.Expressions.{takes_truth}
 use Rattle.p414_sem.specs.Slots.{slot_of, Element, element_of}
 use Rattle.p414_sem.specs.Conditions.{operand_width}
 use Rattle.p414_slots.specs.Shown.{kept_slot}

@@ -1,7 +1,7 @@
 // Conditions are made ready.
 ghost use Rattle.std.specs.Prelude.{◌≡◌, ◌∷◌, ◌++◌, ◌<◌, IfOk, OnOk};
-ghost use Rattle.p414_ast.specs.Heads.{of_expr_head};
-ghost use Rattle.p414_rules.specs.Expressions.{takes_truth};
+ghost use Rattle.p414_syntax.specs.Heads.{of_expr_head};
+ghost use Rattle.p414_syntax.specs.Expressions.{takes_truth};
 ghost use Rattle.p414_ready_conditions.specs.Meaning.{MeansCondition};
 ghost use Rattle.p414_ready_conditions.specs.Rows.{truth_rows, valid_row};
 ghost use Rattle.p414_ready_conditions.specs.internal.Work.{all_rows, joined_work, number_work, truth_work, weight_of};
@@ -10,9 +10,9 @@ use crate::conditions::ReadyCondition;
 use crate::rows::ConditionRow;
 use crate::widths::comparison_width;
 use p4x_bits::OutOfMemory;
-use p414_ast::{BinaryOperator, ExprHead, ExprView, Inst};
 use p414_names::is_standard;
 use p414_slots::{Slots, element_number};
+use p414_syntax::{BinaryOperator, ExprHead, ExprView, Inst};
 use std::alloc::Global;
 use work_stack::Stack;
 

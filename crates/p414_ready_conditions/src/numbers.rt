@@ -2,7 +2,7 @@
 ghost use Rattle.std.specs.Prelude.{◌≡◌, ◌+◌, ◌-◌, ◌*◌, ◌%◌, ◌^◌, ◌≤◌, pos};
 ghost use Rattle.p414_sem.specs.Conditions.{binary_number, compares, shifted_left, shifted_right, unary_number};
 
-use p414_ast::{BinaryOperator, UnaryOperator};
+use p414_syntax::{BinaryOperator, UnaryOperator};
 use p414_wholes::{greatest, low};
 
 /// 2 ^ width - a, modulo 2 ^ width; 0 where a is 2 ^ width or more.

@@ -1,11 +1,11 @@
 // What a condition is made of.
-use p414_ast::{BinaryOperator, UnaryOperator};
 use p414_slots::FieldSlot;
+use p414_syntax::{BinaryOperator, UnaryOperator};
 
 /// A step of a condition, on a stack of numbers: an operand puts its number on it, and an operator takes its operands off it,
 /// the left one first, and puts its result on it (P4_14 1.0.5, "Packet Processing and Control Flow"). A truth value stands there
 /// as 1 or 0.
-#[derive(Clone, Copy, Debug, Drop)]
+#[derive(Clone, Copy, Drop)]
 pub enum ConditionRow {
     /// A number that is written.
     Number(u128),

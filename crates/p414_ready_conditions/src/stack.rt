@@ -10,9 +10,9 @@ ghost use Rattle.p414_ready_conditions.specs.Running.{below, is_one, step, top};
 use crate::numbers::{binary_number, compares, unary_number};
 use crate::rows::ConditionRow;
 use p4x_bits::OutOfMemory;
-use p414_ast::{BinaryOperator, UnaryOperator};
 use p414_slots::FieldSlot;
 use p414_state::State14;
+use p414_syntax::{BinaryOperator, UnaryOperator};
 use std::alloc::Global;
 use std::marker::Model;
 

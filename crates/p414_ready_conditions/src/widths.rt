@@ -1,13 +1,13 @@
 // The width of a comparison.
 ghost use Rattle.std.specs.Prelude.{◌≡◌, max, IfOk};
-ghost use Rattle.p414_ast.specs.Heads.{of_expr_head};
+ghost use Rattle.p414_syntax.specs.Heads.{of_expr_head};
 ghost use Rattle.p414_sem.specs.Conditions.{bit_length, literal_width, operand_width};
 ghost use Rattle.p414_ready_conditions.specs.Rows.{comparison_width};
 ghost use Rattle.p414_ready_conditions.specs.internal.Widths.{own_width, widest};
 
 use p4x_bits::OutOfMemory;
-use p414_ast::{ExprHead, ExprView, Literal, all_expressions};
 use p414_slots::Slots;
+use p414_syntax::{ExprHead, ExprView, Literal, all_expressions};
 use std::alloc::Global;
 
 /// How many bits a number needs, at least 1.

@@ -2,15 +2,15 @@
 -- in, in the order of the text, with numbers in place of names. A call stays a call.
 use Rattle.std.specs.Prelude.{ℕ, List, [], ◌++◌, length, map, Option, Some, None, option_to_list, unwrap_or}
 use Rattle.match_core.specs.declared.signatures.TableSig.{TableSig}
-use Rattle.p414_ast.specs.declared.node.Label.{Label}
-use Rattle.p414_ast.specs.declared.node.Label.TheVariants as label
-use Rattle.p414_ast.specs.declared.syntax.Decl.{Decl}
-use Rattle.p414_ast.specs.Subtrees.{subtrees}
-use Rattle.p414_ast.specs.Tree.{Stmt, no_statements, then, apply, apply_branches, if_then, call, no_else, else_block, else_if, no_branches, branch}
-use Rattle.p414_ast.specs.Views.{ControlTree}
-use Rattle.p414_rules.specs.Names.{Name, find_name}
-use Rattle.p414_rules.specs.Arguments.{action_number}
-use Rattle.p414_rules.specs.ControlExpansion.{controls, control_number}
+use Rattle.p414_syntax.specs.declared.node.Label.{Label}
+use Rattle.p414_syntax.specs.declared.node.Label.TheVariants as label
+use Rattle.p414_syntax.specs.declared.syntax.Decl.{Decl}
+use Rattle.p414_syntax.specs.Subtrees.{subtrees}
+use Rattle.p414_syntax.specs.Tree.{Stmt, no_statements, then, apply, apply_branches, if_then, call, no_else, else_block, else_if, no_branches, branch}
+use Rattle.p414_syntax.specs.Views.{ControlTree}
+use Rattle.p414_syntax.specs.Names.{Name, find_name}
+use Rattle.p414_syntax.specs.Arguments.{action_number}
+use Rattle.p414_syntax.specs.ControlExpansion.{controls, control_number}
 use Rattle.p414_sem.specs.Signatures.{signature14}
 use Rattle.p414_ready_conditions.specs.Rows.{truth_rows}
 use Rattle.p414_ready_controls.specs.declared.nodes.ReadyLabel.{ReadyLabel}

@@ -1,6 +1,6 @@
 // The nodes of a control.
 ghost use Rattle.std.specs.Prelude.{◌≡◌, ◌+◌, [], ◌∷◌, Some, None, IfOk, OnOk};
-ghost use Rattle.p414_ast.specs.Heads.{of_head};
+ghost use Rattle.p414_syntax.specs.Heads.{of_head};
 ghost use Rattle.p414_ready_controls.specs.Nodes.{branches_node, kept_label, named_by, nodes_of, table_place, with_named};
 ghost use Rattle.p414_ready_controls.specs.declared.nodes.ControlNode.TheVariants as kind;
 ghost use Rattle.p414_ready_controls.specs.internal.Building.{first_named, first_part, first_size, nothing_built, other_parts, part, put_all, put_leaf, put_node, put_one, put_two};
@@ -8,8 +8,8 @@ ghost use Rattle.p414_ready_controls.specs.internal.Building.{first_named, first
 use crate::names::ControlNames;
 use crate::nodes::ControlNode;
 use p4x_bits::{OutOfMemory, Rows, Text};
-use p414_ast::{Label, StmtHead, StmtView, statements_within};
 use p414_ready_conditions::{ReadyCondition, ready_condition};
+use p414_syntax::{Label, StmtHead, StmtView, statements_within};
 use std::alloc::Global;
 use std::marker::Model;
 use work_stack::Stack;
@@ -23,10 +23,18 @@ struct Part {
 }
 
 /// The nodes that were made so far, from the last one on, and the statements in which none of the others stands.
-#[derive(Drop)]
 struct Building {
     nodes: Stack<ControlNode>,
     parts: Stack<Part>,
+}
+
+impl Drop for Building {
+    fn drop(self) {
+        let Building {
+            nodes: _nodes,
+            parts: _parts,
+        } = self;
+    }
 }
 
 impl Model for Building {

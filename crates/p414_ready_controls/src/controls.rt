@@ -1,6 +1,6 @@
 // The controls of a program.
 ghost use Rattle.std.specs.Prelude.{◌≡◌, ◌++◌, [], map, option_to_list, slice_index_or, IfOk, OnOk};
-ghost use Rattle.p414_rules.specs.ControlExpansion.{control_in, controls};
+ghost use Rattle.p414_syntax.specs.ControlExpansion.{control_in, controls};
 ghost use Rattle.p414_sem.specs.Signatures.{signature14};
 ghost use Rattle.p414_ready_controls.specs.Nodes.{body_nodes, control_nodes};
 
@@ -9,8 +9,8 @@ use crate::names::ControlNames;
 use crate::nodes::ControlNode;
 use match_core::Signature;
 use p4x_bits::{OutOfMemory, Rows};
-use p414_ast::Decl;
 use p414_names::Names14;
+use p414_syntax::Decl;
 use std::alloc::Global;
 use std::marker::Model;
 

@@ -1,8 +1,8 @@
 // What the statements of controls name.
 ghost use Rattle.std.specs.Prelude.{◌≡◌, ◌++◌, map, option_to_list, IfOk};
-ghost use Rattle.p414_ast.specs.References.{referred};
-ghost use Rattle.p414_rules.specs.Arguments.{action_number};
-ghost use Rattle.p414_rules.specs.ControlExpansion.{control_number};
+ghost use Rattle.p414_syntax.specs.References.{referred};
+ghost use Rattle.p414_syntax.specs.Arguments.{action_number};
+ghost use Rattle.p414_syntax.specs.ControlExpansion.{control_number};
 ghost use Rattle.p414_sem.specs.Signatures.{signature14};
 ghost use Rattle.p414_ready_controls.specs.Nodes.{kept_label, named_by, table_name, table_place, with_named};
 
@@ -10,27 +10,36 @@ use crate::nodes::ReadyLabel;
 use match_core::{Signature, TableSig};
 use name_numbers::{Numbering, narrow, number_names};
 use p4x_bits::{OutOfMemory, Rows};
-use p414_ast::{Label, Sort};
 use p414_control_check::Controls;
 use p414_names::Names14;
 use p414_slots::Slots;
+use p414_syntax::{Label, Sort};
 use std::alloc::Global;
 use std::marker::Model;
 
 /// What the statements of a program's controls name: fields, tables, actions and controls, by number. Contracts see the
 /// declarations of the program.
-#[derive(Drop)]
 pub struct ControlNames<'n, 'a> {
     slots: Slots<'n, 'a>,
     controls: Controls<'n, 'a>,
     tables: Numbering<'n>,
 }
 
+impl Drop for ControlNames<'_, '_> {
+    fn drop(self) {
+        let ControlNames {
+            slots: _slots,
+            controls: _controls,
+            tables: _tables,
+        } = self;
+    }
+}
+
 impl<'n, 'a> Model for ControlNames<'n, 'a> {
     ghost use Rattle.std.specs.Prelude.{List, ◌≡◌, map};
     ghost use Rattle.std.specs.Coded.{codes};
-    ghost use Rattle.p414_ast.specs.declared.syntax.Decl.{Decl};
-    ghost use Rattle.p414_ast.specs.contracts.syntax.Decl as declaration;
+    ghost use Rattle.p414_syntax.specs.declared.syntax.Decl.{Decl};
+    ghost use Rattle.p414_syntax.specs.contracts.syntax.Decl as declaration;
     ghost use Rattle.p414_sem.specs.Signatures.{signature14};
     ghost use Rattle.p414_ready_controls.specs.Nodes.{table_name};
 

@@ -3,7 +3,7 @@ use p4x_bits::Rows;
 use p414_ready_conditions::ReadyCondition;
 
 /// The label of a branch behind `apply` (P4_14 1.0.5, "Packet Processing and Control Flow").
-#[derive(Clone, Copy, Debug, PartialEq, Eq, Drop)]
+#[derive(Clone, Copy, PartialEq, Eq, Drop)]
 pub enum ReadyLabel {
     /// `hit`.
     Hit,
@@ -17,7 +17,6 @@ pub enum ReadyLabel {
 
 /// A statement, a list of statements, what stands behind an `if` block, or a list of branches, by itself. What stands within it
 /// follows: the first part right behind it, and where there are two, the second one behind all that stands within the first.
-#[derive(Drop)]
 pub enum ControlNode {
     /// Nothing is done.
     Nothing,
@@ -37,4 +36,20 @@ pub enum ControlNode {
     Inner,
     /// Of two parts the first where the label isn't taken, and else the second. The number says how many nodes the first one has.
     Branch(ReadyLabel, u32),
+}
+
+impl Drop for ControlNode {
+    fn drop(self) {
+        match self {
+            ControlNode::Nothing => {}
+            ControlNode::Both(_a) => {}
+            ControlNode::Apply(_a) => {}
+            ControlNode::ApplyBranches(_a, _b) => {}
+            ControlNode::NoBranches => {}
+            ControlNode::If(_a, _b) => {}
+            ControlNode::Call(_a) => {}
+            ControlNode::Inner => {}
+            ControlNode::Branch(_a, _b) => {}
+        }
+    }
 }

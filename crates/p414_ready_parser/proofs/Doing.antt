@@ -2,16 +2,16 @@
 use Rattle.std.proofs.Common.{◌≡◌, ℕ, ◌%◌, ◌^◌, Bool, true, false, cond, ℤ, List, [], ◌∷◌, Option, Some, None, option_map, refl, sym, ap, ◌∙◌, subst}
 use Rattle.std.specs.Prelude.{fold, sum}
 use Rattle.p4x_bits.specs.BitLists.{octet_bits}
-use Rattle.p414_ast.specs.declared.parts.Index.{Index}
-use Rattle.p414_ast.specs.declared.parts.Index.TheVariants.{At, Next, Last}
-use Rattle.p414_ast.specs.declared.parts.Inst.{Inst}
-use Rattle.p414_ast.specs.declared.parts.Ref.{Ref}
-use Rattle.p414_ast.specs.declared.parsers.PStmt.{PStmt}
-use Rattle.p414_ast.specs.declared.parsers.PStmt.TheVariants as pstmt
-use Rattle.p414_ast.specs.declared.syntax.Decl.{Decl}
-use Rattle.p414_rules.specs.Names.{Name}
-use Rattle.p414_rules.specs.ParserGraph.{instance_number}
-use Rattle.p414_rules.specs.Uses.{last_behind, last_of}
+use Rattle.p414_syntax.specs.declared.parts.Index.{Index}
+use Rattle.p414_syntax.specs.declared.parts.Index.TheVariants.{At, Next, Last}
+use Rattle.p414_syntax.specs.declared.parts.Inst.{Inst}
+use Rattle.p414_syntax.specs.declared.parts.Ref.{Ref}
+use Rattle.p414_syntax.specs.declared.parsers.PStmt.{PStmt}
+use Rattle.p414_syntax.specs.declared.parsers.PStmt.TheVariants as pstmt
+use Rattle.p414_syntax.specs.declared.syntax.Decl.{Decl}
+use Rattle.p414_syntax.specs.Names.{Name}
+use Rattle.p414_syntax.specs.ParserGraph.{instance_number}
+use Rattle.p414_syntax.specs.Uses.{last_behind, last_of}
 use Rattle.p414_sem.specs.declared.parsed.Parsed.{Parsed}
 use Rattle.p414_sem.specs.declared.parsed.Parsed.TheVariants.{OutOfPacket, OutOfBounds}
 use Rattle.p414_sem.specs.Packing.{widths_of, numbers_in}

@@ -4,15 +4,15 @@ use Rattle.std.specs.Prelude.{codes, filter, fold}
 use Rattle.std.proofs.lemmas.List.{length-map}
 use Rattle.std.proofs.lemmas.List.Sums.{fold-append}
 use Rattle.std.proofs.lemmas.Option.{slice_get-map}
-use Rattle.p414_ast.specs.declared.headers.Initial.{Initial}
-use Rattle.p414_ast.specs.declared.parsers.Parser.{Parser}
-use Rattle.p414_ast.specs.declared.syntax.Decl.{Decl}
-use Rattle.p414_ast.specs.declared.syntax.Decl.TheVariants as decl
-use Rattle.p414_ast.specs.declared.syntax.Sort.TheVariants as sort
-use Rattle.p414_ast.specs.Attributes.{initials_of}
-use Rattle.p414_rules.specs.Names.{Name, is_in}
-use Rattle.p414_rules.specs.ParserGraph.{states, state_number}
-use Rattle.p414_rules.specs.Uses.{last_of}
+use Rattle.p414_syntax.specs.declared.headers.Initial.{Initial}
+use Rattle.p414_syntax.specs.declared.parsers.Parser.{Parser}
+use Rattle.p414_syntax.specs.declared.syntax.Decl.{Decl}
+use Rattle.p414_syntax.specs.declared.syntax.Decl.TheVariants as decl
+use Rattle.p414_syntax.specs.declared.syntax.Sort.TheVariants as sort
+use Rattle.p414_syntax.specs.Attributes.{initials_of}
+use Rattle.p414_syntax.specs.Names.{Name, is_in}
+use Rattle.p414_syntax.specs.ParserGraph.{states, state_number}
+use Rattle.p414_syntax.specs.Uses.{last_of}
 use Rattle.p414_sem.specs.Parsing.{field_named, with_initial, initialized, begun, goes_on, does_next, Step, to, ended, steps, state_named, step_from, followed, run_out, parse_from, most_states, Parse, parsed}
 use Rattle.p414_sem.specs.Meanings.{Parse14}
 use Rattle.p414_sem.specs.Slots.{Slot, bits_of_ref, slot_of}

@@ -1,10 +1,10 @@
 -- The rows of values give the same numbers.
 use Rattle.std.proofs.Common.{◌≡◌, ℕ, ◌+◌, ◌%◌, ◌^◌, Bool, true, false, cond, pos, List, take, drop, Option, Some, None, option_map, refl, sym, ap}
 use Rattle.p4x_bits.specs.BitLists.{num, octet_bits}
-use Rattle.p414_ast.specs.declared.parsers.PValue.{PValue}
-use Rattle.p414_ast.specs.declared.parsers.PValue.TheVariants as pvalue
-use Rattle.p414_ast.specs.declared.syntax.Decl.{Decl}
-use Rattle.p414_rules.specs.Names.{Name}
+use Rattle.p414_syntax.specs.declared.parsers.PValue.{PValue}
+use Rattle.p414_syntax.specs.declared.parsers.PValue.TheVariants as pvalue
+use Rattle.p414_syntax.specs.declared.syntax.Decl.{Decl}
+use Rattle.p414_syntax.specs.Names.{Name}
 use Rattle.p414_sem.specs.Slots.{Slot, standard, declared, slot_of}
 use Rattle.p414_sem.specs.State.{State, read}
 use Rattle.p414_sem.specs.Wholes.{whole, wrapped}

@@ -1,9 +1,9 @@
 -- What it is for rows to be the parser of a program.
 use Rattle.std.specs.Prelude.{◌≡◌, ℕ, List}
-use Rattle.p414_ast.specs.declared.syntax.Decl.{Decl}
-use Rattle.p414_ast.specs.declared.syntax.Sort.TheVariants as sort
-use Rattle.p414_rules.specs.Names.{Name, declared_in}
-use Rattle.p414_rules.specs.ParserGraph.{instance_number}
+use Rattle.p414_syntax.specs.declared.syntax.Decl.{Decl}
+use Rattle.p414_syntax.specs.declared.syntax.Sort.TheVariants as sort
+use Rattle.p414_syntax.specs.Names.{Name, declared_in}
+use Rattle.p414_syntax.specs.ParserGraph.{instance_number}
 use Rattle.p414_sem.specs.Packing.{widths_of}
 use Rattle.p414_sem.specs.Parsing.{begun_instances}
 use Rattle.p414_sem.specs.Meanings.{Parse14}

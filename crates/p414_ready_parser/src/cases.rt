@@ -6,7 +6,7 @@ use crate::names::ParserNames;
 use crate::numbers::fits;
 use crate::rows::{CaseRow, CaseTest, Next};
 use p4x_bits::{OutOfMemory, Rows};
-use p414_ast::{Case, CaseTarget, CaseValues, Literal, Masked};
+use p414_syntax::{Case, CaseTarget, CaseValues, Literal, Masked};
 use std::alloc::Global;
 
 /// Where a case leads.

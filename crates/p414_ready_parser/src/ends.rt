@@ -7,8 +7,8 @@ use crate::names::ParserNames;
 use crate::rows::{Next, ReadyEnd, SelectPart};
 use crate::values::select_part;
 use p4x_bits::{OutOfMemory, Rows};
-use p414_ast::{Case, Inst, PValue, Return};
 use p414_slots::add_bits;
+use p414_syntax::{Case, Inst, PValue, Return};
 use std::alloc::Global;
 
 /// The bits that these values have together.

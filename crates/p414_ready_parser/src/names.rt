@@ -1,31 +1,39 @@
 // The names of a program's parser.
 ghost use Rattle.std.specs.Prelude.{◌≡◌, ◌++◌, map, option_to_list, IfOk, OnOk};
-ghost use Rattle.p414_ast.specs.References.{referred};
-ghost use Rattle.p414_rules.specs.ParserGraph.{state_in, state_name, states};
+ghost use Rattle.p414_syntax.specs.References.{referred};
+ghost use Rattle.p414_syntax.specs.ParserGraph.{state_in, state_name, states};
 ghost use Rattle.p414_ready_parser.specs.Rows.{next_row};
 
 use crate::rows::Next;
 use name_numbers::{Numbering, number_names};
 use p4x_bits::OutOfMemory;
-use p414_ast::Decl;
 use p414_names::Names14;
 use p414_slots::Slots;
+use p414_syntax::Decl;
 use std::alloc::Global;
 use std::marker::Model;
 
 /// The parser states, instances and fields of a program by number. Contracts see the declarations of the program.
-#[derive(Drop)]
 pub struct ParserNames<'n, 'a> {
     slots: Slots<'n, 'a>,
     states: Numbering<'a>,
 }
 
+impl Drop for ParserNames<'_, '_> {
+    fn drop(self) {
+        let ParserNames {
+            slots: _slots,
+            states: _states,
+        } = self;
+    }
+}
+
 impl<'n, 'a> Model for ParserNames<'n, 'a> {
     ghost use Rattle.std.specs.Prelude.{◌≡◌, List, map};
     ghost use Rattle.std.specs.Coded.{codes};
-    ghost use Rattle.p414_ast.specs.declared.syntax.Decl.{Decl};
-    ghost use Rattle.p414_ast.specs.contracts.syntax.Decl as declaration;
-    ghost use Rattle.p414_rules.specs.ParserGraph as parser_graph;
+    ghost use Rattle.p414_syntax.specs.declared.syntax.Decl.{Decl};
+    ghost use Rattle.p414_syntax.specs.contracts.syntax.Decl as declaration;
+    ghost use Rattle.p414_syntax.specs.ParserGraph as parser_graph;
 
     ghost Value = { List Decl };
 

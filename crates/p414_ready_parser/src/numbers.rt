@@ -3,8 +3,8 @@ ghost use Rattle.std.specs.Prelude.{◌≡◌, ◌-◌, ◌%◌, ◌^◌, ◌<�
 ghost use Rattle.p414_sem.specs.Wholes.{whole, wrapped};
 
 use p4x_bits::OutOfMemory;
-use p414_ast::{Number, Sign};
 use p414_slots::low;
+use p414_syntax::{Number, Sign};
 
 /// The greatest number of so many bits.
 fn greatest(width: u8) -> u128

@@ -1,6 +1,6 @@
 // A parser that is ready to run.
 ghost use Rattle.std.specs.Prelude.{◌≡◌, ◌++◌, flat_map, map, option_to_list, IfOk, OnOk};
-ghost use Rattle.p414_rules.specs.ParserGraph.{state_in, states};
+ghost use Rattle.p414_syntax.specs.ParserGraph.{state_in, states};
 ghost use Rattle.p414_ready_parser.specs.Rows.{initial_row, initials_in, ready_rows, state_row};
 ghost use Rattle.p414_ready_parser.specs.Meaning.{Means};
 
@@ -10,12 +10,11 @@ use crate::numbers::wrapped;
 use crate::rows::{InitialRow, Next, ReadyState};
 use crate::statements::{last_of, statement_rows};
 use p4x_bits::{OutOfMemory, Rows};
-use p414_ast::{Decl, Initial, Parser};
 use p414_names::Names14;
+use p414_syntax::{Decl, Initial, Parser};
 use std::alloc::Global;
 
 /// The parser of a program, ready to run: the initial values of metadata, the states by number, and where parsing begins.
-#[derive(Debug, Drop)]
 pub struct ReadyParser {
     /// The initial values, in order.
     pub initials: Rows<InitialRow>,
@@ -23,6 +22,16 @@ pub struct ReadyParser {
     pub states: Rows<ReadyState>,
     /// Where parsing begins.
     pub start: Next,
+}
+
+impl Drop for ReadyParser {
+    fn drop(self) {
+        let ReadyParser {
+            initials: _initials,
+            states: _states,
+            start: _start,
+        } = self;
+    }
 }
 
 /// A state of the parser.

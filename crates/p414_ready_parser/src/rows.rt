@@ -3,7 +3,7 @@ use p4x_bits::Rows;
 use p414_slots::FieldSlot;
 
 /// A value of a parser state.
-#[derive(Clone, Copy, Debug, PartialEq, Eq, Drop)]
+#[derive(Clone, Copy, PartialEq, Eq, Drop)]
 pub enum ReadyValue {
     /// So many bits that aren't extracted yet, behind so many others.
     Current {
@@ -26,7 +26,7 @@ pub enum ReadyValue {
 }
 
 /// A statement of a parser state.
-#[derive(Clone, Copy, Debug, PartialEq, Eq, Drop)]
+#[derive(Clone, Copy, PartialEq, Eq, Drop)]
 pub enum ReadyStatement {
     /// The next bits become the fields of an element of an instance.
     Extract {
@@ -49,7 +49,7 @@ pub enum ReadyStatement {
 }
 
 /// One of the values that a select joins.
-#[derive(Clone, Copy, Debug, PartialEq, Eq, Drop)]
+#[derive(Clone, Copy, PartialEq, Eq, Drop)]
 pub struct SelectPart {
     /// The value.
     pub value: ReadyValue,
@@ -58,7 +58,7 @@ pub struct SelectPart {
 }
 
 /// Which keys a row of a select takes.
-#[derive(Clone, Copy, Debug, PartialEq, Eq, Drop)]
+#[derive(Clone, Copy, PartialEq, Eq, Drop)]
 pub enum CaseTest {
     /// Each one.
     Any,
@@ -74,7 +74,7 @@ pub enum CaseTest {
 }
 
 /// Where parsing goes on.
-#[derive(Clone, Copy, Debug, PartialEq, Eq, Drop)]
+#[derive(Clone, Copy, PartialEq, Eq, Drop)]
 pub enum Next {
     /// In the state with this number.
     State(u32),
@@ -85,7 +85,7 @@ pub enum Next {
 }
 
 /// A row of a select.
-#[derive(Clone, Copy, Debug, PartialEq, Eq, Drop)]
+#[derive(Clone, Copy, PartialEq, Eq, Drop)]
 pub struct CaseRow {
     /// Which keys it takes.
     pub test: CaseTest,
@@ -94,7 +94,6 @@ pub struct CaseRow {
 }
 
 /// How a parser state ends.
-#[derive(Debug, Drop)]
 pub enum ReadyEnd {
     /// By the first row that takes the joined values, and unhandled where none does. Values that the key can't have are in no
     /// row.
@@ -108,8 +107,19 @@ pub enum ReadyEnd {
     To(Next),
 }
 
+impl Drop for ReadyEnd {
+    fn drop(self) {
+        match self {
+            ReadyEnd::Select {
+                parts: _parts,
+                rows: _rows,
+            } => {}
+            ReadyEnd::To(_a) => {}
+        }
+    }
+}
+
 /// A parser state.
-#[derive(Debug, Drop)]
 pub struct ReadyState {
     /// The statements in order.
     pub statements: Rows<ReadyStatement>,
@@ -117,8 +127,17 @@ pub struct ReadyState {
     pub end: ReadyEnd,
 }
 
+impl Drop for ReadyState {
+    fn drop(self) {
+        let ReadyState {
+            statements: _statements,
+            end: _end,
+        } = self;
+    }
+}
+
 /// An initial value of a field of metadata.
-#[derive(Clone, Copy, Debug, PartialEq, Eq, Drop)]
+#[derive(Clone, Copy, PartialEq, Eq, Drop)]
 pub struct InitialRow {
     /// The field.
     pub slot: FieldSlot,

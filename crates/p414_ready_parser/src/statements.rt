@@ -1,14 +1,14 @@
 // The statements of parser states.
 ghost use Rattle.std.specs.Prelude.{◌≡◌, None, option_copied, IfOk};
-ghost use Rattle.p414_rules.specs.Uses.{last_behind, last_of};
-ghost use Rattle.p414_ast.specs.declared.parsers.PStmt.TheVariants as pstmt;
+ghost use Rattle.p414_syntax.specs.Uses.{last_behind, last_of};
+ghost use Rattle.p414_syntax.specs.declared.parsers.PStmt.TheVariants as pstmt;
 ghost use Rattle.p414_ready_parser.specs.Rows.{fixed_element, statement_row, statement_rows};
 
 use crate::rows::ReadyStatement;
 use crate::values::value_row;
 use p4x_bits::{OutOfMemory, Rows};
-use p414_ast::{Index, Inst, PStmt, PValue, Ref};
 use p414_slots::{Slots, element_number};
+use p414_syntax::{Index, Inst, PStmt, PValue, Ref};
 use std::alloc::Global;
 
 /// The element that an index names; none of `next`.

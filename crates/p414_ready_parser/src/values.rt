@@ -1,14 +1,14 @@
 // The values of parser states.
 ghost use Rattle.std.specs.Prelude.{◌≡◌, Some, option_copied, unwrap_or, IfOk};
-ghost use Rattle.p414_rules.specs.Selects.{latest_bits, value_bits};
+ghost use Rattle.p414_syntax.specs.Selects.{latest_bits, value_bits};
 ghost use Rattle.p414_ready_parser.specs.declared.rows.ReadyValue.TheVariants as ready_value;
 ghost use Rattle.p414_ready_parser.specs.Rows.{latest_row, value_row, select_part};
 
 use crate::numbers::wrapped;
 use crate::rows::{ReadyValue, SelectPart};
 use p4x_bits::OutOfMemory;
-use p414_ast::{Inst, Literal, PValue};
 use p414_slots::{Slots, narrow_number, narrow_width};
+use p414_syntax::{Inst, Literal, PValue};
 
 /// Bits behind those that are extracted.
 fn current(offset: Literal, width: Literal) -> Result<ReadyValue, OutOfMemory>

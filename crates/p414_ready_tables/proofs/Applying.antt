@@ -14,16 +14,16 @@ use Rattle.match_core.specs.declared.signatures.TableSig.{TableSig}
 use Rattle.match_core.specs.Best.{Filled, best, entry_at}
 use Rattle.match_core.specs.Stores.{shapes_of}
 use Rattle.match_core.specs.Tables.{filled_of, filled_tables, tables_of}
-use Rattle.p414_lexemes.specs.declared.lexeme.Literal.{Literal}
-use Rattle.p414_ast.specs.declared.tables.Read.{Read}
-use Rattle.p414_ast.specs.declared.tables.ReadKey.{ReadKey}
-use Rattle.p414_ast.specs.declared.tables.ReadKey.TheVariants as read_key
-use Rattle.p414_ast.specs.declared.tables.Table.{Table}
-use Rattle.p414_ast.specs.declared.syntax.Decl.{Decl}
-use Rattle.p414_ast.specs.declared.syntax.Rule14.{Rule14}
-use Rattle.p414_ast.specs.Attributes.{reads_of, default_action_of}
-use Rattle.p414_rules.specs.Names.{Name}
-use Rattle.p414_rules.specs.Arguments.{action_number, actions}
+use Rattle.p414_syntax.specs.declared.lexeme.Literal.{Literal}
+use Rattle.p414_syntax.specs.declared.tables.Read.{Read}
+use Rattle.p414_syntax.specs.declared.tables.ReadKey.{ReadKey}
+use Rattle.p414_syntax.specs.declared.tables.ReadKey.TheVariants as read_key
+use Rattle.p414_syntax.specs.declared.tables.Table.{Table}
+use Rattle.p414_syntax.specs.declared.syntax.Decl.{Decl}
+use Rattle.p414_syntax.specs.declared.syntax.Rule14.{Rule14}
+use Rattle.p414_syntax.specs.Attributes.{reads_of, default_action_of}
+use Rattle.p414_syntax.specs.Names.{Name}
+use Rattle.p414_syntax.specs.Arguments.{action_number, actions}
 use Rattle.p414_pipeline_check.proofs.Requesting.{action_within}
 use Rattle.p414_sem.specs.State.{State, read}
 use Rattle.p414_sem.specs.Slots.{Slot, standard, declared, slot_of}

@@ -13,12 +13,12 @@ use Rattle.std.proofs.lemmas.Map.Views.{All-insert_key}
 use Rattle.std.proofs.lemmas.Option.{get_or_from_slice_get, slice_get-get_or, slice_get-map, slice_get_within}
 use Rattle.std.proofs.lemmas.Slice.Eq.{bytes_eq-Decides}
 use Rattle.match_core.specs.declared.signatures.TableSig.{TableSig}
-use Rattle.p414_ast.specs.declared.syntax.Decl.{Decl}
-use Rattle.p414_ast.specs.declared.syntax.Decl.TheVariants as decl
-use Rattle.p414_ast.specs.declared.syntax.Sort.TheVariants as sort
-use Rattle.p414_ast.specs.declared.tables.Table.{Table}
-use Rattle.p414_rules.specs.Names.{Name, declaration_of, declared_in, find_name, names_in, number_of, numbered}
-use Rattle.p414_rules.specs.Tables.{table_in, table_number, tables}
+use Rattle.p414_syntax.specs.declared.syntax.Decl.{Decl}
+use Rattle.p414_syntax.specs.declared.syntax.Decl.TheVariants as decl
+use Rattle.p414_syntax.specs.declared.syntax.Sort.TheVariants as sort
+use Rattle.p414_syntax.specs.declared.tables.Table.{Table}
+use Rattle.p414_syntax.specs.Names.{Name, declaration_of, declared_in, find_name, names_in, number_of, numbered}
+use Rattle.p414_syntax.specs.Tables.{table_in, table_number, tables}
 use Rattle.p414_sem.specs.Controls.{signature_number}
 use Rattle.p414_sem.specs.Operations.{in_order}
 use Rattle.p414_sem.specs.Signatures.{signature14, table_of, table_sig, tables_in_order}

@@ -13,14 +13,14 @@ use Rattle.std.proofs.lemmas.Slice.Eq.{bytes_eq-Decides}
 use Rattle.match_core.specs.declared.entries.DefaultCall.{DefaultCall}
 use Rattle.match_core.specs.declared.signatures.ActionSig.{ActionSig}
 use Rattle.match_core.specs.declared.signatures.TableSig.{TableSig}
-use Rattle.p414_ast.specs.declared.parts.Number.{Number}
-use Rattle.p414_ast.specs.declared.syntax.Decl.{Decl}
-use Rattle.p414_ast.specs.declared.syntax.Decl.TheVariants as decl
-use Rattle.p414_ast.specs.declared.syntax.Sort.TheVariants as sort
-use Rattle.p414_ast.specs.declared.tables.Table.{Table}
-use Rattle.p414_ast.specs.Attributes.{reads_of, default_action_of, default_arguments_of}
-use Rattle.p414_rules.specs.Names.{Name, declaration_of, find_name}
-use Rattle.p414_rules.specs.Arguments.{action_number}
+use Rattle.p414_syntax.specs.declared.parts.Number.{Number}
+use Rattle.p414_syntax.specs.declared.syntax.Decl.{Decl}
+use Rattle.p414_syntax.specs.declared.syntax.Decl.TheVariants as decl
+use Rattle.p414_syntax.specs.declared.syntax.Sort.TheVariants as sort
+use Rattle.p414_syntax.specs.declared.tables.Table.{Table}
+use Rattle.p414_syntax.specs.Attributes.{reads_of, default_action_of, default_arguments_of}
+use Rattle.p414_syntax.specs.Names.{Name, declaration_of, find_name}
+use Rattle.p414_syntax.specs.Arguments.{action_number}
 use Rattle.p414_sem.specs.Controls.{Chosen, action_in_table, default_of, kept_arguments, program_default}
 use Rattle.p414_sem.specs.Signatures.{action_sig, actions_in_order, direct_counter, parameter_widths, signature14, table_of, table_sig, tables_in_order}
 use Rattle.p414_sem.specs.Wholes.{whole, wrapped}

@@ -1,8 +1,8 @@
 -- What an application of a table comes to (P4_14 1.0.5, "Packet Processing and Control Flow").
 use Rattle.std.specs.Prelude.{◌≡◌, ℕ, List, Option, Some, None}
-use Rattle.p414_ast.specs.declared.syntax.Decl.{Decl}
-use Rattle.p414_rules.specs.Names.{Name}
-use Rattle.p414_rules.specs.Arguments.{action_number}
+use Rattle.p414_syntax.specs.declared.syntax.Decl.{Decl}
+use Rattle.p414_syntax.specs.Names.{Name}
+use Rattle.p414_syntax.specs.Arguments.{action_number}
 use Rattle.p414_sem.specs.Effects.{Moment}
 use Rattle.p414_sem.specs.Controls.{Applied}
 use Rattle.p414_ready_tables.specs.declared.applied.ReadyApplied.{ReadyApplied}

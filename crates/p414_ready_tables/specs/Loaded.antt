@@ -1,8 +1,8 @@
 -- A program with what fills its tables, under a rule of its actions (the rules are this project's own).
 use Rattle.std.specs.Prelude.{List}
 use Rattle.match_core.specs.declared.entries.Entries.{Entries}
-use Rattle.p414_ast.specs.declared.syntax.Decl.{Decl}
-use Rattle.p414_ast.specs.declared.syntax.Rule14.{Rule14}
+use Rattle.p414_syntax.specs.declared.syntax.Decl.{Decl}
+use Rattle.p414_syntax.specs.declared.syntax.Rule14.{Rule14}
 use Rattle.p414_sem.specs.Expanded.{Expanded}
 use Rattle.p414_sem.specs.Controls.{Setting}
 

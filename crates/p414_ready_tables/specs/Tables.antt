@@ -4,14 +4,14 @@ use Rattle.std.specs.List.{AllZip}
 use Rattle.state_store.specs.declared.shapes.Shape as objects
 use Rattle.state_store.specs.State.{IsCounterAt}
 use Rattle.match_core.specs.declared.entries.DefaultCall.{DefaultCall}
-use Rattle.p414_lexemes.specs.declared.lexeme.Literal.{Literal}
-use Rattle.p414_ast.specs.declared.tables.ReadKey.{ReadKey}
-use Rattle.p414_ast.specs.declared.tables.ReadKey.TheVariants as read_key
-use Rattle.p414_ast.specs.declared.tables.Read.{Read}
-use Rattle.p414_ast.specs.declared.tables.Table.{Table}
-use Rattle.p414_ast.specs.declared.syntax.Decl.{Decl}
-use Rattle.p414_ast.specs.Attributes.{reads_of, default_action_of}
-use Rattle.p414_rules.specs.Arguments.{action_number}
+use Rattle.p414_syntax.specs.declared.lexeme.Literal.{Literal}
+use Rattle.p414_syntax.specs.declared.tables.ReadKey.{ReadKey}
+use Rattle.p414_syntax.specs.declared.tables.ReadKey.TheVariants as read_key
+use Rattle.p414_syntax.specs.declared.tables.Read.{Read}
+use Rattle.p414_syntax.specs.declared.tables.Table.{Table}
+use Rattle.p414_syntax.specs.declared.syntax.Decl.{Decl}
+use Rattle.p414_syntax.specs.Attributes.{reads_of, default_action_of}
+use Rattle.p414_syntax.specs.Arguments.{action_number}
 use Rattle.p4x_bits.specs.BitLists.{bit}
 use Rattle.p414_sem.specs.Slots.{slot_of, Element, element_of}
 use Rattle.p414_sem.specs.State.{State, is_valid, read}

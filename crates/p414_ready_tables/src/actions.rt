@@ -6,21 +6,30 @@ ghost use Rattle.p414_ready_tables.specs.internal.Acting.{AreActions, AreMeant, 
 use name_numbers::narrow;
 use p4x_bits::{OutOfMemory, Rows};
 use p414_act_run::{Calculations, act_ready, calculations14, fit_all};
-use p414_ast::{Decl, Rule14};
 use p414_body_check::Program14;
 use p414_names::names_of;
 use p414_ready_actions::{ActionNames, ReadyPrimitive, ready_action};
 use p414_signature::object_names;
 use p414_state::State14;
+use p414_syntax::{Decl, Rule14};
 use state_store::Store;
 use std::alloc::Global;
 
 /// The actions of a program in the order of declaration, ready to run under a rule.
-#[derive(Drop)]
 pub struct ReadyActions {
     pub(crate) rule: Rule14,
     pub(crate) rows: Rows<Rows<ReadyPrimitive>>,
     pub(crate) calculations: Calculations,
+}
+
+impl Drop for ReadyActions {
+    fn drop(self) {
+        let ReadyActions {
+            rule: _rule,
+            rows: _rows,
+            calculations: _calculations,
+        } = self;
+    }
 }
 
 /// Whether the rows of an action fit a state and a store.

@@ -1,7 +1,7 @@
 // The defaults that a program gives its tables.
 ghost use Rattle.std.specs.Prelude.{◌≡◌, [], map, pos, neg_ℤ, option_map, IfOk};
-ghost use Rattle.p414_ast.specs.Attributes.{default_action_of, default_arguments_of};
-ghost use Rattle.p414_rules.specs.Names.{find_name};
+ghost use Rattle.p414_syntax.specs.Attributes.{default_action_of, default_arguments_of};
+ghost use Rattle.p414_syntax.specs.Names.{find_name};
 ghost use Rattle.p414_sem.specs.Controls.{kept_arguments};
 ghost use Rattle.p414_sem.specs.Wholes.{whole, wrapped};
 ghost use Rattle.p414_wholes.specs.Shown.{kept_whole};
@@ -10,7 +10,7 @@ ghost use Rattle.p414_ready_tables.specs.internal.Defaults.{IsCall, IsDefault, a
 use match_core::{ActionSig, DefaultCall};
 use name_numbers::narrow;
 use p4x_bits::{Numbers, OutOfMemory};
-use p414_ast::{Number, Sign, Table};
+use p414_syntax::{Number, Sign, Table};
 use p414_wholes::{Whole, wrapped};
 use std::alloc::Global;
 

@@ -7,9 +7,9 @@ use crate::tables::KeyRow;
 use match_core::Key;
 use p4x_bits::{OutOfMemory, Rows};
 use p414_act_run::read;
-use p414_ast::{Inst, Read, ReadKey};
 use p414_slots::{Slots, element_number};
 use p414_state::State14;
+use p414_syntax::{Inst, Read, ReadKey};
 use std::alloc::Global;
 
 /// The validity of an instance.

@@ -1,6 +1,6 @@
 // Tables are made ready.
 ghost use Rattle.std.specs.Prelude.{◌≡◌, map, IfOk, Some};
-ghost use Rattle.p414_ast.specs.declared.tables.Table.{Table as TableTree};
+ghost use Rattle.p414_syntax.specs.declared.tables.Table.{Table as TableTree};
 ghost use Rattle.p414_sem.specs.Signatures.{signature14, table_of, table_sig};
 ghost use Rattle.p414_ready_tables.specs.Tables.{AreReadyTables, IsReadyTable, some_number};
 ghost use Rattle.p414_ready_tables.specs.internal.Defaults.{sig_number};
@@ -10,9 +10,9 @@ use crate::keys::key_rows;
 use crate::tables::ReadyTable;
 use match_core::{ActionSig, Signature, TableSig};
 use p4x_bits::{OutOfMemory, Rows};
-use p414_ast::{Decl, Sort, Table};
 use p414_names::{Names14, names_of};
 use p414_slots::Slots;
+use p414_syntax::{Decl, Sort, Table};
 use std::alloc::Global;
 
 /// The numbers of actions, in the order of declaration. An action that isn't declared, such as no table lists of a program that breaks

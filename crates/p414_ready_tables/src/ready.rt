@@ -4,7 +4,7 @@ ghost use Rattle.match_core.specs.Fits.{Fits};
 ghost use Rattle.match_core.specs.Signatures.{IsSignature};
 ghost use Rattle.match_core.specs.Stores.{shapes_of};
 ghost use Rattle.p414_layout.specs.Shapes.{layout_of};
-ghost use Rattle.p414_rules.specs.Names.{Name};
+ghost use Rattle.p414_syntax.specs.Names.{Name};
 ghost use Rattle.p414_sem.specs.Controls.{applied};
 ghost use Rattle.p414_sem.specs.Expanded.{Expanded, IsExpanded};
 ghost use Rattle.p414_sem.specs.Signatures.{signature14};
@@ -22,16 +22,15 @@ use crate::making::all_tables;
 use crate::tables::ReadyTable;
 use match_core::{Entries, Signature, Table, build_tables};
 use p4x_bits::{Octets, OutOfMemory, Rows};
-use p414_ast::Rule14;
 use p414_body_check::Program14;
 use p414_state::State14;
+use p414_syntax::Rule14;
 use state_store::{Shape, Store};
 use std::alloc::Global;
 use std::marker::Model;
 
 /// The tables of a program, filled with entries, and its actions, ready to run under a rule. Contracts see the declarations of the
 /// program, the rule and the entries.
-#[derive(Drop)]
 pub struct ReadyTables<'r> {
     program: &'r Program14,
     entries: &'r Entries,
@@ -40,9 +39,21 @@ pub struct ReadyTables<'r> {
     actions: ReadyActions,
 }
 
+impl Drop for ReadyTables<'_> {
+    fn drop(self) {
+        let ReadyTables {
+            program: _program,
+            entries: _entries,
+            tables: _tables,
+            filled: _filled,
+            actions: _actions,
+        } = self;
+    }
+}
+
 impl<'r> Model for ReadyTables<'r> {
     ghost use Rattle.std.specs.Coded.{codes};
-    ghost use Rattle.p414_ast.specs.contracts.syntax.Decl as declaration;
+    ghost use Rattle.p414_syntax.specs.contracts.syntax.Decl as declaration;
     ghost use Rattle.p414_ready_tables.specs.Loaded.{Loaded};
     ghost use Rattle.p414_ready_tables.specs.internal.Applying.{AreReady};
 

@@ -20,7 +20,6 @@ pub enum KeyRow {
 }
 
 /// A table.
-#[derive(Drop)]
 pub struct ReadyTable {
     /// Its keys, in order.
     pub keys: Rows<KeyRow>,
@@ -30,4 +29,15 @@ pub struct ReadyTable {
     pub direct: Option<u32>,
     /// The call that the program makes on a miss: an action by its place among those of the table, with its arguments.
     pub default: Option<DefaultCall>,
+}
+
+impl Drop for ReadyTable {
+    fn drop(self) {
+        let ReadyTable {
+            keys: _keys,
+            actions: _actions,
+            direct: _direct,
+            default: _default,
+        } = self;
+    }
 }

@@ -4,12 +4,12 @@
 use Rattle.std.specs.Prelude.{ℕ, Bool, true, false, not, ◌&&◌, ◌==◌, if◌then◌else◌, pos, List, [], ◌∷◌, filter, fold, Option, Some, None}
 use Rattle.std.specs.List.{list_any}
 use Rattle.std.specs.Option.{option_map_or}
-use Rattle.p414_ast.specs.declared.calculations.CalcCond.{CalcCond}
-use Rattle.p414_ast.specs.declared.calculations.CalcCond.TheVariants as calc_cond
-use Rattle.p414_ast.specs.declared.calculations.Calc.{Calc}
-use Rattle.p414_ast.specs.declared.calculations.CalculatedField.{CalculatedField}
-use Rattle.p414_ast.specs.declared.syntax.Decl.{Decl}
-use Rattle.p414_rules.specs.Lists.{calculated_fields, is_update, is_verify}
+use Rattle.p414_syntax.specs.declared.calculations.CalcCond.{CalcCond}
+use Rattle.p414_syntax.specs.declared.calculations.CalcCond.TheVariants as calc_cond
+use Rattle.p414_syntax.specs.declared.calculations.Calc.{Calc}
+use Rattle.p414_syntax.specs.declared.calculations.CalculatedField.{CalculatedField}
+use Rattle.p414_syntax.specs.declared.syntax.Decl.{Decl}
+use Rattle.p414_syntax.specs.Lists.{calculated_fields, is_update, is_verify}
 use Rattle.p414_sem.specs.Wholes.{wrapped}
 use Rattle.p414_sem.specs.Slots.{slot_of, field_target, element_of}
 use Rattle.p414_sem.specs.State.{State, is_valid_at, read, is_live, written}

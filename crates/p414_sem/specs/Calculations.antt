@@ -4,13 +4,13 @@ use Rattle.std.specs.Option.{option_map_or}
 use Rattle.std.specs.Str.{bytes_eq}
 use Rattle.p4x_bits.specs.BitLists.{bits, octet_bits}
 use Rattle.calc_core.specs.Calculations.{csum16, crc16, crc32, identity}
-use Rattle.p414_ast.specs.declared.calculations.Item.{Item}
-use Rattle.p414_ast.specs.declared.calculations.Item.TheVariants as item
-use Rattle.p414_ast.specs.declared.calculations.FieldListCalculation.{FieldListCalculation}
-use Rattle.p414_ast.specs.declared.syntax.Decl.{Decl}
-use Rattle.p414_rules.specs.Names.{Name}
-use Rattle.p414_rules.specs.Expansion.{list_number}
-use Rattle.p414_rules.specs.Lists.{calculation_of}
+use Rattle.p414_syntax.specs.declared.calculations.Item.{Item}
+use Rattle.p414_syntax.specs.declared.calculations.Item.TheVariants as item
+use Rattle.p414_syntax.specs.declared.calculations.FieldListCalculation.{FieldListCalculation}
+use Rattle.p414_syntax.specs.declared.syntax.Decl.{Decl}
+use Rattle.p414_syntax.specs.Names.{Name}
+use Rattle.p414_syntax.specs.Expansion.{list_number}
+use Rattle.p414_syntax.specs.Lists.{calculation_of}
 use Rattle.p414_sem.specs.Slots.{slot_of, bits_of_ref}
 use Rattle.p414_sem.specs.State.{State, read}
 use Rattle.p414_sem.specs.Expanded.{Expanded, items_in_list}

@@ -3,7 +3,7 @@
 use Rattle.std.specs.Prelude.{ℕ, Bool, false, not, ◌||◌, if◌then◌else◌, is_some, bit_and, List, [], ◌∷◌, length, map, slice_index_or, Option, Some, None, option_map, unwrap_or}
 use Rattle.std.specs.Option.{option_map_or}
 use Rattle.std.specs.Str.{bytes_eq}
-use Rattle.p414_lexemes.specs.declared.lexeme.Literal.{Literal}
+use Rattle.p414_syntax.specs.declared.lexeme.Literal.{Literal}
 use Rattle.state_store.specs.State.{count}
 use Rattle.match_core.specs.declared.entries.Entry.{Entry}
 use Rattle.match_core.specs.declared.entries.DefaultCall.{DefaultCall}
@@ -12,20 +12,20 @@ use Rattle.match_core.specs.declared.entries.Entries.{Entries}
 use Rattle.match_core.specs.Best.{best, entry_at}
 use Rattle.match_core.specs.Tables.{filled_of}
 use Rattle.p4x_bits.specs.BitLists.{bit}
-use Rattle.p414_ast.specs.declared.node.Label.{Label}
-use Rattle.p414_ast.specs.declared.node.Label.TheVariants as label
-use Rattle.p414_ast.specs.declared.parts.Number.{Number}
-use Rattle.p414_ast.specs.declared.tables.ReadKey.{ReadKey}
-use Rattle.p414_ast.specs.declared.tables.ReadKey.TheVariants as read_key
-use Rattle.p414_ast.specs.declared.tables.Read.{Read}
-use Rattle.p414_ast.specs.declared.tables.Table.{Table}
-use Rattle.p414_ast.specs.declared.syntax.Decl.{Decl}
-use Rattle.p414_ast.specs.declared.syntax.Rule14.{Rule14}
-use Rattle.p414_ast.specs.declared.syntax.Sort.TheVariants as sort
-use Rattle.p414_ast.specs.Attributes.{reads_of, default_action_of, default_arguments_of}
-use Rattle.p414_ast.specs.Tree.{Stmt, no_statements, then, apply, apply_branches, if_then, call, no_else, else_block, else_if, no_branches, branch}
-use Rattle.p414_rules.specs.Names.{Name, find_name, names_in}
-use Rattle.p414_rules.specs.Arguments.{action_number}
+use Rattle.p414_syntax.specs.declared.node.Label.{Label}
+use Rattle.p414_syntax.specs.declared.node.Label.TheVariants as label
+use Rattle.p414_syntax.specs.declared.parts.Number.{Number}
+use Rattle.p414_syntax.specs.declared.tables.ReadKey.{ReadKey}
+use Rattle.p414_syntax.specs.declared.tables.ReadKey.TheVariants as read_key
+use Rattle.p414_syntax.specs.declared.tables.Read.{Read}
+use Rattle.p414_syntax.specs.declared.tables.Table.{Table}
+use Rattle.p414_syntax.specs.declared.syntax.Decl.{Decl}
+use Rattle.p414_syntax.specs.declared.syntax.Rule14.{Rule14}
+use Rattle.p414_syntax.specs.declared.syntax.Sort.TheVariants as sort
+use Rattle.p414_syntax.specs.Attributes.{reads_of, default_action_of, default_arguments_of}
+use Rattle.p414_syntax.specs.Tree.{Stmt, no_statements, then, apply, apply_branches, if_then, call, no_else, else_block, else_if, no_branches, branch}
+use Rattle.p414_syntax.specs.Names.{Name, find_name, names_in}
+use Rattle.p414_syntax.specs.Arguments.{action_number}
 use Rattle.p414_sem.specs.Wholes.{whole, wrapped}
 use Rattle.p414_sem.specs.Slots.{slot_of, element_of}
 use Rattle.p414_sem.specs.State.{State, is_valid_at, read, with_event}

@@ -7,10 +7,10 @@ use Rattle.std.specs.Prelude.{ℕ, ◌+◌, ◌*◌, ◌/◌, ◌%◌, ◌^◌, 
 use Rattle.state_store.specs.Cells.{width_of}
 use Rattle.state_store.specs.State.{Contents, shape_at, count, read as read_cell, write as write_to_cell, colour, colour_taken}
 use Rattle.fabric.specs.declared.items.RequestKind.{RequestKind}
-use Rattle.p414_ast.specs.declared.syntax.Decl.{Decl}
-use Rattle.p414_ast.specs.declared.syntax.Rule14.{Rule14}
-use Rattle.p414_ast.specs.declared.syntax.Rule14.TheVariants.{Sequential, Parallel}
-use Rattle.p414_rules.specs.Arguments.{Invocation}
+use Rattle.p414_syntax.specs.declared.syntax.Decl.{Decl}
+use Rattle.p414_syntax.specs.declared.syntax.Rule14.{Rule14}
+use Rattle.p414_syntax.specs.declared.syntax.Rule14.TheVariants.{Sequential, Parallel}
+use Rattle.p414_syntax.specs.Arguments.{Invocation}
 use Rattle.p414_sem.specs.declared.requests.Request14.{Request14}
 use Rattle.p414_sem.specs.Wholes.{wrapped, kept, natural, and_ℤ, or_ℤ, xor_ℤ, masked}
 use Rattle.p414_sem.specs.Slots.{Slot, Element, Target}

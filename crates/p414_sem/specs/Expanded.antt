@@ -2,14 +2,14 @@
 -- Lists", "Packet Processing and Control Flow", "Deparsing"). Expansions are relations, and an accepted program has one
 -- of each kind: the meaning is told of the program together with them.
 use Rattle.std.specs.Prelude.{◌≡◌, ℕ, ◌<◌, List, [], length, slice_index_or, Some}
-use Rattle.p414_ast.specs.declared.calculations.Item.{Item}
-use Rattle.p414_ast.specs.declared.syntax.Decl.{Decl}
-use Rattle.p414_ast.specs.Tree.{Stmt}
-use Rattle.p414_rules.specs.Arguments.{Invocation, actions}
-use Rattle.p414_rules.specs.ActionExpansion.{ActionExpands}
-use Rattle.p414_rules.specs.Expansion.{lists, items_at, Expands}
-use Rattle.p414_rules.specs.ControlExpansion.{PipelineExpands, ingress as ingress_name, egress as egress_name}
-use Rattle.p414_rules.specs.ParserGraph.{Order}
+use Rattle.p414_syntax.specs.declared.calculations.Item.{Item}
+use Rattle.p414_syntax.specs.declared.syntax.Decl.{Decl}
+use Rattle.p414_syntax.specs.Tree.{Stmt}
+use Rattle.p414_syntax.specs.Arguments.{Invocation, actions}
+use Rattle.p414_syntax.specs.ActionExpansion.{ActionExpands}
+use Rattle.p414_syntax.specs.Expansion.{lists, items_at, Expands}
+use Rattle.p414_syntax.specs.ControlExpansion.{PipelineExpands, ingress as ingress_name, egress as egress_name}
+use Rattle.p414_syntax.specs.ParserGraph.{Order}
 
 pub record Expanded : Type 0 where
   -- the primitives of each action, in the order of declaration

@@ -3,18 +3,18 @@
 use Rattle.std.specs.Prelude.{◌≡◌, ℕ, ◌^◌, ◌<◌, ◌≤◌, true, false, List, [], ◌∷◌, length, replicate, All, IfSome, Option, Some, None}
 use Rattle.std.specs.List.{AllZip}
 use Rattle.p4x_bits.specs.BitLists.{IsOctets}
-use Rattle.p414_lexemes.specs.declared.lexeme.Literal.{Literal}
+use Rattle.p414_syntax.specs.declared.lexeme.Literal.{Literal}
 use Rattle.state_store.specs.Ports.{IsPort}
 use Rattle.fabric.specs.declared.items.Event.{Event}
 use Rattle.fabric.specs.declared.items.Item.{Item as QueueItem}
 use Rattle.match_core.specs.Fits.{Fits}
 use Rattle.match_core.specs.Stores.{IsStoreOf}
-use Rattle.p414_ast.specs.declared.syntax.Decl.{Decl}
-use Rattle.p414_ast.specs.declared.syntax.Decl.TheVariants as decl
-use Rattle.p414_ast.specs.declared.syntax.Sort.TheVariants as sort
-use Rattle.p414_rules.specs.Names.{declared_in}
-use Rattle.p414_rules.specs.Totals.{elements_of}
-use Rattle.p414_rules.specs.Expansion.{lists}
+use Rattle.p414_syntax.specs.declared.syntax.Decl.{Decl}
+use Rattle.p414_syntax.specs.declared.syntax.Decl.TheVariants as decl
+use Rattle.p414_syntax.specs.declared.syntax.Sort.TheVariants as sort
+use Rattle.p414_syntax.specs.Names.{declared_in}
+use Rattle.p414_syntax.specs.Totals.{elements_of}
+use Rattle.p414_syntax.specs.Expansion.{lists}
 use Rattle.p414_sem.specs.declared.requests.Request14.{Request14}
 use Rattle.p414_sem.specs.State.{Header, Instance, State}
 use Rattle.p414_sem.specs.Packing.{widths_of_type}

@@ -1,8 +1,8 @@
 -- The meanings of a program by their names, each in one line: the definitions that they name say what they are.
 use Rattle.std.specs.Prelude.{ℕ, Bool, List}
-use Rattle.p414_ast.specs.declared.syntax.Decl.{Decl}
-use Rattle.p414_ast.specs.declared.syntax.Rule14.{Rule14}
-use Rattle.p414_ast.specs.Tree.{Stmt}
+use Rattle.p414_syntax.specs.declared.syntax.Decl.{Decl}
+use Rattle.p414_syntax.specs.declared.syntax.Rule14.{Rule14}
+use Rattle.p414_syntax.specs.Tree.{Stmt}
 use Rattle.p414_sem.specs.State.{State}
 use Rattle.p414_sem.specs.Expanded.{Expanded, items_in_list}
 use Rattle.p414_sem.specs.Calculations.{list_bits}

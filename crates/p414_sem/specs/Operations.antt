@@ -10,13 +10,13 @@ use Rattle.std.specs.Str.{bytes_eq}
 use Rattle.state_store.specs.Ports.{drop_port}
 use Rattle.fabric.specs.declared.items.RequestKind.{RequestKind}
 use Rattle.fabric.specs.declared.items.RequestKind.TheVariants.{CloneI2E, CloneE2E, Resubmit, Recirculate}
-use Rattle.p414_ast.specs.declared.syntax.Decl.{Decl}
-use Rattle.p414_ast.specs.declared.syntax.Sort.TheVariants as sort
-use Rattle.p414_rules.specs.Names.{Name, find_name, names_in}
-use Rattle.p414_rules.specs.Primitives.{hash}
-use Rattle.p414_rules.specs.Expansion.{list_number}
-use Rattle.p414_rules.specs.ParserGraph.{instance_number}
-use Rattle.p414_rules.specs.Arguments.{Argument, number_argument, field_argument, parameter_argument, name_argument, Invocation}
+use Rattle.p414_syntax.specs.declared.syntax.Decl.{Decl}
+use Rattle.p414_syntax.specs.declared.syntax.Sort.TheVariants as sort
+use Rattle.p414_syntax.specs.Names.{Name, find_name, names_in}
+use Rattle.p414_syntax.specs.Primitives.{hash}
+use Rattle.p414_syntax.specs.Expansion.{list_number}
+use Rattle.p414_syntax.specs.ParserGraph.{instance_number}
+use Rattle.p414_syntax.specs.Arguments.{Argument, number_argument, field_argument, parameter_argument, name_argument, Invocation}
 use Rattle.p414_sem.specs.declared.standard.Standard.TheVariants.{EgressSpec}
 use Rattle.p414_sem.specs.Wholes.{whole}
 use Rattle.p414_sem.specs.Slots.{Slot, standard, declared, Element, Target, element_of, slot_of, field_target}

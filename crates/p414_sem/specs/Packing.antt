@@ -3,10 +3,10 @@
 use Rattle.std.specs.Prelude.{ℕ, Bool, List, [], ◌∷◌, ◌++◌, take, drop, map}
 use Rattle.std.specs.Option.{option_map_or}
 use Rattle.p4x_bits.specs.BitLists.{num, bits}
-use Rattle.p414_ast.specs.declared.syntax.Decl.{Decl}
-use Rattle.p414_ast.specs.Views.{HeaderTypeTree}
-use Rattle.p414_rules.specs.Names.{Name}
-use Rattle.p414_rules.specs.Fields.{type_of, instance_type, field_bits}
+use Rattle.p414_syntax.specs.declared.syntax.Decl.{Decl}
+use Rattle.p414_syntax.specs.Views.{HeaderTypeTree}
+use Rattle.p414_syntax.specs.Names.{Name}
+use Rattle.p414_syntax.specs.Fields.{type_of, instance_type, field_bits}
 
 -- the widths of the fields of a header type, in order
 abbrev pub type_widths : HeaderTypeTree → List ℕ

@@ -4,7 +4,7 @@
 use Rattle.std.specs.Prelude.{ℕ, zero, suc, ◌+◌, ◌-◌, ◌^◌, min, max, Bool, true, false, ◌&&◌, ◌==◌, if◌then◌else◌, List, [], ◌∷◌, length, map, flat_map, filter_map, slice_get, fold, Option, Some, None, codes, option_map, option_and_then}
 use Rattle.std.specs.Option.{option_map_or}
 use Rattle.std.specs.Str.{bytes_eq}
-use Rattle.p414_lexemes.specs.declared.lexeme.Literal.{Literal}
+use Rattle.p414_syntax.specs.declared.lexeme.Literal.{Literal}
 use Rattle.state_store.specs.declared.shapes.Kind.{Kind}
 use Rattle.state_store.specs.declared.shapes.Kind.TheVariants.{Packets as count_packets, Bytes as count_bytes, Both}
 use Rattle.state_store.specs.declared.shapes.Shape.{Shape}
@@ -16,25 +16,25 @@ use Rattle.match_core.specs.declared.signatures.ActionSig.{ActionSig}
 use Rattle.match_core.specs.declared.signatures.TableSig.{TableSig}
 use Rattle.match_core.specs.declared.signatures.ObjectSig.{ObjectSig}
 use Rattle.match_core.specs.declared.signatures.Signature.{Signature}
-use Rattle.p414_ast.specs.declared.actions.Action.{Action}
-use Rattle.p414_ast.specs.declared.tables.ReadKey.{ReadKey}
-use Rattle.p414_ast.specs.declared.tables.ReadKey.TheVariants as read_key
-use Rattle.p414_ast.specs.declared.tables.Read.{Read}
-use Rattle.p414_ast.specs.declared.tables.Table.{Table}
-use Rattle.p414_ast.specs.declared.objects.CounterType.{CounterType}
-use Rattle.p414_ast.specs.declared.objects.CounterType.TheVariants.{Packets, Bytes, PacketsAndBytes}
-use Rattle.p414_ast.specs.declared.objects.StateAttr.{StateAttr}
-use Rattle.p414_ast.specs.declared.syntax.Decl.{Decl}
-use Rattle.p414_ast.specs.declared.syntax.Decl.TheVariants as decl
-use Rattle.p414_ast.specs.declared.syntax.Sort.TheVariants as sort
-use Rattle.p414_ast.specs.Attributes.{reads_of, size_of, max_size_of, counts_of, direct_table_of, instance_count_of, width_of}
-use Rattle.p414_rules.specs.declared.place.ArgumentPlace.{ArgumentPlace}
-use Rattle.p414_rules.specs.declared.place.ArgumentPlace.TheVariants as place
-use Rattle.p414_rules.specs.Names.{Name, has_name, names_in, declaration_of}
-use Rattle.p414_rules.specs.Primitives.{clones}
-use Rattle.p414_rules.specs.Cells.{literal_value, cell_count}
-use Rattle.p414_rules.specs.Arguments.{Argument, field_argument, parameter_argument, name_argument, Invocation, PlacedArgument, invocations_of, actions, action_number, placed_in}
-use Rattle.p414_rules.specs.Tables.{tables, table_number, listed_in}
+use Rattle.p414_syntax.specs.declared.actions.Action.{Action}
+use Rattle.p414_syntax.specs.declared.tables.ReadKey.{ReadKey}
+use Rattle.p414_syntax.specs.declared.tables.ReadKey.TheVariants as read_key
+use Rattle.p414_syntax.specs.declared.tables.Read.{Read}
+use Rattle.p414_syntax.specs.declared.tables.Table.{Table}
+use Rattle.p414_syntax.specs.declared.objects.CounterType.{CounterType}
+use Rattle.p414_syntax.specs.declared.objects.CounterType.TheVariants.{Packets, Bytes, PacketsAndBytes}
+use Rattle.p414_syntax.specs.declared.objects.StateAttr.{StateAttr}
+use Rattle.p414_syntax.specs.declared.syntax.Decl.{Decl}
+use Rattle.p414_syntax.specs.declared.syntax.Decl.TheVariants as decl
+use Rattle.p414_syntax.specs.declared.syntax.Sort.TheVariants as sort
+use Rattle.p414_syntax.specs.Attributes.{reads_of, size_of, max_size_of, counts_of, direct_table_of, instance_count_of, width_of}
+use Rattle.p414_syntax.specs.declared.place.ArgumentPlace.{ArgumentPlace}
+use Rattle.p414_syntax.specs.declared.place.ArgumentPlace.TheVariants as place
+use Rattle.p414_syntax.specs.Names.{Name, has_name, names_in, declaration_of}
+use Rattle.p414_syntax.specs.Primitives.{clones}
+use Rattle.p414_syntax.specs.Cells.{literal_value, cell_count}
+use Rattle.p414_syntax.specs.Arguments.{Argument, field_argument, parameter_argument, name_argument, Invocation, PlacedArgument, invocations_of, actions, action_number, placed_in}
+use Rattle.p414_syntax.specs.Tables.{tables, table_number, listed_in}
 use Rattle.p414_sem.specs.Slots.{bits_of_ref}
 use Rattle.p414_sem.specs.Operations.{in_order, object_number}
 

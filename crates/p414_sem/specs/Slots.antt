@@ -4,18 +4,18 @@
 use Rattle.std.specs.Prelude.{ℕ, Bool, false, if◌then◌else◌, List, [], length, Option, Some, None, codes, unwrap_or}
 use Rattle.std.specs.Option.{option_map_or}
 use Rattle.std.specs.Str.{bytes_eq}
-use Rattle.p414_ast.specs.declared.parts.Index.{Index}
-use Rattle.p414_ast.specs.declared.parts.Index.TheVariants.{At, Next, Last}
-use Rattle.p414_ast.specs.declared.parts.Inst.{Inst}
-use Rattle.p414_ast.specs.declared.parts.Ref.{Ref}
-use Rattle.p414_ast.specs.declared.headers.Field.{Field}
-use Rattle.p414_ast.specs.declared.syntax.Decl.{Decl}
-use Rattle.p414_ast.specs.Views.{HeaderTypeTree}
-use Rattle.p414_rules.specs.Names.{Name, find_name, has_name}
-use Rattle.p414_rules.specs.Primitives.{is_standard}
-use Rattle.p414_rules.specs.Fields.{instance_type, field_in, ref_width}
-use Rattle.p414_rules.specs.Expansion.{type_fields}
-use Rattle.p414_rules.specs.ParserGraph.{instance_number}
+use Rattle.p414_syntax.specs.declared.parts.Index.{Index}
+use Rattle.p414_syntax.specs.declared.parts.Index.TheVariants.{At, Next, Last}
+use Rattle.p414_syntax.specs.declared.parts.Inst.{Inst}
+use Rattle.p414_syntax.specs.declared.parts.Ref.{Ref}
+use Rattle.p414_syntax.specs.declared.headers.Field.{Field}
+use Rattle.p414_syntax.specs.declared.syntax.Decl.{Decl}
+use Rattle.p414_syntax.specs.Views.{HeaderTypeTree}
+use Rattle.p414_syntax.specs.Names.{Name, find_name, has_name}
+use Rattle.p414_syntax.specs.Primitives.{is_standard}
+use Rattle.p414_syntax.specs.Fields.{instance_type, field_in, ref_width}
+use Rattle.p414_syntax.specs.Expansion.{type_fields}
+use Rattle.p414_syntax.specs.ParserGraph.{instance_number}
 use Rattle.p414_sem.specs.declared.standard.Standard.{Standard}
 use Rattle.p414_sem.specs.declared.standard.Standard.TheVariants.{IngressPort, EgressSpec, EgressPort, PacketLength, InstanceType}
 

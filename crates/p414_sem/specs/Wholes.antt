@@ -1,8 +1,8 @@
 -- Whole numbers, and what a field keeps of one (P4_14 1.0.5, "Primitive Actions", "Field Value Conversions"; that
 -- every source is a whole number is this project's own).
 use Rattle.std.specs.Prelude.{ℕ, ◌-◌, ◌%◌, ◌^◌, min, ℤ, pos, negsuc, neg_ℤ, Bool, true, false, if◌then◌else◌, bit_and, bit_or, bit_xor}
-use Rattle.p414_ast.specs.declared.parts.Number.{Number}
-use Rattle.p414_rules.specs.Calls.{is_minus_sign}
+use Rattle.p414_syntax.specs.declared.parts.Number.{Number}
+use Rattle.p414_syntax.specs.Calls.{is_minus_sign}
 
 -- the number that is written, with its sign
 abbrev pub whole : Number → ℤ

@@ -1,7 +1,7 @@
 // How parsing ends.
 
 /// How the parsing of a packet ends (P4_14 1.0.5, "Parser Specification", "Standard Parser Exceptions").
-#[derive(Clone, Copy, Debug, PartialEq, Eq, Drop)]
+#[derive(Clone, Copy, PartialEq, Eq, Drop)]
 pub enum Parsed {
     /// A state returned `ingress`.
     Accepted,

@@ -2,7 +2,7 @@
 
 /// A request for a further item (P4_14 1.0.5, "Primitive Actions": `clone_ingress_pkt_to_egress`,
 /// `clone_egress_pkt_to_egress`, `resubmit`, `recirculate`).
-#[derive(Clone, Copy, Debug, PartialEq, Eq, Drop)]
+#[derive(Clone, Copy, PartialEq, Eq, Drop)]
 pub struct Request14 {
     /// The number of the clone session; 0 for resubmit and recirculate.
     pub session: u32,

@@ -1,7 +1,7 @@
 // How much a program asks of what runs or translates it.
 
 /// How much a program asks of what runs or translates it (this project's own).
-#[derive(Clone, Copy, Debug, PartialEq, Eq, Drop)]
+#[derive(Clone, Copy, PartialEq, Eq, Drop)]
 pub enum Stage14 {
     /// No action makes a further item, and the program keeps nothing from packet to packet and calculates nothing.
     Plain,

@@ -1,7 +1,7 @@
 // The fields of standard metadata.
 
 /// A field of `standard_metadata` (P4_14 1.0.5, "Standard Intrinsic Metadata").
-#[derive(Clone, Copy, Debug, PartialEq, Eq, Drop)]
+#[derive(Clone, Copy, PartialEq, Eq, Drop)]
 pub enum Standard {
     /// `ingress_port`, of 9 bits.
     IngressPort,

@@ -5,12 +5,12 @@ use Rattle.p4x_bits.specs.BitLists.{num, bits}
 use Rattle.match_core.specs.declared.entries.Entries.{Entries}
 use Rattle.fabric.specs.declared.packets.Arrival.{Arrival}
 use Rattle.fabric.specs.Queue.{run}
-use Rattle.p414_ast.specs.declared.actions.Call.{Call}
-use Rattle.p414_ast.specs.declared.syntax.Decl.{Decl}
-use Rattle.p414_ast.specs.declared.syntax.Rule14.TheVariants.{Sequential}
-use Rattle.p414_ast.specs.Tree.{apply}
-use Rattle.p414_ast.specs.declared.parsers.Return.TheVariants as end_of
-use Rattle.p414_rules.specs.Arguments.{actions, invocations_of}
+use Rattle.p414_syntax.specs.declared.actions.Call.{Call}
+use Rattle.p414_syntax.specs.declared.syntax.Decl.{Decl}
+use Rattle.p414_syntax.specs.declared.syntax.Rule14.TheVariants.{Sequential}
+use Rattle.p414_syntax.specs.Tree.{apply}
+use Rattle.p414_syntax.specs.declared.parsers.Return.TheVariants as end_of
+use Rattle.p414_syntax.specs.Arguments.{actions, invocations_of}
 use Rattle.p414_sem.specs.Expanded.{Expanded}
 use Rattle.p414_sem.specs.Controls.{Setting}
 use Rattle.p414_sem.specs.Parsing.{parsed}

@@ -3,14 +3,14 @@ use Rattle.std.proofs.Common.{◌≡◌, ℕ, false, List, [], ◌∷◌, Some, 
 use Rattle.std.specs.Prelude.{codes}
 use Rattle.p4x_bits.specs.BitLists.{num, bits}
 use Rattle.fabric.specs.declared.items.IngressNext.TheVariants as after_ingress
-use Rattle.p414_ast.specs.declared.calculations.Item.TheVariants as item
-use Rattle.p414_ast.specs.declared.node.BinaryOperator.TheVariants.{Add, Equal}
-use Rattle.p414_ast.specs.declared.parsers.Return.TheVariants as end_of
-use Rattle.p414_ast.specs.declared.syntax.Decl.{Decl}
-use Rattle.p414_ast.specs.declared.syntax.Decl.TheVariants as decl
-use Rattle.p414_ast.specs.declared.syntax.Rule14.TheVariants.{Sequential}
-use Rattle.p414_ast.specs.Tree.{Stmt, Expr, apply, if_then, no_else, else_block, number, binary, valid}
-use Rattle.p414_ast.specs.Tree.{field as field_operand}
+use Rattle.p414_syntax.specs.declared.calculations.Item.TheVariants as item
+use Rattle.p414_syntax.specs.declared.node.BinaryOperator.TheVariants.{Add, Equal}
+use Rattle.p414_syntax.specs.declared.parsers.Return.TheVariants as end_of
+use Rattle.p414_syntax.specs.declared.syntax.Decl.{Decl}
+use Rattle.p414_syntax.specs.declared.syntax.Decl.TheVariants as decl
+use Rattle.p414_syntax.specs.declared.syntax.Rule14.TheVariants.{Sequential}
+use Rattle.p414_syntax.specs.Tree.{Stmt, Expr, apply, if_then, no_else, else_block, number, binary, valid}
+use Rattle.p414_syntax.specs.Tree.{field as field_operand}
 use Rattle.p414_sem.specs.Parsing.{parsed}
 use Rattle.p414_sem.specs.Signatures.{signature14}
 use Rattle.p414_sem.specs.Passes.{Preserved, none_preserved, ingress14, egress14}

@@ -8,17 +8,17 @@ use Rattle.match_core.specs.declared.entries.KeyMatch.TheVariants.{Exact, Lpm, R
 use Rattle.match_core.specs.declared.entries.Entry.{Entry}
 use Rattle.match_core.specs.declared.entries.DefaultCall.{DefaultCall}
 use Rattle.fabric.specs.declared.items.Event.{Event}
-use Rattle.p414_ast.specs.declared.node.Label.{Label}
-use Rattle.p414_ast.specs.declared.node.Label.TheVariants as label
-use Rattle.p414_ast.specs.declared.parsers.Return.TheVariants as end_of
-use Rattle.p414_ast.specs.declared.tables.Read.{Read}
-use Rattle.p414_ast.specs.declared.tables.ReadKey.TheVariants as read_key
-use Rattle.p414_ast.specs.declared.tables.TableAttr.{TableAttr}
-use Rattle.p414_ast.specs.declared.tables.TableAttr.TheVariants as table_attr
-use Rattle.p414_ast.specs.declared.syntax.Decl.{Decl}
-use Rattle.p414_ast.specs.declared.syntax.Decl.TheVariants as decl
-use Rattle.p414_ast.specs.declared.syntax.Rule14.TheVariants.{Sequential}
-use Rattle.p414_ast.specs.Tree.{Stmt, no_statements, then, apply, apply_branches, no_branches, branch}
+use Rattle.p414_syntax.specs.declared.node.Label.{Label}
+use Rattle.p414_syntax.specs.declared.node.Label.TheVariants as label
+use Rattle.p414_syntax.specs.declared.parsers.Return.TheVariants as end_of
+use Rattle.p414_syntax.specs.declared.tables.Read.{Read}
+use Rattle.p414_syntax.specs.declared.tables.ReadKey.TheVariants as read_key
+use Rattle.p414_syntax.specs.declared.tables.TableAttr.{TableAttr}
+use Rattle.p414_syntax.specs.declared.tables.TableAttr.TheVariants as table_attr
+use Rattle.p414_syntax.specs.declared.syntax.Decl.{Decl}
+use Rattle.p414_syntax.specs.declared.syntax.Decl.TheVariants as decl
+use Rattle.p414_syntax.specs.declared.syntax.Rule14.TheVariants.{Sequential}
+use Rattle.p414_syntax.specs.Tree.{Stmt, no_statements, then, apply, apply_branches, no_branches, branch}
 use Rattle.p414_sem.specs.Controls.{Setting}
 use Rattle.p414_sem.specs.Parsing.{parsed}
 use Rattle.p414_sem.specs.Signatures.{signature14}

@@ -4,19 +4,19 @@ use Rattle.std.specs.Prelude.{codes}
 use Rattle.p4x_bits.specs.BitLists.{num, bits}
 use Rattle.state_store.specs.State.{Contents}
 use Rattle.state_store.specs.State.{pair, read as cell_of}
-use Rattle.p414_ast.specs.declared.actions.Call.{Call}
-use Rattle.p414_ast.specs.declared.objects.CounterType.TheVariants.{PacketsAndBytes}
-use Rattle.p414_ast.specs.declared.objects.StateAttr.TheVariants as state_attr
-use Rattle.p414_ast.specs.declared.parsers.PValue.TheVariants as pvalue
-use Rattle.p414_ast.specs.declared.parsers.Masked.{Masked}
-use Rattle.p414_ast.specs.declared.parsers.CaseValues.TheVariants as case_values
-use Rattle.p414_ast.specs.declared.parsers.CaseTarget.TheVariants as case_target
-use Rattle.p414_ast.specs.declared.parsers.Case.{Case}
-use Rattle.p414_ast.specs.declared.parsers.Return.TheVariants as end_of
-use Rattle.p414_ast.specs.declared.syntax.Decl.{Decl}
-use Rattle.p414_ast.specs.declared.syntax.Decl.TheVariants as decl
-use Rattle.p414_ast.specs.declared.syntax.Rule14.{Rule14}
-use Rattle.p414_ast.specs.declared.syntax.Rule14.TheVariants.{Sequential, Parallel}
+use Rattle.p414_syntax.specs.declared.actions.Call.{Call}
+use Rattle.p414_syntax.specs.declared.objects.CounterType.TheVariants.{PacketsAndBytes}
+use Rattle.p414_syntax.specs.declared.objects.StateAttr.TheVariants as state_attr
+use Rattle.p414_syntax.specs.declared.parsers.PValue.TheVariants as pvalue
+use Rattle.p414_syntax.specs.declared.parsers.Masked.{Masked}
+use Rattle.p414_syntax.specs.declared.parsers.CaseValues.TheVariants as case_values
+use Rattle.p414_syntax.specs.declared.parsers.CaseTarget.TheVariants as case_target
+use Rattle.p414_syntax.specs.declared.parsers.Case.{Case}
+use Rattle.p414_syntax.specs.declared.parsers.Return.TheVariants as end_of
+use Rattle.p414_syntax.specs.declared.syntax.Decl.{Decl}
+use Rattle.p414_syntax.specs.declared.syntax.Decl.TheVariants as decl
+use Rattle.p414_syntax.specs.declared.syntax.Rule14.{Rule14}
+use Rattle.p414_syntax.specs.declared.syntax.Rule14.TheVariants.{Sequential, Parallel}
 use Rattle.p414_sem.specs.Parsing.{parsed}
 use Rattle.p414_sem.specs.Signatures.{signature14}
 use Rattle.p414_sem.specs.Passes.{ingress14, egress14}

@@ -3,27 +3,27 @@ use Rattle.std.proofs.Common.{◌≡◌, ℕ, List, [], ◌∷◌, map, Option, 
 use Rattle.std.specs.Prelude.{codes}
 use Rattle.p4x_bits.specs.BitLists.{num, bits}
 use Rattle.fabric.specs.Queue.{run}
-use Rattle.p414_ast.specs.declared.parts.Sign.TheVariants.{Minus}
-use Rattle.p414_ast.specs.declared.parts.Index.TheVariants.{At}
-use Rattle.p414_ast.specs.declared.actions.Action.{Action}
-use Rattle.p414_ast.specs.declared.actions.Arg.{Arg}
-use Rattle.p414_ast.specs.declared.actions.Arg.TheVariants as arg
-use Rattle.p414_ast.specs.declared.actions.Call.{Call}
-use Rattle.p414_ast.specs.declared.calculations.Item.TheVariants as item
-use Rattle.p414_ast.specs.declared.parsers.PStmt.{PStmt}
-use Rattle.p414_ast.specs.declared.parsers.PStmt.TheVariants as pstmt
-use Rattle.p414_ast.specs.declared.parsers.PValue.TheVariants as pvalue
-use Rattle.p414_ast.specs.declared.parsers.CaseValues.TheVariants as case_values
-use Rattle.p414_ast.specs.declared.parsers.CaseTarget.TheVariants as case_target
-use Rattle.p414_ast.specs.declared.parsers.Case.{Case}
-use Rattle.p414_ast.specs.declared.parsers.Return.{Return}
-use Rattle.p414_ast.specs.declared.parsers.Return.TheVariants as end_of
-use Rattle.p414_ast.specs.declared.syntax.Decl.{Decl}
-use Rattle.p414_ast.specs.declared.syntax.Decl.TheVariants as decl
-use Rattle.p414_ast.specs.declared.syntax.Rule14.{Rule14}
-use Rattle.p414_ast.specs.declared.syntax.Rule14.TheVariants.{Sequential, Parallel}
-use Rattle.p414_rules.specs.Arguments.{Invocation, argument_of, invocation_of, invocations_of}
-use Rattle.p414_rules.specs.ActionExpansion.{ActionExpands, NoCalls, OfPrimitive, OfAction, body_with}
+use Rattle.p414_syntax.specs.declared.parts.Sign.TheVariants.{Minus}
+use Rattle.p414_syntax.specs.declared.parts.Index.TheVariants.{At}
+use Rattle.p414_syntax.specs.declared.actions.Action.{Action}
+use Rattle.p414_syntax.specs.declared.actions.Arg.{Arg}
+use Rattle.p414_syntax.specs.declared.actions.Arg.TheVariants as arg
+use Rattle.p414_syntax.specs.declared.actions.Call.{Call}
+use Rattle.p414_syntax.specs.declared.calculations.Item.TheVariants as item
+use Rattle.p414_syntax.specs.declared.parsers.PStmt.{PStmt}
+use Rattle.p414_syntax.specs.declared.parsers.PStmt.TheVariants as pstmt
+use Rattle.p414_syntax.specs.declared.parsers.PValue.TheVariants as pvalue
+use Rattle.p414_syntax.specs.declared.parsers.CaseValues.TheVariants as case_values
+use Rattle.p414_syntax.specs.declared.parsers.CaseTarget.TheVariants as case_target
+use Rattle.p414_syntax.specs.declared.parsers.Case.{Case}
+use Rattle.p414_syntax.specs.declared.parsers.Return.{Return}
+use Rattle.p414_syntax.specs.declared.parsers.Return.TheVariants as end_of
+use Rattle.p414_syntax.specs.declared.syntax.Decl.{Decl}
+use Rattle.p414_syntax.specs.declared.syntax.Decl.TheVariants as decl
+use Rattle.p414_syntax.specs.declared.syntax.Rule14.{Rule14}
+use Rattle.p414_syntax.specs.declared.syntax.Rule14.TheVariants.{Sequential, Parallel}
+use Rattle.p414_syntax.specs.Arguments.{Invocation, argument_of, invocation_of, invocations_of}
+use Rattle.p414_syntax.specs.ActionExpansion.{ActionExpands, NoCalls, OfPrimitive, OfAction, body_with}
 use Rattle.p414_sem.specs.declared.parsed.Parsed.{Parsed}
 use Rattle.p414_sem.specs.declared.parsed.Parsed.TheVariants.{OutOfPacket, OutOfBounds}
 use Rattle.p414_sem.specs.Controls.{Setting}

@@ -8,30 +8,30 @@ use Rattle.match_core.specs.declared.entries.Entry.{Entry}
 use Rattle.match_core.specs.declared.entries.Entries.{Entries}
 use Rattle.fabric.specs.declared.packets.Arrival.{Arrival}
 use Rattle.fabric.specs.Queue.{run}
-use Rattle.p414_ast.specs.declared.node.BinaryOperator.TheVariants.{Equal}
-use Rattle.p414_ast.specs.declared.node.Label.TheVariants as label
-use Rattle.p414_ast.specs.declared.calculations.Calc.{Calc}
-use Rattle.p414_ast.specs.declared.calculations.CalcCond.TheVariants as calc_cond
-use Rattle.p414_ast.specs.declared.calculations.CalcUse.TheVariants.{Update, Verify}
-use Rattle.p414_ast.specs.declared.calculations.Item.{Item}
-use Rattle.p414_ast.specs.declared.calculations.Item.TheVariants as item
-use Rattle.p414_ast.specs.declared.parsers.PValue.TheVariants as pvalue
-use Rattle.p414_ast.specs.declared.parsers.CaseValues.TheVariants as case_values
-use Rattle.p414_ast.specs.declared.parsers.CaseTarget.TheVariants as case_target
-use Rattle.p414_ast.specs.declared.parsers.Return.{Return}
-use Rattle.p414_ast.specs.declared.parsers.Return.TheVariants as end_of
-use Rattle.p414_ast.specs.declared.tables.ReadKey.TheVariants as read_key
-use Rattle.p414_ast.specs.declared.tables.TableAttr.TheVariants as table_attr
-use Rattle.p414_ast.specs.declared.actions.Call.{Call}
-use Rattle.p414_ast.specs.declared.syntax.Decl.{Decl}
-use Rattle.p414_ast.specs.declared.syntax.Decl.TheVariants as decl
-use Rattle.p414_ast.specs.declared.syntax.Rule14.{Rule14}
-use Rattle.p414_ast.specs.declared.syntax.Rule14.TheVariants.{Sequential, Parallel}
-use Rattle.p414_ast.specs.Tree.{Stmt, no_statements, apply, apply_branches, no_branches, branch, if_then, no_else, else_block, number, binary}
-use Rattle.p414_ast.specs.Tree.{field as field_operand}
-use Rattle.p414_rules.specs.Names.{Name}
-use Rattle.p414_rules.specs.Arguments.{actions, invocations_of}
-use Rattle.p414_rules.specs.Expansion.{lists, items_in}
+use Rattle.p414_syntax.specs.declared.node.BinaryOperator.TheVariants.{Equal}
+use Rattle.p414_syntax.specs.declared.node.Label.TheVariants as label
+use Rattle.p414_syntax.specs.declared.calculations.Calc.{Calc}
+use Rattle.p414_syntax.specs.declared.calculations.CalcCond.TheVariants as calc_cond
+use Rattle.p414_syntax.specs.declared.calculations.CalcUse.TheVariants.{Update, Verify}
+use Rattle.p414_syntax.specs.declared.calculations.Item.{Item}
+use Rattle.p414_syntax.specs.declared.calculations.Item.TheVariants as item
+use Rattle.p414_syntax.specs.declared.parsers.PValue.TheVariants as pvalue
+use Rattle.p414_syntax.specs.declared.parsers.CaseValues.TheVariants as case_values
+use Rattle.p414_syntax.specs.declared.parsers.CaseTarget.TheVariants as case_target
+use Rattle.p414_syntax.specs.declared.parsers.Return.{Return}
+use Rattle.p414_syntax.specs.declared.parsers.Return.TheVariants as end_of
+use Rattle.p414_syntax.specs.declared.tables.ReadKey.TheVariants as read_key
+use Rattle.p414_syntax.specs.declared.tables.TableAttr.TheVariants as table_attr
+use Rattle.p414_syntax.specs.declared.actions.Call.{Call}
+use Rattle.p414_syntax.specs.declared.syntax.Decl.{Decl}
+use Rattle.p414_syntax.specs.declared.syntax.Decl.TheVariants as decl
+use Rattle.p414_syntax.specs.declared.syntax.Rule14.{Rule14}
+use Rattle.p414_syntax.specs.declared.syntax.Rule14.TheVariants.{Sequential, Parallel}
+use Rattle.p414_syntax.specs.Tree.{Stmt, no_statements, apply, apply_branches, no_branches, branch, if_then, no_else, else_block, number, binary}
+use Rattle.p414_syntax.specs.Tree.{field as field_operand}
+use Rattle.p414_syntax.specs.Names.{Name}
+use Rattle.p414_syntax.specs.Arguments.{actions, invocations_of}
+use Rattle.p414_syntax.specs.Expansion.{lists, items_in}
 use Rattle.p414_sem.specs.Expanded.{Expanded}
 use Rattle.p414_sem.specs.Controls.{Setting}
 use Rattle.p414_sem.specs.Parsing.{parsed}

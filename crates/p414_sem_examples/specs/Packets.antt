@@ -10,8 +10,8 @@ use Rattle.fabric.specs.declared.items.IngressNext.{IngressNext}
 use Rattle.fabric.specs.declared.items.IngressNext.TheVariants as after_ingress
 use Rattle.fabric.specs.declared.items.EgressNext.{EgressNext}
 use Rattle.fabric.specs.declared.items.EgressNext.TheVariants as after_egress
-use Rattle.p414_ast.specs.declared.syntax.Decl.{Decl}
-use Rattle.p414_ast.specs.declared.syntax.Rule14.{Rule14}
+use Rattle.p414_syntax.specs.declared.syntax.Decl.{Decl}
+use Rattle.p414_syntax.specs.declared.syntax.Rule14.{Rule14}
 use Rattle.p414_sem.specs.Expanded.{Expanded}
 use Rattle.p414_sem.specs.Controls.{Setting}
 use Rattle.p414_sem.specs.Signatures.{signature14}

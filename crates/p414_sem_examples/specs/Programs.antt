@@ -1,22 +1,22 @@
 -- The programs of the examples.
 use Rattle.std.specs.Prelude.{List, [], ◌∷◌, map, Some, None, codes}
-use Rattle.p414_ast.specs.declared.parts.Index.TheVariants.{Next}
-use Rattle.p414_ast.specs.declared.parts.Inst.{Inst}
-use Rattle.p414_ast.specs.declared.headers.Field.{Field}
-use Rattle.p414_ast.specs.declared.actions.Call.{Call}
-use Rattle.p414_ast.specs.declared.calculations.Item.TheVariants as item
-use Rattle.p414_ast.specs.declared.objects.CounterType.TheVariants.{Packets}
-use Rattle.p414_ast.specs.declared.objects.StateAttr.TheVariants as state_attr
-use Rattle.p414_ast.specs.declared.parsers.PValue.TheVariants as pvalue
-use Rattle.p414_ast.specs.declared.parsers.CaseValues.TheVariants as case_values
-use Rattle.p414_ast.specs.declared.parsers.CaseTarget.TheVariants as case_target
-use Rattle.p414_ast.specs.declared.parsers.Case.{Case}
-use Rattle.p414_ast.specs.declared.parsers.Return.TheVariants as end_of
-use Rattle.p414_ast.specs.declared.syntax.Decl.{Decl}
-use Rattle.p414_ast.specs.declared.syntax.Decl.TheVariants as decl
-use Rattle.p414_ast.specs.Tree.{Stmt, apply, no_statements}
-use Rattle.p414_rules.specs.Arguments.{actions, invocations_of}
-use Rattle.p414_rules.specs.Expansion.{lists, items_in}
+use Rattle.p414_syntax.specs.declared.parts.Index.TheVariants.{Next}
+use Rattle.p414_syntax.specs.declared.parts.Inst.{Inst}
+use Rattle.p414_syntax.specs.declared.headers.Field.{Field}
+use Rattle.p414_syntax.specs.declared.actions.Call.{Call}
+use Rattle.p414_syntax.specs.declared.calculations.Item.TheVariants as item
+use Rattle.p414_syntax.specs.declared.objects.CounterType.TheVariants.{Packets}
+use Rattle.p414_syntax.specs.declared.objects.StateAttr.TheVariants as state_attr
+use Rattle.p414_syntax.specs.declared.parsers.PValue.TheVariants as pvalue
+use Rattle.p414_syntax.specs.declared.parsers.CaseValues.TheVariants as case_values
+use Rattle.p414_syntax.specs.declared.parsers.CaseTarget.TheVariants as case_target
+use Rattle.p414_syntax.specs.declared.parsers.Case.{Case}
+use Rattle.p414_syntax.specs.declared.parsers.Return.TheVariants as end_of
+use Rattle.p414_syntax.specs.declared.syntax.Decl.{Decl}
+use Rattle.p414_syntax.specs.declared.syntax.Decl.TheVariants as decl
+use Rattle.p414_syntax.specs.Tree.{Stmt, apply, no_statements}
+use Rattle.p414_syntax.specs.Arguments.{actions, invocations_of}
+use Rattle.p414_syntax.specs.Expansion.{lists, items_in}
 use Rattle.p414_sem.specs.Expanded.{Expanded}
 use Rattle.p414_sem_examples.specs.Parts.{plain, field, saturating, named, call, at, to_port_3, type, header, state, action, table}
 

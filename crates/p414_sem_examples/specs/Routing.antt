@@ -5,27 +5,27 @@ use Rattle.match_core.specs.declared.entries.KeyMatch.TheVariants.{Lpm}
 use Rattle.match_core.specs.declared.entries.Entry.{Entry}
 use Rattle.match_core.specs.declared.entries.Entries.{Entries}
 use Rattle.match_core.specs.Stores.{first_store}
-use Rattle.p414_ast.specs.declared.node.BinaryOperator.TheVariants.{And, Greater}
-use Rattle.p414_ast.specs.declared.calculations.Item.{Item}
-use Rattle.p414_ast.specs.declared.calculations.Item.TheVariants as item
-use Rattle.p414_ast.specs.declared.calculations.CalcUse.TheVariants.{Update, Verify}
-use Rattle.p414_ast.specs.declared.objects.CounterType.TheVariants.{Packets}
-use Rattle.p414_ast.specs.declared.objects.StateAttr.TheVariants as state_attr
-use Rattle.p414_ast.specs.declared.parsers.PValue.TheVariants as pvalue
-use Rattle.p414_ast.specs.declared.parsers.CaseValues.TheVariants as case_values
-use Rattle.p414_ast.specs.declared.parsers.CaseTarget.TheVariants as case_target
-use Rattle.p414_ast.specs.declared.parsers.Case.{Case}
-use Rattle.p414_ast.specs.declared.parsers.Return.TheVariants as end_of
-use Rattle.p414_ast.specs.declared.tables.ReadKey.TheVariants as read_key
-use Rattle.p414_ast.specs.declared.tables.TableAttr.TheVariants as table_attr
-use Rattle.p414_ast.specs.declared.syntax.Decl.{Decl}
-use Rattle.p414_ast.specs.declared.syntax.Decl.TheVariants as decl
-use Rattle.p414_ast.specs.declared.syntax.Rule14.TheVariants.{Sequential}
-use Rattle.p414_ast.specs.Tree.{Stmt, no_statements, then, apply, if_then, else_block, valid, number, binary}
-use Rattle.p414_ast.specs.Tree.{field as field_operand}
-use Rattle.p414_rules.specs.Names.{Name}
-use Rattle.p414_rules.specs.Arguments.{actions, invocations_of}
-use Rattle.p414_rules.specs.Expansion.{lists, items_in}
+use Rattle.p414_syntax.specs.declared.node.BinaryOperator.TheVariants.{And, Greater}
+use Rattle.p414_syntax.specs.declared.calculations.Item.{Item}
+use Rattle.p414_syntax.specs.declared.calculations.Item.TheVariants as item
+use Rattle.p414_syntax.specs.declared.calculations.CalcUse.TheVariants.{Update, Verify}
+use Rattle.p414_syntax.specs.declared.objects.CounterType.TheVariants.{Packets}
+use Rattle.p414_syntax.specs.declared.objects.StateAttr.TheVariants as state_attr
+use Rattle.p414_syntax.specs.declared.parsers.PValue.TheVariants as pvalue
+use Rattle.p414_syntax.specs.declared.parsers.CaseValues.TheVariants as case_values
+use Rattle.p414_syntax.specs.declared.parsers.CaseTarget.TheVariants as case_target
+use Rattle.p414_syntax.specs.declared.parsers.Case.{Case}
+use Rattle.p414_syntax.specs.declared.parsers.Return.TheVariants as end_of
+use Rattle.p414_syntax.specs.declared.tables.ReadKey.TheVariants as read_key
+use Rattle.p414_syntax.specs.declared.tables.TableAttr.TheVariants as table_attr
+use Rattle.p414_syntax.specs.declared.syntax.Decl.{Decl}
+use Rattle.p414_syntax.specs.declared.syntax.Decl.TheVariants as decl
+use Rattle.p414_syntax.specs.declared.syntax.Rule14.TheVariants.{Sequential}
+use Rattle.p414_syntax.specs.Tree.{Stmt, no_statements, then, apply, if_then, else_block, valid, number, binary}
+use Rattle.p414_syntax.specs.Tree.{field as field_operand}
+use Rattle.p414_syntax.specs.Names.{Name}
+use Rattle.p414_syntax.specs.Arguments.{actions, invocations_of}
+use Rattle.p414_syntax.specs.Expansion.{lists, items_in}
 use Rattle.p414_sem.specs.Expanded.{Expanded}
 use Rattle.p414_sem.specs.Controls.{Setting}
 use Rattle.p414_sem.specs.Signatures.{signature14}

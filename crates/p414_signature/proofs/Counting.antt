@@ -3,13 +3,13 @@ use Rattle.std.proofs.Common.{◌≡◌, ℕ, suc, ◌+◌, ◌<◌, Bool, true,
 use Rattle.std.specs.Prelude.{filter_map}
 use Rattle.std.specs.List.{cons_option}
 use Rattle.std.specs.Str.{bytes_eq}
-use Rattle.p414_ast.specs.declared.objects.Stateful.{Stateful}
-use Rattle.p414_ast.specs.declared.syntax.Decl.{Decl}
-use Rattle.p414_ast.specs.declared.syntax.Decl.TheVariants as decl
-use Rattle.p414_ast.specs.declared.syntax.Sort.TheVariants as sort
-use Rattle.p414_ast.specs.Attributes.{direct_table_of}
+use Rattle.p414_syntax.specs.declared.objects.Stateful.{Stateful}
+use Rattle.p414_syntax.specs.declared.syntax.Decl.{Decl}
+use Rattle.p414_syntax.specs.declared.syntax.Decl.TheVariants as decl
+use Rattle.p414_syntax.specs.declared.syntax.Sort.TheVariants as sort
+use Rattle.p414_syntax.specs.Attributes.{direct_table_of}
 use Rattle.p414_list_check.proofs.Loops.{next_items}
-use Rattle.p414_rules.specs.Names.{Name, find_name, names_in}
+use Rattle.p414_syntax.specs.Names.{Name, find_name, names_in}
 use Rattle.p414_sem.specs.Operations.{in_order, object_number}
 use Rattle.p414_sem.specs.Signatures.{counts_entries_of, first_name, direct_counter}
 use Rattle.p414_signature.specs.declared.directs.Objects.{Objects}

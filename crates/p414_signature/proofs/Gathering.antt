@@ -3,11 +3,11 @@ use Rattle.std.proofs.Common.{◌≡◌, ℕ, List, map, Option, ap, ◌∙◌}
 use Rattle.match_core.specs.declared.signatures.KeySpec.{KeySpec}
 use Rattle.match_core.specs.declared.signatures.ActionSig.{ActionSig}
 use Rattle.match_core.specs.declared.signatures.TableSig.{TableSig}
-use Rattle.p414_ast.specs.declared.syntax.Decl.{Decl}
-use Rattle.p414_ast.specs.declared.tables.Read.{Read}
-use Rattle.p414_ast.specs.declared.tables.Table.{Table}
-use Rattle.p414_ast.specs.Attributes.{reads_of}
-use Rattle.p414_rules.specs.Names.{Name}
+use Rattle.p414_syntax.specs.declared.syntax.Decl.{Decl}
+use Rattle.p414_syntax.specs.declared.tables.Read.{Read}
+use Rattle.p414_syntax.specs.declared.tables.Table.{Table}
+use Rattle.p414_syntax.specs.Attributes.{reads_of}
+use Rattle.p414_syntax.specs.Names.{Name}
 use Rattle.p414_sem.specs.Signatures.{action_sig, actions_in_order, direct_counter, key_spec, table_sig, table_size}
 use Rattle.p414_signature.specs.declared.directs.Objects.{Objects}
 use Rattle.p414_signature.specs.internal.Gathered.{AreObjects, direct_in}

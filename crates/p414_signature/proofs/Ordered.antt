@@ -8,11 +8,11 @@ use Rattle.std.specs.List.{cons_option}
 use Rattle.std.specs.Ordering.{nat_cmp, match_ordering}
 use Rattle.std.specs.declared.cmp.Ordering.{Ordering}
 use Rattle.std.specs.declared.cmp.Ordering.TheVariants.{Less, Equal, Greater}
-use Rattle.p414_ast.specs.declared.syntax.Decl.{Decl}
-use Rattle.p414_ast.specs.declared.syntax.Sort.{Sort}
-use Rattle.p414_ast.specs.References.{referred}
+use Rattle.p414_syntax.specs.declared.syntax.Decl.{Decl}
+use Rattle.p414_syntax.specs.declared.syntax.Sort.{Sort}
+use Rattle.p414_syntax.specs.References.{referred}
 use Rattle.p414_list_check.proofs.Loops.{next_items}
-use Rattle.p414_rules.specs.Names.{Name, name_in, names_in}
+use Rattle.p414_syntax.specs.Names.{Name, name_in, names_in}
 use Rattle.p414_signature.specs.internal.Gathered.{put_in_order, put_all}
 
 -- references are put in order as what they refer to

@@ -3,13 +3,13 @@ use Rattle.std.proofs.Common.{◌≡◌, ℕ, ◌+◌, ◌<◌, List, [], ◌∷
 use Rattle.std.specs.Prelude.{filter_map}
 use Rattle.std.specs.List.{cons_option}
 use Rattle.std.proofs.lemmas.Option.{slice_get-map}
-use Rattle.p414_ast.specs.declared.syntax.Decl.{Decl}
-use Rattle.p414_ast.specs.declared.syntax.Decl.TheVariants as decl
-use Rattle.p414_ast.specs.declared.syntax.Sort.TheVariants as sort
-use Rattle.p414_ast.specs.declared.tables.Table.{Table}
+use Rattle.p414_syntax.specs.declared.syntax.Decl.{Decl}
+use Rattle.p414_syntax.specs.declared.syntax.Decl.TheVariants as decl
+use Rattle.p414_syntax.specs.declared.syntax.Sort.TheVariants as sort
+use Rattle.p414_syntax.specs.declared.tables.Table.{Table}
 use Rattle.p414_list_check.proofs.Loops.{next_items}
-use Rattle.p414_rules.specs.Names.{Name, declared_in, numbered, number_of}
-use Rattle.p414_rules.specs.Tables.{table_in, tables}
+use Rattle.p414_syntax.specs.Names.{Name, declared_in, numbered, number_of}
+use Rattle.p414_syntax.specs.Tables.{table_in, tables}
 use Rattle.p414_sem.specs.Signatures.{table_of}
 use Rattle.p414_signature.specs.internal.Gathered.{declared_table}
 

@@ -1,23 +1,32 @@
 // The stateful objects by number, and which counter counts the entries of a table.
 ghost use Rattle.std.specs.Prelude.{◌≡◌, ◌++◌, map, option_map, option_to_list, slice_get, IfOk, OnOk};
-ghost use Rattle.p414_ast.specs.References.{referred};
-ghost use Rattle.p414_ast.specs.declared.syntax.Sort.TheVariants as sort;
-ghost use Rattle.p414_rules.specs.Names.{names_in};
+ghost use Rattle.p414_syntax.specs.References.{referred};
+ghost use Rattle.p414_syntax.specs.declared.syntax.Sort.TheVariants as sort;
+ghost use Rattle.p414_syntax.specs.Names.{names_in};
 ghost use Rattle.p414_sem.specs.Operations.{in_order};
 ghost use Rattle.p414_signature.specs.internal.Gathered.{counted_table, counting_tables, counting_name, counting_names, AreObjects, direct_in, number_in};
 
 use name_numbers::{Numbering, narrow, number_names};
 use p4x_bits::OutOfMemory;
-use p414_ast::Decl;
+use p414_syntax::Decl;
 use std::alloc::Global;
 
 /// The stateful objects by number; and of the counters that count the entries of tables their tables, by number, and
 /// their names.
-#[derive(Drop)]
 pub struct Objects<'a> {
     numbers: Numbering<'a>,
     tables: Numbering<'a>,
     counters: Vec<&'a [u8]>,
+}
+
+impl Drop for Objects<'_> {
+    fn drop(self) {
+        let Objects {
+            numbers: _numbers,
+            tables: _tables,
+            counters: _counters,
+        } = self;
+    }
 }
 
 /// Puts the table last whose entries a declaration counts, if it does.

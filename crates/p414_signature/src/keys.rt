@@ -5,9 +5,9 @@ ghost use Rattle.p414_sem.specs.Slots.{bits_of_ref};
 
 use match_core::{KeyKind, KeySpec};
 use p4x_bits::{OutOfMemory, Rows};
-use p414_ast::{Read, ReadKey, Ref};
 use p414_names::Names14;
 use p414_parameter_widths::bits_of_ref;
+use p414_syntax::{Read, ReadKey, Ref};
 use std::alloc::Global;
 
 const TERNARY: &[u8] = b"ternary";

@@ -1,14 +1,14 @@
 // The stateful objects of a signature.
 ghost use Rattle.std.specs.Prelude.{◌≡◌, map, IfOk};
-ghost use Rattle.p414_ast.specs.References.{referred};
+ghost use Rattle.p414_syntax.specs.References.{referred};
 ghost use Rattle.p414_sem.specs.Signatures.{object_sig};
 ghost use Rattle.p414_signature.specs.internal.Gathered.{named_shape};
 
 use crate::shapes::shape_in;
 use match_core::ObjectSig;
 use p4x_bits::{OutOfMemory, Rows, Text};
-use p414_ast::Sort;
 use p414_names::Names14;
+use p414_syntax::Sort;
 use state_store::Shape;
 use std::alloc::Global;
 

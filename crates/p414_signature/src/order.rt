@@ -1,13 +1,13 @@
 // Names in the order of their octets.
 ghost use Rattle.std.specs.Prelude.{◌≡◌, map, option_to_list, IfOk, OnOk};
-ghost use Rattle.p414_ast.specs.References.{referred};
-ghost use Rattle.p414_ast.specs.declared.syntax.Sort.TheVariants as sort;
-ghost use Rattle.p414_rules.specs.Names.{name_in, names_in};
+ghost use Rattle.p414_syntax.specs.References.{referred};
+ghost use Rattle.p414_syntax.specs.declared.syntax.Sort.TheVariants as sort;
+ghost use Rattle.p414_syntax.specs.Names.{name_in, names_in};
 ghost use Rattle.p414_sem.specs.Operations.{in_order};
 ghost use Rattle.p414_signature.specs.internal.Gathered.{put_all, put_in_order};
 
 use p4x_bits::{OutOfMemory, Text};
-use p414_ast::Decl;
+use p414_syntax::Decl;
 use std::alloc::Global;
 use std::collections::BTreeSet;
 

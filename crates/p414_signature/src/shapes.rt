@@ -2,13 +2,13 @@
 ghost use Rattle.std.specs.Prelude.{◌≡◌, None, IfOk};
 ghost use Rattle.std.specs.Option.{option_map_or};
 ghost use Rattle.state_store.specs.declared.shapes.Shape.TheVariants as shape;
-ghost use Rattle.p414_ast.specs.Attributes.{direct_table_of, width_of};
-ghost use Rattle.p414_rules.specs.Cells.{literal_value};
+ghost use Rattle.p414_syntax.specs.Attributes.{direct_table_of, width_of};
+ghost use Rattle.p414_syntax.specs.Cells.{literal_value};
 ghost use Rattle.p414_sem.specs.Signatures.{cells_of, counter_shape, kind_of, shape_in};
 
 use crate::keys::narrow_width;
 use p4x_bits::OutOfMemory;
-use p414_ast::{CounterType, Decl, Literal, Stateful};
+use p414_syntax::{CounterType, Decl, Literal, Stateful};
 use state_store::{Kind, Shape};
 
 /// The number behind an attribute; 0 where it doesn't stand.

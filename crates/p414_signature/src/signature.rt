@@ -1,10 +1,10 @@
 // The signature of a program.
 ghost use Rattle.std.specs.Prelude.{◌≡◌, map, IfOk};
-ghost use Rattle.p414_ast.specs.References.{referred};
-ghost use Rattle.p414_ast.specs.declared.syntax.Sort.TheVariants as sort;
+ghost use Rattle.p414_syntax.specs.References.{referred};
+ghost use Rattle.p414_syntax.specs.declared.syntax.Sort.TheVariants as sort;
 ghost use Rattle.p414_parameter_widths.specs.Widths.{AreWidths};
-ghost use Rattle.p414_rules.specs.Actions.{ActionCallsItself};
-ghost use Rattle.p414_rules.specs.Names.{names_in};
+ghost use Rattle.p414_syntax.specs.Actions.{ActionCallsItself};
+ghost use Rattle.p414_syntax.specs.Names.{names_in};
 ghost use Rattle.p414_sem.specs.Operations.{in_order};
 ghost use Rattle.p414_sem.specs.Signatures.{signature14, table_sig, tables_in_order};
 

@@ -1,6 +1,6 @@
 // The tables of a signature.
 ghost use Rattle.std.specs.Prelude.{◌≡◌, ◌^◌, ◌-◌, ◌++◌, filter_map, map, min, option_copied, option_to_list, IfOk, OnOk};
-ghost use Rattle.p414_ast.specs.References.{referred};
+ghost use Rattle.p414_syntax.specs.References.{referred};
 ghost use Rattle.p414_parameter_widths.specs.Widths.{AreWidths};
 ghost use Rattle.p414_sem.specs.Signatures.{action_sig, actions_in_order, table_of, table_sig, table_size};
 ghost use Rattle.p414_signature.specs.internal.Gathered.{AreObjects, declared_table};
@@ -10,9 +10,9 @@ use crate::keys::key_specs;
 use crate::order::in_order;
 use match_core::{ActionSig, TableSig};
 use p4x_bits::{Numbers, OutOfMemory, Rows, Text};
-use p414_ast::{Decl, Sort, Table};
 use p414_names::Names14;
 use p414_parameter_widths::widths_of_action;
+use p414_syntax::{Decl, Sort, Table};
 use std::alloc::Global;
 
 /// How many entries a table may have that gives no size.

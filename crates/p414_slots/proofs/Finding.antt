@@ -3,14 +3,14 @@ use Rattle.std.proofs.Common.{◌≡◌, ℕ, Bool, true, false, cond, List, [],
 use Rattle.std.specs.Prelude.{sum, unwrap_or}
 use Rattle.std.specs.Option.{option_map_or}
 use Rattle.std.proofs.lemmas.Option.{slice_get-map, unwrap_or-slice_get}
-use Rattle.p414_ast.specs.declared.parts.Ref.{Ref}
-use Rattle.p414_ast.specs.declared.syntax.Decl.{Decl}
-use Rattle.p414_ast.specs.declared.syntax.Sort.TheVariants as sort
-use Rattle.p414_ast.specs.Views.{HeaderTypeTree}
-use Rattle.p414_rules.specs.Names.{Name, number_of}
-use Rattle.p414_rules.specs.Expansion.{type_fields}
-use Rattle.p414_rules.specs.Fields.{types, type_of, instance_type}
-use Rattle.p414_rules.specs.Primitives.{is_standard}
+use Rattle.p414_syntax.specs.declared.parts.Ref.{Ref}
+use Rattle.p414_syntax.specs.declared.syntax.Decl.{Decl}
+use Rattle.p414_syntax.specs.declared.syntax.Sort.TheVariants as sort
+use Rattle.p414_syntax.specs.Views.{HeaderTypeTree}
+use Rattle.p414_syntax.specs.Names.{Name, number_of}
+use Rattle.p414_syntax.specs.Expansion.{type_fields}
+use Rattle.p414_syntax.specs.Fields.{types, type_of, instance_type}
+use Rattle.p414_syntax.specs.Primitives.{is_standard}
 use Rattle.p414_sem.specs.declared.standard.Standard.{Standard}
 use Rattle.p414_sem.specs.Packing.{type_widths, widths_of}
 use Rattle.p414_sem.specs.Slots.{Slot, standard, declared_slot, field_number, slot_of, standard_field}

@@ -1,16 +1,16 @@
 // The fields of header types by number.
 ghost use Rattle.std.specs.Prelude.{◌≡◌, ◌++◌, map, option_copied, option_to_list, sum, IfOk, OnOk};
-ghost use Rattle.p414_ast.specs.References.{referred};
-ghost use Rattle.p414_ast.specs.declared.syntax.Sort.TheVariants as sort;
-ghost use Rattle.p414_rules.specs.Expansion.{type_fields};
-ghost use Rattle.p414_rules.specs.Fields.{field_bits, header_type_in, type_name_in, types};
-ghost use Rattle.p414_rules.specs.Names.{field_name, name_in, names_in};
+ghost use Rattle.p414_syntax.specs.References.{referred};
+ghost use Rattle.p414_syntax.specs.declared.syntax.Sort.TheVariants as sort;
+ghost use Rattle.p414_syntax.specs.Expansion.{type_fields};
+ghost use Rattle.p414_syntax.specs.Fields.{field_bits, header_type_in, type_name_in, types};
+ghost use Rattle.p414_syntax.specs.Names.{field_name, name_in, names_in};
 ghost use Rattle.p414_slots.specs.internal.Found.{bits_together};
 
 use crate::numbers::add_bits;
 use name_numbers::{Numbering, number_names};
 use p4x_bits::{OutOfMemory, Text};
-use p414_ast::{Decl, Field, FieldWidth};
+use p414_syntax::{Decl, Field, FieldWidth};
 use std::alloc::Global;
 
 /// The names of these fields.

@@ -3,7 +3,7 @@ use p414_sem::Standard;
 
 /// A field by number (P4_14 1.0.5, "Headers and Fields", "Standard Intrinsic Metadata"). Contracts see where it stands by
 /// `slot_in`.
-#[derive(Clone, Copy, Debug, PartialEq, Eq, Drop)]
+#[derive(Clone, Copy, PartialEq, Eq, Drop)]
 pub enum FieldSlot {
     /// A field of `standard_metadata`.
     Standard(Standard),

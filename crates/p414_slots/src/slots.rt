@@ -1,8 +1,8 @@
 // Instances and fields by number.
 ghost use Rattle.std.specs.Prelude.{◌≡◌, ◌^◌, ◌≤◌, option_and_then, option_copied, sum, IfOk, OnErr};
-ghost use Rattle.p414_rules.specs.Names.{number_of};
-ghost use Rattle.p414_ast.specs.declared.syntax.Sort.TheVariants as sort;
-ghost use Rattle.p414_rules.specs.ParserGraph.{instance_number};
+ghost use Rattle.p414_syntax.specs.Names.{number_of};
+ghost use Rattle.p414_syntax.specs.declared.syntax.Sort.TheVariants as sort;
+ghost use Rattle.p414_syntax.specs.ParserGraph.{instance_number};
 ghost use Rattle.p414_sem.specs.Slots.{bits_of_ref, declared_slot, element_number, field_number, slot_of, standard_field};
 ghost use Rattle.p414_sem.specs.Packing.{widths_of};
 ghost use Rattle.p414_sem.specs.Parsing.{field_named};
@@ -14,9 +14,9 @@ use crate::numbers::{narrow_number, narrow_width};
 use crate::slot::FieldSlot;
 use name_numbers::{Numbering, number_names};
 use p4x_bits::{OutOfMemory, Text};
-use p414_ast::{Index, Inst, Ref, Sort};
 use p414_names::{Names14, is_standard};
 use p414_sem::Standard;
+use p414_syntax::{Index, Inst, Ref, Sort};
 use std::alloc::Global;
 use std::marker::Model;
 
@@ -31,7 +31,6 @@ const PACKET_LENGTH: &[u8] = b"packet_length";
 const INSTANCE_TYPE: &[u8] = b"instance_type";
 
 /// The instances and fields of a program by number. Contracts see the declarations of the program.
-#[derive(Drop)]
 pub struct Slots<'n, 'a> {
     names: &'n Names14<'a>,
     fields: Vec<Numbering<'a>>,
@@ -39,11 +38,22 @@ pub struct Slots<'n, 'a> {
     instances: Numbering<'a>,
 }
 
+impl Drop for Slots<'_, '_> {
+    fn drop(self) {
+        let Slots {
+            names: _names,
+            fields: _fields,
+            bits: _bits,
+            instances: _instances,
+        } = self;
+    }
+}
+
 impl<'n, 'a> Model for Slots<'n, 'a> {
     ghost use Rattle.std.specs.Prelude.{List};
     ghost use Rattle.std.specs.Coded.{codes};
-    ghost use Rattle.p414_ast.specs.declared.syntax.Decl.{Decl};
-    ghost use Rattle.p414_ast.specs.contracts.syntax.Decl as declaration;
+    ghost use Rattle.p414_syntax.specs.declared.syntax.Decl.{Decl};
+    ghost use Rattle.p414_syntax.specs.contracts.syntax.Decl as declaration;
     ghost use Rattle.p414_slots.specs.internal.Found.{AreFound};
 
     ghost Value = { List Decl };

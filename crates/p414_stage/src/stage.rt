@@ -1,12 +1,12 @@
 // Which stage a program is of.
 ghost use Rattle.std.specs.Prelude.{◌≡◌, map};
 ghost use Rattle.std.specs.List.{list_any};
-ghost use Rattle.p414_ast.specs.References.{referred};
+ghost use Rattle.p414_syntax.specs.References.{referred};
 ghost use Rattle.p414_sem.specs.Stages.{is_call_of, calls_in_decl, calls_some, keeps_something, stage_of, stage_without_items, making_items, hashing};
 
-use p414_ast::{Call, Decl};
 use p414_names::is_among;
 use p414_sem::Stage14;
+use p414_syntax::{Call, Decl};
 
 const MAKING_ITEMS: [&[u8]; 6] = [
     b"resubmit",

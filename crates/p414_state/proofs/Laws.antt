@@ -4,12 +4,12 @@ use Rattle.std.specs.Prelude.{option_and_then, unwrap_or}
 use Rattle.std.specs.Option.{option_map_or}
 use Rattle.std.proofs.lemmas.Bool.{cases_lt}
 use Rattle.std.proofs.lemmas.List.{set_past}
-use Rattle.p414_ast.specs.declared.syntax.Decl.{Decl}
-use Rattle.p414_ast.specs.declared.syntax.Decl.TheVariants as decl
-use Rattle.p414_ast.specs.declared.syntax.Sort.TheVariants as sort
-use Rattle.p414_rules.specs.Names.{Name, number_of, numbered, names_in}
-use Rattle.p414_rules.specs.Fields.{is_header, is_header_in}
-use Rattle.p414_rules.specs.ParserGraph.{instance_number}
+use Rattle.p414_syntax.specs.declared.syntax.Decl.{Decl}
+use Rattle.p414_syntax.specs.declared.syntax.Decl.TheVariants as decl
+use Rattle.p414_syntax.specs.declared.syntax.Sort.TheVariants as sort
+use Rattle.p414_syntax.specs.Names.{Name, number_of, numbered, names_in}
+use Rattle.p414_syntax.specs.Fields.{is_header, is_header_in}
+use Rattle.p414_syntax.specs.ParserGraph.{instance_number}
 use Rattle.p414_sem.specs.State.{Header, no_header, header_at, elements_at, with_header, with_elements, blank, cleared}
 use Rattle.p414_sem.specs.Fitting.{FitsHeader, FitWidths}
 use Rattle.p414_layout.specs.declared.shape.Shape.{Shape}

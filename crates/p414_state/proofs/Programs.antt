@@ -2,14 +2,14 @@
 use Rattle.std.proofs.Common.{◌≡◌, ℕ, ◌%◌, ◌^◌, Bool, true, false, List, [], ◌∷◌, length, map, None, Result, Ok, Err, refl, ap, ap₂, ◌∙◌}
 use Rattle.std.specs.Prelude.{IfOk}
 use Rattle.std.specs.Bool.{IsTrue}
-use Rattle.p414_ast.specs.declared.syntax.Decl.{Decl}
-use Rattle.p414_ast.specs.declared.syntax.Decl.TheVariants as decl
-use Rattle.p414_ast.specs.declared.syntax.Sort.TheVariants as sort
-use Rattle.p414_ast.specs.declared.syntax.Syntax14.{Syntax14}
-use Rattle.p414_rules.specs.Names.{declared_in}
-use Rattle.p414_rules.specs.Breaks.{IsBroken}
-use Rattle.p414_rules.specs.Twice.{declares_twice}
-use Rattle.p414_rules.specs.Widths.{has_bad_width}
+use Rattle.p414_syntax.specs.declared.syntax.Decl.{Decl}
+use Rattle.p414_syntax.specs.declared.syntax.Decl.TheVariants as decl
+use Rattle.p414_syntax.specs.declared.syntax.Sort.TheVariants as sort
+use Rattle.p414_syntax.specs.declared.syntax.Syntax14.{Syntax14}
+use Rattle.p414_syntax.specs.Names.{declared_in}
+use Rattle.p414_syntax.specs.Breaks.{IsBroken}
+use Rattle.p414_syntax.specs.Twice.{declares_twice}
+use Rattle.p414_syntax.specs.Widths.{has_bad_width}
 use Rattle.p414_body_check.specs.Answers.{IsAccepted}
 use Rattle.p414_sem.specs.State.{Instance, new_state}
 use Rattle.p414_sem.specs.Parsing.{begun_instance, begun_instances}

@@ -17,11 +17,20 @@ use std::marker::Model;
 
 /// A header, a header stack or metadata: its elements, and the place of the next one that is extracted. Contracts see what
 /// it is made of, and what it means.
-#[derive(Drop)]
 pub struct InstanceCells {
     shape: Shape,
     elements: Vec<PackedHeader>,
     place: u32,
+}
+
+impl Drop for InstanceCells {
+    fn drop(self) {
+        let InstanceCells {
+            shape: _shape,
+            elements: _elements,
+            place: _place,
+        } = self;
+    }
 }
 
 impl Model for InstanceCells {

@@ -6,7 +6,7 @@ use fabric::RequestKind;
 use p414_sem::Request14;
 
 /// The last request of each kind.
-#[derive(Clone, Copy, Debug, Drop)]
+#[derive(Clone, Copy, Drop)]
 pub struct Requests {
     pub clone_i2e: Option<Request14>,
     pub clone_e2e: Option<Request14>,

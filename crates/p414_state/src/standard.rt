@@ -6,7 +6,7 @@ ghost use Rattle.p414_state.specs.internal.Parts.{standard_in, with_standard_in,
 use p414_sem::Standard;
 
 /// The fields of `standard_metadata` (P4_14 1.0.5, "Standard Intrinsic Metadata").
-#[derive(Clone, Copy, Debug, Drop)]
+#[derive(Clone, Copy, Drop)]
 pub struct StandardFields {
     pub ingress_port: u32,
     pub egress_spec: u32,

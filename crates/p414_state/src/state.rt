@@ -31,7 +31,6 @@ use std::marker::Model;
 /// Instances and fields are named by their numbers in the order of declaration, and an element by its index, which is 0
 /// where there is no stack. Metadata is always valid, and the fields of an invalid header are 0. What isn't there is invalid,
 /// reads 0 and gets nothing. What takes no memory says so; after want of memory a state is as it was.
-#[derive(Drop)]
 pub struct State14 {
     instances: Vec<InstanceCells>,
     octets: Vec<u8>,
@@ -39,6 +38,19 @@ pub struct State14 {
     standard: StandardFields,
     requests: Requests,
     events: Vec<Event>,
+}
+
+impl Drop for State14 {
+    fn drop(self) {
+        let State14 {
+            instances: _instances,
+            octets: _octets,
+            parsed: _parsed,
+            standard: _standard,
+            requests: _requests,
+            events: _events,
+        } = self;
+    }
 }
 
 impl Model for State14 {

@@ -19,8 +19,8 @@ use Rattle.token_division.specs.Division.{first_after}
 use Rattle.token_division.specs.Trivia.{IsFirstOnLine, EndsLine}
 use Rattle.token_division.proofs.LineStarts.{opens, opens_blank, opens_not, opens_not_behind_comment, is_first_on_line}
 use Rattle.token_division.proofs.Comments.{run_passes, begins_in, line_holds, line_ends, IsComment, comment_taken}
-use Rattle.p414_lexemes.specs.declared.mark.Mark.{Mark}
-use Rattle.p414_lexemes.specs.Marks.{mark_text, all_marks}
+use Rattle.p414_syntax.specs.declared.mark.Mark.{Mark}
+use Rattle.p414_syntax.specs.Marks.{mark_text, all_marks}
 use Rattle.p414_tok.specs.declared.kind.TokenKind14.{TokenKind14}
 use Rattle.p414_tok.specs.declared.front.Head.{Head}
 use Rattle.p414_tok.specs.declared.front.Head.TheVariants as head

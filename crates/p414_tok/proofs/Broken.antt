@@ -15,9 +15,9 @@ use Rattle.token_division.specs.Trivia.{IsFirstOnLine}
 use Rattle.token_division.proofs.Numbers.{is_literal}
 use Rattle.token_division.proofs.LineStarts.{opens, is_first_on_line, not_first_on_line}
 use Rattle.token_division.proofs.Comments.{begins_as, IsNoComment, comment_refused}
-use Rattle.p414_lexemes.specs.declared.mark.Mark.{Mark}
-use Rattle.p414_lexemes.specs.Marks.{mark_text, all_marks}
-use Rattle.p414_lexemes.proofs.AllMarks.{of_all_marks}
+use Rattle.p414_syntax.specs.declared.mark.Mark.{Mark}
+use Rattle.p414_syntax.specs.Marks.{mark_text, all_marks}
+use Rattle.p414_syntax.proofs.AllMarks.{of_all_marks}
 use Rattle.p414_tok.specs.declared.front.Head.{Head}
 use Rattle.p414_tok.specs.declared.front.Head.TheVariants as head
 use Rattle.p414_tok.specs.Lines.{marker_size, pragma_size, is_pragma}

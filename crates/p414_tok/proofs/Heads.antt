@@ -9,9 +9,9 @@ use Rattle.token_division.specs.declared.literals.Base.{Base}
 use Rattle.token_division.specs.declared.literals.Base.TheVariants.{Binary, Decimal, Hexadecimal}
 use Rattle.token_division.specs.Octets.{is_blank, is_letter, is_decimal, is_word, is_line_feed, is_on_line}
 use Rattle.token_division.specs.Literals.{IsBasePrefix, IsLiteral, is_digit_or_gap}
-use Rattle.p414_lexemes.specs.declared.mark.Mark.{Mark}
-use Rattle.p414_lexemes.specs.Marks.{mark_text, all_marks}
-use Rattle.p414_lexemes.proofs.AllMarks.{of_all_marks}
+use Rattle.p414_syntax.specs.declared.mark.Mark.{Mark}
+use Rattle.p414_syntax.specs.Marks.{mark_text, all_marks}
+use Rattle.p414_syntax.proofs.AllMarks.{of_all_marks}
 use Rattle.p414_tok.specs.declared.kind.TokenKind14.{TokenKind14}
 use Rattle.p414_tok.specs.declared.kind.TokenKind14.TheVariants as kind
 use Rattle.p414_tok.specs.declared.front.Head.{Head}

@@ -10,9 +10,9 @@ use Rattle.token_division.specs.declared.division.What.{What}
 use Rattle.token_division.specs.declared.division.What.TheVariants as what
 use Rattle.token_division.specs.Division.{divided, division, behind, token_of, first_after, place_after}
 use Rattle.token_division.proofs.Steps.{one_piece, behind_nothing}
-use Rattle.p414_lexemes.specs.declared.lexeme.Lexeme.{Lexeme}
-use Rattle.p414_lexemes.specs.declared.lexeme.Lexeme.TheVariants as lexeme
-use Rattle.p414_lexemes.specs.Spelt.{is_spelt_lexeme}
+use Rattle.p414_syntax.specs.declared.lexeme.Lexeme.{Lexeme}
+use Rattle.p414_syntax.specs.declared.lexeme.Lexeme.TheVariants as lexeme
+use Rattle.p414_syntax.specs.SpeltLexemes.{is_spelt_lexeme}
 use Rattle.p414_tok.specs.declared.kind.TokenKind14.{TokenKind14}
 use Rattle.p414_tok.specs.Front.{front}
 use Rattle.p414_tok.specs.Lexemes.{lexeme_as, lexeme_in, lexemes}

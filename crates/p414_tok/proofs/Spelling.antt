@@ -21,10 +21,10 @@ use Rattle.token_division.specs.Layout.{IsPieceOf}
 use Rattle.token_division.proofs.Places.{take-add}
 use Rattle.token_division.proofs.Numbers.{is_literal}
 use Rattle.token_division.proofs.Marks.{mark_begins, mark_longest}
-use Rattle.p414_lexemes.specs.declared.mark.Mark.{Mark}
-use Rattle.p414_lexemes.specs.Marks.{mark_text, all_marks}
-use Rattle.p414_lexemes.specs.Spelt.{is_identifier}
-use Rattle.p414_lexemes.proofs.AllMarks.{of_all_marks}
+use Rattle.p414_syntax.specs.declared.mark.Mark.{Mark}
+use Rattle.p414_syntax.specs.Marks.{mark_text, all_marks}
+use Rattle.p414_syntax.specs.SpeltLexemes.{is_identifier}
+use Rattle.p414_syntax.proofs.AllMarks.{of_all_marks}
 use Rattle.p414_tok.specs.declared.kind.TokenKind14.{TokenKind14}
 use Rattle.p414_tok.specs.declared.kind.TokenKind14.TheVariants as kind
 use Rattle.p414_tok.specs.declared.front.Head.{Head}

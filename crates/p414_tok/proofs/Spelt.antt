@@ -8,7 +8,7 @@ use Rattle.std.proofs.lemmas.Bool.{and_from}
 use Rattle.std.proofs.lemmas.Bool.Decides.{nat_tests}
 use Rattle.token_division.specs.declared.division.Token.{Token}
 use Rattle.token_division.specs.Division.{division}
-use Rattle.p414_lexemes.specs.Spelt.{fits_in, is_spelt_lexeme}
+use Rattle.p414_syntax.specs.SpeltLexemes.{fits_in, is_spelt_lexeme}
 use Rattle.p414_tok.specs.declared.kind.TokenKind14.{TokenKind14}
 use Rattle.p414_tok.specs.declared.kind.TokenKind14.TheVariants as kind
 use Rattle.p414_tok.specs.Front.{front}

@@ -16,12 +16,12 @@ use Rattle.token_division.specs.declared.literals.Base.{Base}
 use Rattle.token_division.specs.declared.literals.Base.TheVariants.{Binary, Decimal, Hexadecimal}
 use Rattle.token_division.specs.Octets.{is_blank, is_letter, is_decimal, is_word}
 use Rattle.token_division.specs.Literals.{with_digit, value_of, digit_value, is_digit, is_digit_or_gap, has_base_prefix, base_of, base_prefix_size, digits_of, literal_value, literal_size, largest}
-use Rattle.p414_lexemes.specs.declared.mark.Mark.{Mark}
-use Rattle.p414_lexemes.specs.declared.mark.Mark.TheVariants as mark
-use Rattle.p414_lexemes.specs.declared.lexeme.Lexeme.{Lexeme}
-use Rattle.p414_lexemes.specs.declared.lexeme.Lexeme.TheVariants as lexeme
-use Rattle.p414_lexemes.specs.Marks.{mark_text}
-use Rattle.p414_lexemes.specs.Spelt.{is_identifier, fits_in, is_spelt_lexeme}
+use Rattle.p414_syntax.specs.declared.mark.Mark.{Mark}
+use Rattle.p414_syntax.specs.declared.mark.Mark.TheVariants as mark
+use Rattle.p414_syntax.specs.declared.lexeme.Lexeme.{Lexeme}
+use Rattle.p414_syntax.specs.declared.lexeme.Lexeme.TheVariants as lexeme
+use Rattle.p414_syntax.specs.Marks.{mark_text}
+use Rattle.p414_syntax.specs.SpeltLexemes.{is_identifier, fits_in, is_spelt_lexeme}
 use Rattle.p414_tok.specs.declared.kind.TokenKind14.{TokenKind14}
 use Rattle.p414_tok.specs.declared.kind.TokenKind14.TheVariants as kind
 use Rattle.p414_tok.specs.declared.front.Head.{Head}

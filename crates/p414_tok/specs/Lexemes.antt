@@ -1,7 +1,7 @@
 -- The tokens of a text without their places, each read where it lies.
 use Rattle.std.specs.Prelude.{ℕ, ◌-◌, List, map, take, drop}
-use Rattle.p414_lexemes.specs.declared.lexeme.Lexeme.{Lexeme}
-use Rattle.p414_lexemes.specs.declared.lexeme.Lexeme.TheVariants as lexeme
+use Rattle.p414_syntax.specs.declared.lexeme.Lexeme.{Lexeme}
+use Rattle.p414_syntax.specs.declared.lexeme.Lexeme.TheVariants as lexeme
 use Rattle.token_division.specs.declared.division.Token.{Token}
 use Rattle.p414_tok.specs.declared.kind.TokenKind14.{TokenKind14}
 use Rattle.p414_tok.specs.declared.kind.TokenKind14.TheVariants as kind

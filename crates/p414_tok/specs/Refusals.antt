@@ -13,8 +13,8 @@ use Rattle.token_division.specs.Pieces.{begins}
 use Rattle.token_division.specs.Literals.{IsLiteral, value_of, largest}
 use Rattle.token_division.specs.Division.{place_after}
 use Rattle.token_division.specs.Trivia.{IsFirstOnLine, BeginsOpenComment, HasTriviaBetween}
-use Rattle.p414_lexemes.specs.declared.mark.Mark.{Mark}
-use Rattle.p414_lexemes.specs.Marks.{mark_text}
+use Rattle.p414_syntax.specs.declared.mark.Mark.{Mark}
+use Rattle.p414_syntax.specs.Marks.{mark_text}
 use Rattle.p414_tok.specs.declared.kind.TokenKind14.{TokenKind14}
 use Rattle.p414_tok.specs.Lines.{is_not_quote, first_line}
 use Rattle.p414_tok.specs.Trivia.{IsMarkerStart, IsLineMarker, IsTrivia}

@@ -6,9 +6,9 @@ use Rattle.token_division.specs.declared.literals.Base.TheVariants.{Decimal}
 use Rattle.token_division.specs.Octets.{is_decimal, is_word}
 use Rattle.token_division.specs.Literals.{IsLiteral, value_of, largest}
 use Rattle.token_division.specs.Pieces.{begins}
-use Rattle.p414_lexemes.specs.declared.mark.Mark.{Mark}
-use Rattle.p414_lexemes.specs.Marks.{mark_text}
-use Rattle.p414_lexemes.specs.Spelt.{is_identifier}
+use Rattle.p414_syntax.specs.declared.mark.Mark.{Mark}
+use Rattle.p414_syntax.specs.Marks.{mark_text}
+use Rattle.p414_syntax.specs.SpeltLexemes.{is_identifier}
 use Rattle.p414_tok.specs.declared.kind.TokenKind14.{TokenKind14}
 use Rattle.p414_tok.specs.declared.kind.TokenKind14.TheVariants as kind
 

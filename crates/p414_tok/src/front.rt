@@ -8,7 +8,7 @@ use crate::TokenKind14;
 use crate::lines::{marker_size, pragma_size};
 use crate::numbers::number;
 use p4x_fault::Rule;
-use p414_lexemes::Mark;
+use p414_syntax::Mark;
 use token_division::octets::{is_blank, is_decimal, is_letter, word_size};
 use token_division::{Piece, What, comment_size, mark_at};
 

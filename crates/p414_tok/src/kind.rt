@@ -1,9 +1,9 @@
 // The token classes.
-use p414_lexemes::{Literal, Mark};
+use p414_syntax::{Literal, Mark};
 use token_division::Token;
 
 /// The token class of a P4_14 token. The octets of its span tell a name from another.
-#[derive(Clone, Copy, Debug, PartialEq, Eq)]
+#[derive(Clone, Copy, PartialEq, Eq)]
 pub enum TokenKind14 {
     /// A letter or `_`, and letters, digits and `_` behind it. No word is reserved.
     Name,

@@ -4,7 +4,7 @@ ghost use Rattle.std.specs.List.{list_all};
 ghost use Rattle.token_division.specs.Division.{IsDivision};
 ghost use Rattle.token_division.specs.Layout.{IsLaidOut};
 ghost use Rattle.token_division.specs.Trivia.{IsTokensAndTrivia};
-ghost use Rattle.p414_lexemes.specs.Spelt.{is_spelt_lexeme};
+ghost use Rattle.p414_syntax.specs.SpeltLexemes.{is_spelt_lexeme};
 ghost use Rattle.p414_tok.specs.Front as pieces;
 ghost use Rattle.p414_tok.specs.Lexemes.{lexemes};
 ghost use Rattle.p414_tok.specs.Spelled.{IsSpelled};
@@ -37,7 +37,7 @@ impl Lexicon for P414 {
 ///
 /// The text is divided from the left into trivia (blanks, comments, line markers and pragma lines) and
 /// tokens, the longest mark first: it is its tokens, and before, between and behind them trivia and nothing
-/// else. Each name is an identifier and each number fits its width (`is_spelt_lexeme` of p414_lexemes).
+/// else. Each name is an identifier and each number fits its width (`is_spelt_lexeme` of p414_syntax).
 /// Where no piece can follow, the text is refused with the rule that it breaks and the place where the piece
 /// would begin: L1 for an octet that begins none, L2 for a comment or the name
 /// of a line marker that isn't closed, L3 for a number over 2^128 - 1 or a width outside 1 to 128, L4 for

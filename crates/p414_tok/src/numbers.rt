@@ -6,7 +6,7 @@ ghost use Rattle.p414_tok.specs.Front as front;
 
 use crate::TokenKind14;
 use p4x_fault::Rule;
-use p414_lexemes::Literal;
+use p414_syntax::Literal;
 use token_division::octets::{decimal_size, is_decimal};
 use token_division::{Piece, What};
 

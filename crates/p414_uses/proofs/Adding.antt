@@ -7,9 +7,9 @@ use Rattle.std.specs.Str.{bytes_eq}
 use Rattle.std.specs.Bool.{Decides}
 use Rattle.std.proofs.lemmas.Slice.Eq.{bytes_eq-Decides}
 use Rattle.std.proofs.lemmas.List.Folds.{list_any-append}
-use Rattle.p414_ast.specs.declared.actions.Call.{Call}
-use Rattle.p414_rules.specs.Names.{Name, has_name}
-use Rattle.p414_rules.specs.Uses.{Use, uses_of_call}
+use Rattle.p414_syntax.specs.declared.actions.Call.{Call}
+use Rattle.p414_syntax.specs.Names.{Name, has_name}
+use Rattle.p414_syntax.specs.Uses.{Use, uses_of_call}
 use Rattle.p414_uses.specs.declared.uses.Use as kept
 use Rattle.p414_uses.specs.internal.Collected.{Adds}
 

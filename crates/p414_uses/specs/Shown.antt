@@ -1,6 +1,6 @@
 -- How the uses that the code collects are seen.
 use Rattle.std.specs.Prelude.{option_copied}
-use Rattle.p414_rules.specs.Uses as uses
+use Rattle.p414_syntax.specs.Uses as uses
 use Rattle.p414_uses.specs.declared.uses.Use.{Use}
 use Rattle.p414_uses.specs.declared.uses.Use.TheVariants as use_of
 

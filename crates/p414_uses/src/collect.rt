@@ -2,8 +2,8 @@
 ghost use Rattle.std.specs.Prelude.{◌≡◌, [], ◌∷◌, ◌++◌, map, option_copied, option_to_list, OnOk, IfOk};
 ghost use Rattle.std.specs.List.{flat_map};
 ghost use Rattle.p414_uses.specs.internal.Collected.{Adds};
-ghost use Rattle.p414_ast.specs.declared.syntax.Decl.TheVariants as decl;
-ghost use Rattle.p414_rules.specs.Uses.{uses_of, uses};
+ghost use Rattle.p414_syntax.specs.declared.syntax.Decl.TheVariants as decl;
+ghost use Rattle.p414_syntax.specs.Uses.{uses_of, uses};
 ghost use Rattle.p414_uses.specs.Shown.{shown_use};
 
 mod actions;
@@ -21,7 +21,7 @@ pub use crate::collect::parsers::last_extracted;
 use crate::collect::tables::{add_meter, add_object, add_table};
 use crate::uses::{Use, add};
 use p4x_bits::OutOfMemory;
-use p414_ast::{Decl, Metadata, Sort};
+use p414_syntax::{Decl, Metadata, Sort};
 use std::alloc::Global;
 
 /// Adds the uses in a metadata instance.

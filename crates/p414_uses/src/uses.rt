@@ -4,7 +4,7 @@ ghost use Rattle.p414_uses.specs.Shown.{shown_use};
 ghost use Rattle.p414_uses.specs.internal.Collected.{Adds};
 
 use p4x_bits::{OutOfMemory, Text};
-use p414_ast::{Inst, Ref, Sort};
+use p414_syntax::{Inst, Ref, Sort};
 
 /// A use of a name, by what is wanted.
 #[derive(Clone, Copy, Drop)]

@@ -5,18 +5,18 @@ use Rattle.std.specs.Bool.{MatchBool}
 use Rattle.digraph.specs.Expansions.{HasCycle}
 use Rattle.name_numbers.specs.Names.{find_name}
 use Rattle.name_cycles.specs.Named.{NamedNode, called_of, next_of, named_graph}
-use Rattle.p416_ast.specs.declared.controls.Action16.{Action16}
-use Rattle.p416_ast.specs.declared.controls.Control16.{Control16}
-use Rattle.p416_ast.specs.declared.controls.Local.{Local}
-use Rattle.p416_ast.specs.declared.controls.Local.TheVariants as local
-use Rattle.p416_ast.specs.declared.program.Decl16.{Decl16}
-use Rattle.p416_rules.specs.Exact.{IsExact}
-use Rattle.p416_rules.specs.Names.{Name}
-use Rattle.p416_rules.specs.Scopes.{Scope}
-use Rattle.p416_rules.specs.Declarations.{action_in, actions_in, action_uses, control_scope, top_scope}
-use Rattle.p416_rules.specs.Applications.{action_name_of, called_action, calls_of, call_graph}
-use Rattle.p416_rules.specs.Main.{positions_from}
-use Rattle.p416_rules.specs.Breaks.{SomeDeclaration}
+use Rattle.p416_syntax.specs.declared.controls.Action16.{Action16}
+use Rattle.p416_syntax.specs.declared.controls.Control16.{Control16}
+use Rattle.p416_syntax.specs.declared.controls.Local.{Local}
+use Rattle.p416_syntax.specs.declared.controls.Local.TheVariants as local
+use Rattle.p416_syntax.specs.declared.program.Decl16.{Decl16}
+use Rattle.p416_syntax.specs.Exact.{IsExact}
+use Rattle.p416_syntax.specs.Names.{Name}
+use Rattle.p416_syntax.specs.Scopes.{Scope}
+use Rattle.p416_syntax.specs.Declarations.{action_in, actions_in, action_uses, control_scope, top_scope}
+use Rattle.p416_syntax.specs.Applications.{action_name_of, called_action, calls_of, call_graph}
+use Rattle.p416_syntax.specs.Main.{positions_from}
+use Rattle.p416_syntax.specs.Breaks.{SomeDeclaration}
 use Rattle.p416_expression_uses.specs.Found.{Found, nothing_found, after_all}
 use Rattle.p416_expression_uses.proofs.Finding.{called_found}
 use Rattle.p416_action_check.specs.internal.Nodes.{action_node}

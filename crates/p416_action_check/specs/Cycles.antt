@@ -1,12 +1,12 @@
 -- Actions that call themselves, in some declaration of a program whose names at the top and in `main` are these.
 use Rattle.std.specs.Prelude.{List}
-use Rattle.p416_ast.specs.declared.program.Decl16.{Decl16}
-use Rattle.p416_rules.specs.Names.{Name}
-use Rattle.p416_rules.specs.Scopes.{Scope}
-use Rattle.p416_rules.specs.Declarations.{top_scope}
-use Rattle.p416_rules.specs.Unknown.{declared_name}
-use Rattle.p416_rules.specs.Main.{positions_from}
-use Rattle.p416_rules.specs.Breaks.{SomeDeclaration, HasCallCycle}
+use Rattle.p416_syntax.specs.declared.program.Decl16.{Decl16}
+use Rattle.p416_syntax.specs.Names.{Name}
+use Rattle.p416_syntax.specs.Scopes.{Scope}
+use Rattle.p416_syntax.specs.Declarations.{top_scope}
+use Rattle.p416_syntax.specs.Unknown.{declared_name}
+use Rattle.p416_syntax.specs.Main.{positions_from}
+use Rattle.p416_syntax.specs.Breaks.{SomeDeclaration, HasCallCycle}
 
 -- the scope of a declaration at the top
 abbrev pub scope_in : List Decl16 → List Name → Decl16 → Scope

@@ -1,20 +1,20 @@
 // Whether an action calls itself (P4_16 1.2, "Actions").
 ghost use Rattle.std.specs.Prelude.{◌≡◌, IfOk};
 ghost use Rattle.digraph.specs.Expansions.{HasCycle};
-ghost use Rattle.p416_rules.specs.Exact.{IsExact};
-ghost use Rattle.p416_rules.specs.Declarations.{top_scope};
-ghost use Rattle.p416_rules.specs.Applications.{call_graph};
-ghost use Rattle.p416_rules.specs.Main.{positions_from};
-ghost use Rattle.p416_rules.specs.Breaks.{SomeDeclaration};
+ghost use Rattle.p416_syntax.specs.Exact.{IsExact};
+ghost use Rattle.p416_syntax.specs.Declarations.{top_scope};
+ghost use Rattle.p416_syntax.specs.Applications.{call_graph};
+ghost use Rattle.p416_syntax.specs.Main.{positions_from};
+ghost use Rattle.p416_syntax.specs.Breaks.{SomeDeclaration};
 ghost use Rattle.p416_action_check.specs.Cycles.{CallsItself, SomeCallsItself};
 
 use crate::nodes::action_nodes;
 use name_cycles::lead_back;
 use p4x_bits::OutOfMemory;
-use p416_ast::{Control16, Decl16};
 use p416_main_check::MainPlaces;
 use p416_names::Top;
 use p416_scopes::Scope;
+use p416_syntax::{Control16, Decl16};
 use std::alloc::Global;
 
 /// Whether an action of a control calls itself.

@@ -1,16 +1,16 @@
 // The actions of a control with the actions that they call (P4_16 1.2, "Actions").
 ghost use Rattle.std.specs.Prelude.{◌≡◌, filter_map, map, IfOk, OnOk};
-ghost use Rattle.p416_rules.specs.Scopes.{in_apply};
-ghost use Rattle.p416_rules.specs.Declarations.{action_in, action_uses};
+ghost use Rattle.p416_syntax.specs.Scopes.{in_apply};
+ghost use Rattle.p416_syntax.specs.Declarations.{action_in, action_uses};
 ghost use Rattle.p416_expression_uses.specs.Found.{nothing_found, after_all};
 ghost use Rattle.p416_scopes.specs.Seen.{seen_part, seen_scope};
 ghost use Rattle.p416_action_check.specs.internal.Nodes.{action_node};
 
 use name_cycles::NameNode;
 use p4x_bits::OutOfMemory;
-use p416_ast::{Action16, Local};
 use p416_expression_uses::Findings;
 use p416_scopes::Scope;
+use p416_syntax::{Action16, Local};
 use p416_uses::see_action;
 use std::alloc::Global;
 

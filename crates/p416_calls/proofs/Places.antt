@@ -1,8 +1,8 @@
 -- The place with a number.
 use Rattle.std.proofs.Common.{◌≡◌, ℕ, zero, suc, Option, Some, None, List, [], ◌∷◌, map, get_or, slice_get, refl, ap}
-use Rattle.p416_ast.specs.declared.parts.Param.{Param}
-use Rattle.p416_rules.specs.Scopes.{Known, handed}
-use Rattle.p416_rules.specs.Calls as rules
+use Rattle.p416_syntax.specs.declared.parts.Param.{Param}
+use Rattle.p416_syntax.specs.Scopes.{Known, handed}
+use Rattle.p416_syntax.specs.Calls as rules
 
 pub get_or_map : {X Y : Type 0} (f : X → Y) (xs : List X) (i : ℕ) (d : X) → get_or (map f xs) i (f d) ≡ f (get_or xs i d)
 get_or_map f [] i d = refl

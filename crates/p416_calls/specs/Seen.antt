@@ -1,14 +1,14 @@
 -- Which place of the rules a place of code is, and what a function, a method or an action that is called wants.
 use Rattle.std.specs.Prelude.{Bool, true, false, List, [], ◌∷◌, map, Option, Some, None, if◌then◌else◌}
 use Rattle.std.specs.Str.{bytes_eq}
-use Rattle.p416_rules.specs.Names.{Name}
-use Rattle.p416_rules.specs.Kinds.{bits, boolean, nothing, applied}
-use Rattle.p416_rules.specs.Scopes.{Known, handed}
-use Rattle.p416_rules.specs.BuiltIn.{standard}
-use Rattle.p416_rules.specs.Calls as rule
-use Rattle.p416_rules.specs.Calls.{Signature, extern_at, in_pipelines, checksum_places, clone_signature, list_number, index_place, method, counts_by_entry, action_signature, parser_position, verify_position, ingress_position, egress_position, compute_position, deparser_position}
-use Rattle.p416_rules.specs.Kinds as kind
-use Rattle.p416_kinds.specs.Seen.{seen_enumeration, seen_kind}
+use Rattle.p416_syntax.specs.Names.{Name}
+use Rattle.p416_syntax.specs.Kinds.{bits, boolean, nothing, applied}
+use Rattle.p416_syntax.specs.Scopes.{Known, handed}
+use Rattle.p416_syntax.specs.BuiltIn.{standard}
+use Rattle.p416_syntax.specs.Calls as rule
+use Rattle.p416_syntax.specs.Calls.{Signature, extern_at, in_pipelines, checksum_places, clone_signature, list_number, index_place, method, counts_by_entry, action_signature, parser_position, verify_position, ingress_position, egress_position, compute_position, deparser_position}
+use Rattle.p416_syntax.specs.Kinds as kind
+use Rattle.p416_names.specs.SeenKinds.{seen_enumeration, seen_kind}
 use Rattle.p416_calls.specs.declared.place.Place.{Place}
 use Rattle.p416_calls.specs.declared.place.Place.TheVariants as place_of
 use Rattle.p416_calls.specs.declared.callee.Function.{Function}

@@ -1,5 +1,5 @@
 // What is called.
-use p416_ast::Action16;
+use p416_syntax::Action16;
 
 /// A function of `v1model.p4`.
 #[derive(Clone, Copy, Drop)]

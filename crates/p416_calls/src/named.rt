@@ -1,12 +1,12 @@
 // Functions and methods by their names (`core.p4`; `v1model.p4`).
 ghost use Rattle.std.specs.Prelude.{◌≡◌};
 ghost use Rattle.std.specs.Option.{option_map};
-ghost use Rattle.p416_rules.specs.Calls.{function_signature, method_signature, header_method, stack_method, register_method, object_method};
-ghost use Rattle.p416_kinds.specs.Seen.{seen_kind, seen_object};
+ghost use Rattle.p416_syntax.specs.Calls.{function_signature, method_signature, header_method, stack_method, register_method, object_method};
+ghost use Rattle.p416_names.specs.SeenKinds.{seen_kind, seen_object};
 ghost use Rattle.p416_calls.specs.Seen.{function_seen, method_seen, only_seen};
 
 use crate::callee::{Function, Method};
-use p416_kinds::{Kind, ObjectKind};
+use p416_names::{Kind, ObjectKind};
 
 const MARK_TO_DROP: &[u8] = b"mark_to_drop";
 

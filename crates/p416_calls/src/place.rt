@@ -1,9 +1,9 @@
 // What the place of an expression asks for.
 ghost use Rattle.std.specs.Prelude.{◌≡◌, get_or};
-ghost use Rattle.p416_rules.specs.Writes.{is_written_place};
+ghost use Rattle.p416_syntax.specs.Writes.{is_written_place};
 ghost use Rattle.p416_calls.specs.Seen.{seen_place, unasked};
 
-use p416_kinds::{Enumeration, Kind};
+use p416_names::{Enumeration, Kind};
 
 /// What the place of an expression asks for.
 #[derive(Clone, Copy, Drop)]

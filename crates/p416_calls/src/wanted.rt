@@ -1,18 +1,17 @@
 // What calls want for their arguments and give (P4_16 1.2, "Function calls and method invocations"; `core.p4`; `v1model.p4`).
 ghost use Rattle.std.specs.Prelude.{◌≡◌, List, map, length, get_or};
-ghost use Rattle.p416_rules.specs.Scopes.{Known, handed};
-ghost use Rattle.p416_rules.specs.Declarations.{top_names};
-ghost use Rattle.p416_rules.specs.Expressions.{call_kind};
-ghost use Rattle.p416_rules.specs.Uses.{wanted_by};
-ghost use Rattle.p416_rules.specs.Calls as rules;
-ghost use Rattle.p416_kinds.specs.Seen.{seen_kind};
+ghost use Rattle.p416_syntax.specs.Scopes.{Known, handed};
+ghost use Rattle.p416_syntax.specs.Declarations.{top_names};
+ghost use Rattle.p416_syntax.specs.Expressions.{call_kind};
+ghost use Rattle.p416_syntax.specs.Uses.{wanted_by};
+ghost use Rattle.p416_syntax.specs.Calls as rules;
+ghost use Rattle.p416_names.specs.SeenKinds.{seen_kind};
 ghost use Rattle.p416_calls.specs.Seen.{seen_place, seen_callee, function_seen, method_seen, writes_owner};
 
 use crate::callee::{Callee, Function, Method};
 use crate::place::{Place, place_at};
-use p416_ast::{Action16, Direction, Param};
-use p416_kinds::{Enumeration, Kind};
-use p416_names::Top;
+use p416_names::{Enumeration, Kind, Top};
+use p416_syntax::{Action16, Direction, Param};
 
 const STANDARD_METADATA: &[u8] = b"standard_metadata_t";
 

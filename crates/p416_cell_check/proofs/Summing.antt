@@ -3,7 +3,7 @@ use Rattle.std.proofs.Common.{◌≡◌, ℕ, suc, ◌+◌, ◌-◌, ◌<◌, Bo
 use Rattle.std.specs.Prelude.{nat_lt}
 use Rattle.std.proofs.lemmas.Bool.Decides.{nat_tests}
 use Rattle.std.proofs.lemmas.List.Sums.{sum_by-cons}
-use Rattle.p416_rules.specs.Totals.{cell_sum}
+use Rattle.p416_syntax.specs.Totals.{cell_sum}
 
 sum_from : (xs : List ℕ) (i d : ℕ) → i < length xs → cell_sum (drop i xs) ≡ get_or xs i d + cell_sum (drop (i + 1) xs)
 sum_from xs i d lt = rw (add-one, drop-cons xs i d lt) (sum_by-cons (λ n. n) (get_or xs i d) (drop (suc i) xs))

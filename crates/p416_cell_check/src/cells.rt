@@ -1,9 +1,9 @@
 // How many cells each object has (`v1model.p4`).
 ghost use Rattle.std.specs.Prelude.{◌≡◌, ◌++◌, flat_map, IfOk, OnOk};
-ghost use Rattle.p416_rules.specs.Totals.{size_value, instance_cells, local_cells, cells_in};
+ghost use Rattle.p416_syntax.specs.Totals.{size_value, instance_cells, local_cells, cells_in};
 
 use p4x_bits::OutOfMemory;
-use p416_ast::{Decl16, Exp, ExpHead, Instance, Local};
+use p416_syntax::{Decl16, Exp, ExpHead, Instance, Local};
 use std::alloc::Global;
 
 /// The value of a size that is a literal, else 0.

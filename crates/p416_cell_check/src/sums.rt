@@ -1,11 +1,11 @@
 // Whether there are too many cells, or none in an object (the limits are this project's own).
 ghost use Rattle.std.specs.Prelude.{◌≡◌, ◌||◌, nat_lt, IfOk};
 ghost use Rattle.std.specs.List.{list_any};
-ghost use Rattle.p416_rules.specs.Totals.{is_bad_cell_count, cell_sum, has_bad_cells};
+ghost use Rattle.p416_syntax.specs.Totals.{is_bad_cell_count, cell_sum, has_bad_cells};
 
 use crate::cells::cell_counts;
 use p4x_bits::OutOfMemory;
-use p416_ast::Decl16;
+use p416_syntax::Decl16;
 use std::alloc::Global;
 
 /// How many cells one object may have.

@@ -2,15 +2,15 @@
 use Rattle.std.proofs.Common.{◌≡◌, ℕ, Bool, true, false, not, ◌||◌, ◌&&◌, List, [], ◌∷◌, flat_map, Option, Some, None, refl, sym, ap, ◌∙◌}
 use Rattle.std.specs.List.{list_any}
 use Rattle.std.specs.Str.{bytes_eq}
-use Rattle.p416_ast.specs.declared.controls.ActionName.{ActionName}
-use Rattle.p416_ast.specs.declared.controls.ActionName.TheVariants as action_name
-use Rattle.p416_ast.specs.declared.controls.Table16.{Table16}
-use Rattle.p416_ast.specs.declared.program.Decl16.{Decl16}
-use Rattle.p416_ast.specs.Properties.{actions_of, counters_of}
-use Rattle.p416_rules.specs.Names.{Name}
-use Rattle.p416_rules.specs.Scopes.{a_table}
-use Rattle.p416_rules.specs.Declarations.{top_scope, declaration_uses}
-use Rattle.p416_rules.specs.Tables.{is_same_action, counts_in, tables_of}
+use Rattle.p416_syntax.specs.declared.controls.ActionName.{ActionName}
+use Rattle.p416_syntax.specs.declared.controls.ActionName.TheVariants as action_name
+use Rattle.p416_syntax.specs.declared.controls.Table16.{Table16}
+use Rattle.p416_syntax.specs.declared.program.Decl16.{Decl16}
+use Rattle.p416_syntax.specs.Properties.{actions_of, counters_of}
+use Rattle.p416_syntax.specs.Names.{Name}
+use Rattle.p416_syntax.specs.Scopes.{a_table}
+use Rattle.p416_syntax.specs.Declarations.{top_scope, declaration_uses}
+use Rattle.p416_syntax.specs.Tables.{is_same_action, counts_in, tables_of}
 use Rattle.p416_expression_uses.specs.Found.{CountedIn, counted_of}
 use Rattle.p416_counter_check.specs.Counting.{is_counted_use, is_counter_of, counts_in_decl, is_outside}
 use Rattle.p416_listed_check.specs.Pairs.{Pair, is_same_pair}

@@ -1,13 +1,13 @@
 -- Direct counters that an action counts outside their table: T9's test of expressions, told by the tables that a declaration has.
 use Rattle.std.specs.Prelude.{Bool, false, not}
 use Rattle.std.specs.List.{list_any}
-use Rattle.p416_ast.specs.declared.controls.Table16.{Table16}
-use Rattle.p416_ast.specs.declared.program.Decl16.{Decl16}
-use Rattle.p416_ast.specs.Properties.{actions_of, counters_of}
-use Rattle.p416_rules.specs.Names.{Name}
-use Rattle.p416_rules.specs.Scopes.{a_table}
-use Rattle.p416_rules.specs.Uses.{Use, an_expression}
-use Rattle.p416_rules.specs.Tables.{counts_in, is_counted_outside, tables_of}
+use Rattle.p416_syntax.specs.declared.controls.Table16.{Table16}
+use Rattle.p416_syntax.specs.declared.program.Decl16.{Decl16}
+use Rattle.p416_syntax.specs.Properties.{actions_of, counters_of}
+use Rattle.p416_syntax.specs.Names.{Name}
+use Rattle.p416_syntax.specs.Scopes.{a_table}
+use Rattle.p416_syntax.specs.Uses.{Use, an_expression}
+use Rattle.p416_syntax.specs.Tables.{counts_in, is_counted_outside, tables_of}
 use Rattle.p416_expression_uses.specs.Found.{CountedIn}
 
 -- what is judged counts a direct counter outside its table; of T9's tests this one alone asks all names in scope

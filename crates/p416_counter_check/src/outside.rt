@@ -1,8 +1,8 @@
 // Whether a direct counter is counted outside its table (`v1model.p4`).
 ghost use Rattle.std.specs.Prelude.{◌≡◌, ℕ, not, map, flat_map, IfOk, List};
 ghost use Rattle.std.specs.List.{list_any};
-ghost use Rattle.p416_ast.specs.declared.program.Decl16.{Decl16};
-ghost use Rattle.p416_rules.specs.Declarations.{top_scope, declaration_uses};
+ghost use Rattle.p416_syntax.specs.declared.program.Decl16.{Decl16};
+ghost use Rattle.p416_syntax.specs.Declarations.{top_scope, declaration_uses};
 ghost use Rattle.p416_expression_uses.specs.Found.{counted_of};
 ghost use Rattle.p416_expression_uses.specs.Seen.{seen_counted};
 ghost use Rattle.p416_listed_check.specs.Pairs.{is_same_pair};
@@ -11,9 +11,9 @@ ghost use Rattle.p416_counter_check.specs.internal.Pairs.{is_missing};
 
 use crate::pairs::pairs_of;
 use p4x_bits::OutOfMemory;
-use p416_ast::Decl16;
 use p416_expression_uses::Counted;
 use p416_listed_check::PairSet;
+use p416_syntax::Decl16;
 use std::alloc::Global;
 
 /// Whether a counter isn't among these with the action that counts it.

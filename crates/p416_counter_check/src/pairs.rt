@@ -1,14 +1,14 @@
 // Direct counters with the actions that their tables list (`v1model.p4`).
 ghost use Rattle.std.specs.Prelude.{◌≡◌, ◌||◌, [], ◌∷◌, filter_map, IfOk, OnOk};
 ghost use Rattle.std.specs.List.{list_any};
-ghost use Rattle.p416_rules.specs.Declarations.{table_in};
-ghost use Rattle.p416_rules.specs.Tables.{tables_of};
+ghost use Rattle.p416_syntax.specs.Declarations.{table_in};
+ghost use Rattle.p416_syntax.specs.Tables.{tables_of};
 ghost use Rattle.p416_listed_check.specs.Pairs.{Pair, is_same_pair};
 ghost use Rattle.p416_counter_check.specs.internal.Pairs.{is_pair_of};
 
 use p4x_bits::OutOfMemory;
-use p416_ast::{Decl16, Local, Table16};
 use p416_listed_check::{PairSet, add_actions};
+use p416_syntax::{Decl16, Local, Table16};
 use std::alloc::Global;
 
 /// Puts the direct counter of a table there with each action that the table lists, where it has one.

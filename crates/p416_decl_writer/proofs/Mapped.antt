@@ -2,19 +2,19 @@
 use Rattle.std.proofs.Common.{◌≡◌, List, [], ◌∷◌, ◌++◌, map, refl, sym, ap, ◌∙◌, append_assoc}
 use Rattle.std.specs.List.{flat_map}
 use Rattle.std.proofs.lemmas.List.{map-append}
-use Rattle.p416_lexemes.specs.declared.keyword.Keyword16.TheVariants as key
+use Rattle.p416_syntax.specs.declared.keyword.Keyword16.TheVariants as key
 use Rattle.p416_tok.specs.declared.kind.TokenKind16.{TokenKind16}
-use Rattle.p416_ast.specs.declared.parsers.Simple.{Simple}
-use Rattle.p416_ast.specs.declared.parsers.SelectCase.{SelectCase}
-use Rattle.p416_ast.specs.declared.parsers.Parser16.{Parser16}
-use Rattle.p416_ast.specs.declared.controls.TableKey.{TableKey}
-use Rattle.p416_ast.specs.declared.controls.Property.TheVariants as property
-use Rattle.p416_ast.specs.declared.controls.Table16.{Table16}
-use Rattle.p416_ast.specs.declared.controls.Control16.{Control16}
-use Rattle.p416_ast.specs.declared.program.Decl16.{Decl16}
-use Rattle.p416_ast.specs.Tree.{Exp16}
-use Rattle.p416_ast.specs.Tokens.{Seen16, id, quoted, comma, equals, paren_open, paren_close, brace_open, brace_close, in_parens, in_braces}
-use Rattle.p416_ast.specs.Written.{by_commas, written_notes, written_params, written_exp, written_var, written_simple, written_case, written_state, written_parser, written_key, written_property, written_table, written_block, written_local, written_control, written_decl}
+use Rattle.p416_syntax.specs.declared.parsers.Simple.{Simple}
+use Rattle.p416_syntax.specs.declared.parsers.SelectCase.{SelectCase}
+use Rattle.p416_syntax.specs.declared.parsers.Parser16.{Parser16}
+use Rattle.p416_syntax.specs.declared.controls.TableKey.{TableKey}
+use Rattle.p416_syntax.specs.declared.controls.Property.TheVariants as property
+use Rattle.p416_syntax.specs.declared.controls.Table16.{Table16}
+use Rattle.p416_syntax.specs.declared.controls.Control16.{Control16}
+use Rattle.p416_syntax.specs.declared.program.Decl16.{Decl16}
+use Rattle.p416_syntax.specs.Tree.{Exp16}
+use Rattle.p416_syntax.specs.Tokens.{Seen16, id, quoted, comma, equals, paren_open, paren_close, brace_open, brace_close, in_parens, in_braces}
+use Rattle.p416_syntax.specs.Written.{by_commas, written_notes, written_params, written_exp, written_var, written_simple, written_case, written_state, written_parser, written_key, written_property, written_table, written_block, written_local, written_control, written_decl}
 use Rattle.token_sheet.specs.Words.{Word}
 use Rattle.p416_spelling.specs.Words.{word16, words16}
 use Rattle.p416_parentheses.specs.Expressions.{full}

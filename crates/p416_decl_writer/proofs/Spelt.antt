@@ -3,30 +3,30 @@ use Rattle.std.proofs.Common.{◌≡◌, ℕ, true, List, [], ◌∷◌, ◌++�
 use Rattle.std.specs.List.{flat_map}
 use Rattle.std.proofs.lemmas.List.Folds.{list_all-append}
 use Rattle.std.proofs.lemmas.Bool.{and_parts}
-use Rattle.p416_lexemes.specs.declared.lexeme.Literal16.{Literal16}
-use Rattle.p416_lexemes.specs.declared.mark.Mark16.{Mark16}
-use Rattle.p416_lexemes.specs.declared.keyword.Keyword16.TheVariants as key
-use Rattle.p416_lexemes.specs.Spelt.{is_identifier16, is_name16}
-use Rattle.p416_ast.specs.declared.parts.Note.{Note}
-use Rattle.p416_ast.specs.declared.parts.Param.{Param}
-use Rattle.p416_ast.specs.declared.parts.Header16.{Header16}
-use Rattle.p416_ast.specs.declared.parts.StructField.{StructField}
-use Rattle.p416_ast.specs.declared.parts.Struct16.{Struct16}
-use Rattle.p416_ast.specs.declared.parts.Member.{Member}
-use Rattle.p416_ast.specs.declared.parsers.Var.{Var}
-use Rattle.p416_ast.specs.declared.parsers.SelectCase.{SelectCase}
-use Rattle.p416_ast.specs.declared.parsers.State.{State}
-use Rattle.p416_ast.specs.declared.parsers.Parser16.{Parser16}
-use Rattle.p416_ast.specs.declared.controls.Instance.{Instance}
-use Rattle.p416_ast.specs.declared.controls.Action16.{Action16}
-use Rattle.p416_ast.specs.declared.controls.ActionName.{ActionName}
-use Rattle.p416_ast.specs.declared.controls.TableKey.{TableKey}
-use Rattle.p416_ast.specs.declared.controls.Property.TheVariants as property
-use Rattle.p416_ast.specs.declared.controls.Table16.{Table16}
-use Rattle.p416_ast.specs.declared.controls.Control16.{Control16}
-use Rattle.p416_ast.specs.Tree.{Exp16}
-use Rattle.p416_ast.specs.Tokens.{Seen16, id, quoted, number, mark, comma, colon, semicolon, less, greater, paren_close, brace_close, in_parens, in_braces, is_spelt_seen}
-use Rattle.p416_ast.specs.Written.{written_option, by_commas, written_notes, written_type, written_bit, written_direction, written_param, written_params, written_member, written_exp, written_initial, written_stmt, written_block, written_var, written_keyset, written_target, written_case, written_transition, written_state, written_parser, written_instance, written_object, written_action, written_action_name, written_key, written_property, written_table, written_local, written_control, written_bit_field, written_header, written_struct_field, written_struct}
+use Rattle.p416_syntax.specs.declared.lexeme.Literal16.{Literal16}
+use Rattle.p416_syntax.specs.declared.mark.Mark16.{Mark16}
+use Rattle.p416_syntax.specs.declared.keyword.Keyword16.TheVariants as key
+use Rattle.p416_syntax.specs.SpeltLexemes.{is_identifier16, is_name16}
+use Rattle.p416_syntax.specs.declared.parts.Note.{Note}
+use Rattle.p416_syntax.specs.declared.parts.Param.{Param}
+use Rattle.p416_syntax.specs.declared.parts.Header16.{Header16}
+use Rattle.p416_syntax.specs.declared.parts.StructField.{StructField}
+use Rattle.p416_syntax.specs.declared.parts.Struct16.{Struct16}
+use Rattle.p416_syntax.specs.declared.parts.Member.{Member}
+use Rattle.p416_syntax.specs.declared.parsers.Var.{Var}
+use Rattle.p416_syntax.specs.declared.parsers.SelectCase.{SelectCase}
+use Rattle.p416_syntax.specs.declared.parsers.State.{State}
+use Rattle.p416_syntax.specs.declared.parsers.Parser16.{Parser16}
+use Rattle.p416_syntax.specs.declared.controls.Instance.{Instance}
+use Rattle.p416_syntax.specs.declared.controls.Action16.{Action16}
+use Rattle.p416_syntax.specs.declared.controls.ActionName.{ActionName}
+use Rattle.p416_syntax.specs.declared.controls.TableKey.{TableKey}
+use Rattle.p416_syntax.specs.declared.controls.Property.TheVariants as property
+use Rattle.p416_syntax.specs.declared.controls.Table16.{Table16}
+use Rattle.p416_syntax.specs.declared.controls.Control16.{Control16}
+use Rattle.p416_syntax.specs.Tree.{Exp16}
+use Rattle.p416_syntax.specs.Tokens.{Seen16, id, quoted, number, mark, comma, colon, semicolon, less, greater, paren_close, brace_close, in_parens, in_braces, is_spelt_seen}
+use Rattle.p416_syntax.specs.Written.{written_option, by_commas, written_notes, written_type, written_bit, written_direction, written_param, written_params, written_member, written_exp, written_initial, written_stmt, written_block, written_var, written_keyset, written_target, written_case, written_transition, written_state, written_parser, written_instance, written_object, written_action, written_action_name, written_key, written_property, written_table, written_local, written_control, written_bit_field, written_header, written_struct_field, written_struct}
 use Rattle.p416_decl_writer.specs.Tokens.{are_spelt}
 
 -- a name is an identifier

@@ -1,6 +1,6 @@
 // Actions, and the names by which tables list them.
 ghost use Rattle.std.specs.Prelude.{◌≡◌, ◌++◌, OnOk, IsTrue};
-ghost use Rattle.p416_ast.specs.Written.{written_action_name};
+ghost use Rattle.p416_syntax.specs.Written.{written_action_name};
 ghost use Rattle.p416_spelling.specs.Words.{words16};
 ghost use Rattle.p416_decl_writer.specs.Tokens.{are_spelt};
 
@@ -9,13 +9,12 @@ use crate::notes::write_notes;
 use crate::params::{write_block, write_params};
 use crate::written::Written;
 use p4x_bits::OutOfMemory;
-use p416_ast::{Action16, ActionName};
-use p416_lexemes::{Keyword16, Mark16};
 use p416_sheet::{Gap, Put16, Sheet16, Token16, put_tokens};
+use p416_syntax::{Action16, ActionName, Keyword16, Mark16};
 use std::alloc::Global;
 
 impl Written for Action16 {
-    ghost use Rattle.p416_ast.specs.Written.{written_action};
+    ghost use Rattle.p416_syntax.specs.Written.{written_action};
     ghost use Rattle.p416_parentheses.specs.Syntax.{full_action};
 
     ghost plain = { written_action };
@@ -48,7 +47,7 @@ pub fn write_action_name(
 }
 
 impl Written for ActionName {
-    ghost use Rattle.p416_ast.specs.Written.{written_listed_action};
+    ghost use Rattle.p416_syntax.specs.Written.{written_listed_action};
 
     ghost plain = { written_listed_action };
 

@@ -6,13 +6,12 @@ use crate::objects::write_object;
 use crate::params::{write_block, write_params};
 use crate::written::Written;
 use p4x_bits::OutOfMemory;
-use p416_ast::{Control16, Local};
-use p416_lexemes::{Keyword16, Mark16};
 use p416_sheet::{Gap, Put16, Sheet16, Token16, put_tokens};
+use p416_syntax::{Control16, Keyword16, Local, Mark16};
 use std::alloc::Global;
 
 impl Written for Local {
-    ghost use Rattle.p416_ast.specs.Written.{written_local};
+    ghost use Rattle.p416_syntax.specs.Written.{written_local};
     ghost use Rattle.p416_parentheses.specs.Syntax.{full_local};
 
     ghost plain = { written_local };
@@ -32,7 +31,7 @@ impl Written for Local {
 }
 
 impl Written for Control16 {
-    ghost use Rattle.p416_ast.specs.Written.{written_control};
+    ghost use Rattle.p416_syntax.specs.Written.{written_control};
     ghost use Rattle.p416_parentheses.specs.Syntax.{full_control};
 
     ghost plain = { written_control };

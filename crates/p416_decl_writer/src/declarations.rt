@@ -1,7 +1,7 @@
 // Declarations, and `main`.
 ghost use Rattle.std.specs.Prelude.{◌≡◌, ◌++◌, OnOk, IsTrue, map};
 ghost use Rattle.std.specs.List.{flat_map};
-ghost use Rattle.p416_ast.specs.Written.{written_decl, written_main};
+ghost use Rattle.p416_syntax.specs.Written.{written_decl, written_main};
 ghost use Rattle.p416_parentheses.specs.Syntax.{full_decl};
 ghost use Rattle.p416_spelling.specs.Words.{words16};
 ghost use Rattle.p416_decl_writer.specs.Tokens.{are_spelt};
@@ -10,13 +10,12 @@ use crate::lists::{write_all, write_by_commas};
 use crate::objects::write_object;
 use crate::written::Written;
 use p4x_bits::{OutOfMemory, Text};
-use p416_ast::Decl16;
-use p416_lexemes::{Keyword16, Mark16};
 use p416_sheet::{Gap, Put16, Sheet16, TextView, Token16, put_tokens};
+use p416_syntax::{Decl16, Keyword16, Mark16};
 use std::alloc::Global;
 
 impl Written for Decl16 {
-    ghost use Rattle.p416_ast.specs.Written.{written_decl};
+    ghost use Rattle.p416_syntax.specs.Written.{written_decl};
     ghost use Rattle.p416_parentheses.specs.Syntax.{full_decl};
 
     ghost plain = { written_decl };
@@ -60,7 +59,7 @@ pub fn write_declarations(
 }
 
 impl Written for Text {
-    ghost use Rattle.p416_ast.specs.Written.{written_block_name};
+    ghost use Rattle.p416_syntax.specs.Written.{written_block_name};
 
     ghost plain = { written_block_name };
 

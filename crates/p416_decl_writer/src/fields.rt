@@ -5,14 +5,13 @@ use crate::names::{write_heading, write_name};
 use crate::notes::write_notes;
 use crate::written::Written;
 use p4x_bits::OutOfMemory;
-use p416_ast::{BitField, Header16, Struct16, StructField};
 use p416_exp_writer::write_type;
-use p416_lexemes::{Keyword16, Mark16};
 use p416_sheet::{Gap, Put16, Sheet16, TextView, Token16, put_tokens};
+use p416_syntax::{BitField, Header16, Keyword16, Mark16, Struct16, StructField};
 use std::alloc::Global;
 
 impl Written for BitField {
-    ghost use Rattle.p416_ast.specs.Written.{written_bit_field};
+    ghost use Rattle.p416_syntax.specs.Written.{written_bit_field};
 
     ghost plain = { written_bit_field };
 
@@ -35,7 +34,7 @@ impl Written for BitField {
 }
 
 impl Written for Header16 {
-    ghost use Rattle.p416_ast.specs.Written.{written_header};
+    ghost use Rattle.p416_syntax.specs.Written.{written_header};
 
     ghost plain = { written_header };
 
@@ -56,7 +55,7 @@ impl Written for Header16 {
 }
 
 impl Written for StructField {
-    ghost use Rattle.p416_ast.specs.Written.{written_struct_field};
+    ghost use Rattle.p416_syntax.specs.Written.{written_struct_field};
 
     ghost plain = { written_struct_field };
 
@@ -72,7 +71,7 @@ impl Written for StructField {
 }
 
 impl Written for Struct16 {
-    ghost use Rattle.p416_ast.specs.Written.{written_struct};
+    ghost use Rattle.p416_syntax.specs.Written.{written_struct};
 
     ghost plain = { written_struct };
 

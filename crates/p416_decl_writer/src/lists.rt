@@ -1,14 +1,14 @@
 // Lists of parts.
 ghost use Rattle.std.specs.Prelude.{◌≡◌, ◌++◌, OnOk, IsTrue};
 ghost use Rattle.std.specs.List.{flat_map};
-ghost use Rattle.p416_ast.specs.Written.{after_commas, by_commas};
+ghost use Rattle.p416_syntax.specs.Written.{after_commas, by_commas};
 ghost use Rattle.p416_spelling.specs.Words.{words16};
 ghost use Rattle.p416_decl_writer.specs.Tokens.{are_spelt};
 
 use crate::written::Written;
 use p4x_bits::OutOfMemory;
-use p416_lexemes::Mark16;
 use p416_sheet::{Gap, Sheet16, Token16, put_token};
+use p416_syntax::Mark16;
 use std::alloc::Global;
 
 /// Writes parts one after another, with the one gap in front of the first and the other in front of each further one.

@@ -1,11 +1,11 @@
 // Names, and the headings of declarations.
 ghost use Rattle.std.specs.Prelude.{◌≡◌, ◌++◌, ◌∷◌, [], OnOk, IsTrue};
-ghost use Rattle.p416_ast.specs.Tokens.{id, quoted, is_spelt_seen};
+ghost use Rattle.p416_syntax.specs.Tokens.{id, quoted, is_spelt_seen};
 ghost use Rattle.p416_spelling.specs.Words.{words16};
 
 use p4x_bits::{OutOfMemory, Text};
-use p416_lexemes::Keyword16;
 use p416_sheet::{Gap, Put16, Sheet16, TextView, Token16, put_token, put_tokens};
+use p416_syntax::Keyword16;
 use std::alloc::Global;
 
 /// Writes a name that is no reserved word.

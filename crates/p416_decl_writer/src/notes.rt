@@ -1,6 +1,6 @@
 // Annotations and numbers.
 ghost use Rattle.std.specs.Prelude.{◌≡◌, ◌++◌, OnOk, IsTrue};
-ghost use Rattle.p416_ast.specs.Written.{written_notes};
+ghost use Rattle.p416_syntax.specs.Written.{written_notes};
 ghost use Rattle.p416_spelling.specs.Words.{words16};
 ghost use Rattle.p416_sheet.specs.declared.sheet.Token16.TheVariants.{At};
 ghost use Rattle.p416_decl_writer.specs.Tokens.{are_spelt};
@@ -9,13 +9,12 @@ use crate::gaps::on_next_line;
 use crate::lists::{write_all, write_by_commas};
 use crate::written::Written;
 use p4x_bits::OutOfMemory;
-use p416_ast::Note;
-use p416_lexemes::{Annotation16, Literal16, Mark16};
 use p416_sheet::{Gap, Put16, Sheet16, TextView, Token16, put_token, put_tokens};
+use p416_syntax::{Annotation16, Literal16, Mark16, Note};
 use std::alloc::Global;
 
 impl Written for Literal16 {
-    ghost use Rattle.p416_ast.specs.Written.{written_number};
+    ghost use Rattle.p416_syntax.specs.Written.{written_number};
 
     ghost plain = { written_number };
 
@@ -27,7 +26,7 @@ impl Written for Literal16 {
 }
 
 impl Written for Note {
-    ghost use Rattle.p416_ast.specs.Written.{written_note};
+    ghost use Rattle.p416_syntax.specs.Written.{written_note};
 
     ghost plain = { written_note };
 

@@ -1,8 +1,8 @@
 // Stateful objects.
 ghost use Rattle.std.specs.Prelude.{◌≡◌, ◌++◌, ◌∷◌, [], OnOk, IsTrue};
-ghost use Rattle.p416_lexemes.specs.declared.keyword.Keyword16.TheVariants.{DirectCounter, Register};
-ghost use Rattle.p416_ast.specs.Tokens.{id, quoted, comma, less, greater, in_parens};
-ghost use Rattle.p416_ast.specs.Written.{written_exp, written_bit, written_member, written_object};
+ghost use Rattle.p416_syntax.specs.declared.keyword.Keyword16.TheVariants.{DirectCounter, Register};
+ghost use Rattle.p416_syntax.specs.Tokens.{id, quoted, comma, less, greater, in_parens};
+ghost use Rattle.p416_syntax.specs.Written.{written_exp, written_bit, written_member, written_object};
 ghost use Rattle.p416_parentheses.specs.Expressions.{full};
 ghost use Rattle.p416_parentheses.specs.Syntax.{full_instance};
 ghost use Rattle.p416_spelling.specs.Words.{words16};
@@ -13,14 +13,13 @@ use crate::notes::write_notes;
 use crate::params::write_member;
 use crate::written::Written;
 use p4x_bits::{OutOfMemory, Text};
-use p416_ast::{Exp, Instance, Member, Note};
 use p416_exp_writer::{Form, write_expression};
-use p416_lexemes::{Keyword16, Literal16, Mark16};
 use p416_sheet::{Gap, Put16, Sheet16, Token16, put_tokens};
+use p416_syntax::{Exp, Instance, Keyword16, Literal16, Mark16, Member, Note};
 use std::alloc::Global;
 
 impl Written for Instance {
-    ghost use Rattle.p416_ast.specs.Written.{written_instance};
+    ghost use Rattle.p416_syntax.specs.Written.{written_instance};
     ghost use Rattle.p416_parentheses.specs.Syntax.{full_instance};
 
     ghost plain = { written_instance };

@@ -1,7 +1,7 @@
 // Parameters, variables and what else several declarations have.
 ghost use Rattle.std.specs.Prelude.{◌≡◌, ◌++◌, ◌∷◌, [], OnOk, IsTrue, option_copied};
-ghost use Rattle.p416_ast.specs.Tokens.{quoted};
-ghost use Rattle.p416_ast.specs.Written.{written_option, written_direction, written_type, written_params, written_initial, written_block, written_member};
+ghost use Rattle.p416_syntax.specs.Tokens.{quoted};
+ghost use Rattle.p416_syntax.specs.Written.{written_option, written_direction, written_type, written_params, written_initial, written_block, written_member};
 ghost use Rattle.std.specs.Option.{option_map};
 ghost use Rattle.p416_parentheses.specs.Expressions.{full};
 ghost use Rattle.p416_parentheses.specs.Syntax.{full_stmt};
@@ -13,15 +13,16 @@ use crate::lists::write_by_commas;
 use crate::names::write_name;
 use crate::written::Written;
 use p4x_bits::OutOfMemory;
-use p416_ast::{Block16, Direction, Exp, Member, Param, StmtHead, Type16, Var};
 use p416_exp_writer::{Form, write_expression, write_type};
-use p416_lexemes::{Keyword16, Mark16};
 use p416_sheet::{Gap, Put16, Sheet16, TextView, Token16, put_token, put_tokens};
 use p416_stmt_writer::write_statements;
+use p416_syntax::{
+    Block16, Direction, Exp, Keyword16, Mark16, Member, Param, StmtHead, Type16, Var,
+};
 use std::alloc::Global;
 
 impl Written for Param {
-    ghost use Rattle.p416_ast.specs.Written.{written_param};
+    ghost use Rattle.p416_syntax.specs.Written.{written_param};
 
     ghost plain = { written_param };
 
@@ -81,7 +82,7 @@ pub fn write_params(
 }
 
 impl Written for Var {
-    ghost use Rattle.p416_ast.specs.Written.{written_var};
+    ghost use Rattle.p416_syntax.specs.Written.{written_var};
     ghost use Rattle.p416_parentheses.specs.Syntax.{full_var};
 
     ghost plain = { written_var };

@@ -5,9 +5,8 @@ use crate::names::write_heading;
 use crate::params::write_params;
 use crate::written::Written;
 use p4x_bits::OutOfMemory;
-use p416_ast::Parser16;
-use p416_lexemes::{Keyword16, Mark16};
 use p416_sheet::{Gap, Put16, Sheet16, Token16, put_tokens};
+use p416_syntax::{Keyword16, Mark16, Parser16};
 use std::alloc::Global;
 
 /// Whether a parser has neither variables nor states.
@@ -16,7 +15,7 @@ fn is_without_parts(parser: &Parser16) -> bool {
 }
 
 impl Written for Parser16 {
-    ghost use Rattle.p416_ast.specs.Written.{written_parser};
+    ghost use Rattle.p416_syntax.specs.Written.{written_parser};
     ghost use Rattle.p416_parentheses.specs.Syntax.{full_parser};
 
     ghost plain = { written_parser };

@@ -1,9 +1,9 @@
 // States of parsers.
 ghost use Rattle.std.specs.Prelude.{◌≡◌, ◌++◌, ◌∷◌, OnOk, IsTrue, map};
 ghost use Rattle.std.specs.List.{flat_map};
-ghost use Rattle.p416_ast.specs.Tokens.{mark, in_parens, in_braces, quoted};
-ghost use Rattle.p416_lexemes.specs.declared.keyword.Keyword16.TheVariants.{Select};
-ghost use Rattle.p416_ast.specs.Written.{written_exp, written_simple, written_case, by_commas};
+ghost use Rattle.p416_syntax.specs.Tokens.{mark, in_parens, in_braces, quoted};
+ghost use Rattle.p416_syntax.specs.declared.keyword.Keyword16.TheVariants.{Select};
+ghost use Rattle.p416_syntax.specs.Written.{written_exp, written_simple, written_case, by_commas};
 ghost use Rattle.p416_parentheses.specs.Expressions.{full};
 ghost use Rattle.p416_parentheses.specs.Syntax.{full_one, full_case};
 ghost use Rattle.p416_spelling.specs.Words.{words16};
@@ -14,15 +14,14 @@ use crate::lists::{write_all, write_by_commas};
 use crate::names::{write_heading, write_name};
 use crate::written::Written;
 use p4x_bits::OutOfMemory;
-use p416_ast::{Exp, Keyset, SelectCase, Simple, State, Target, Transition};
 use p416_exp_writer::{Form, write_expression};
-use p416_lexemes::{Keyword16, Mark16};
 use p416_sheet::{Gap, Put16, Sheet16, Token16, put_tokens};
 use p416_stmt_writer::write_statements;
+use p416_syntax::{Exp, Keyset, Keyword16, Mark16, SelectCase, Simple, State, Target, Transition};
 use std::alloc::Global;
 
 impl Written for Exp {
-    ghost use Rattle.p416_ast.specs.Written.{written_exp};
+    ghost use Rattle.p416_syntax.specs.Written.{written_exp};
     ghost use Rattle.p416_parentheses.specs.Expressions.{full as with_parentheses};
 
     ghost plain = { written_exp };
@@ -35,7 +34,7 @@ impl Written for Exp {
 }
 
 impl Written for Target {
-    ghost use Rattle.p416_ast.specs.Written.{written_target};
+    ghost use Rattle.p416_syntax.specs.Written.{written_target};
 
     ghost plain = { written_target };
 
@@ -51,7 +50,7 @@ impl Written for Target {
 }
 
 impl Written for Simple {
-    ghost use Rattle.p416_ast.specs.Written.{written_simple};
+    ghost use Rattle.p416_syntax.specs.Written.{written_simple};
     ghost use Rattle.p416_parentheses.specs.Syntax.{full_simple};
 
     ghost plain = { written_simple };
@@ -113,7 +112,7 @@ fn write_one(
 }
 
 impl Written for Keyset {
-    ghost use Rattle.p416_ast.specs.Written.{written_keyset};
+    ghost use Rattle.p416_syntax.specs.Written.{written_keyset};
     ghost use Rattle.p416_parentheses.specs.Syntax.{full_keyset};
 
     ghost plain = { written_keyset };
@@ -133,7 +132,7 @@ impl Written for Keyset {
 }
 
 impl Written for SelectCase {
-    ghost use Rattle.p416_ast.specs.Written.{written_case};
+    ghost use Rattle.p416_syntax.specs.Written.{written_case};
     ghost use Rattle.p416_parentheses.specs.Syntax.{full_case};
 
     ghost plain = { written_case };
@@ -150,7 +149,7 @@ impl Written for SelectCase {
 }
 
 impl Written for Transition {
-    ghost use Rattle.p416_ast.specs.Written.{written_transition};
+    ghost use Rattle.p416_syntax.specs.Written.{written_transition};
     ghost use Rattle.p416_parentheses.specs.Syntax.{full_transition};
 
     ghost plain = { written_transition };
@@ -205,7 +204,7 @@ fn write_select(
 }
 
 impl Written for State {
-    ghost use Rattle.p416_ast.specs.Written.{written_state};
+    ghost use Rattle.p416_syntax.specs.Written.{written_state};
     ghost use Rattle.p416_parentheses.specs.Syntax.{full_state};
 
     ghost plain = { written_state };

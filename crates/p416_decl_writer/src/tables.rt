@@ -1,7 +1,7 @@
 // Tables and their properties.
 ghost use Rattle.std.specs.Prelude.{◌≡◌, ◌++◌, OnOk, IsTrue};
-ghost use Rattle.p416_ast.specs.declared.controls.Property.TheVariants.{DefaultAction as DefaultProperty, Key as KeyProperty, Actions as ActionsProperty};
-ghost use Rattle.p416_ast.specs.Written.{written_property};
+ghost use Rattle.p416_syntax.specs.declared.controls.Property.TheVariants.{DefaultAction as DefaultProperty, Key as KeyProperty, Actions as ActionsProperty};
+ghost use Rattle.p416_syntax.specs.Written.{written_property};
 ghost use Rattle.p416_parentheses.specs.Syntax.{full_property};
 ghost use Rattle.p416_spelling.specs.Words.{words16};
 ghost use Rattle.p416_decl_writer.specs.Tokens.{are_spelt};
@@ -13,14 +13,13 @@ use crate::names::{write_heading, write_name};
 use crate::notes::write_notes;
 use crate::written::Written;
 use p4x_bits::OutOfMemory;
-use p416_ast::{ActionName, Exp, Property, Table16, TableKey};
 use p416_exp_writer::{Form, write_expression};
-use p416_lexemes::{Keyword16, Mark16};
 use p416_sheet::{Gap, Put16, Sheet16, TextView, Token16, put_tokens};
+use p416_syntax::{ActionName, Exp, Keyword16, Mark16, Property, Table16, TableKey};
 use std::alloc::Global;
 
 impl Written for TableKey {
-    ghost use Rattle.p416_ast.specs.Written.{written_key};
+    ghost use Rattle.p416_syntax.specs.Written.{written_key};
     ghost use Rattle.p416_parentheses.specs.Syntax.{full_key};
 
     ghost plain = { written_key };
@@ -38,7 +37,7 @@ impl Written for TableKey {
 }
 
 impl Written for Property {
-    ghost use Rattle.p416_ast.specs.Written.{written_property};
+    ghost use Rattle.p416_syntax.specs.Written.{written_property};
     ghost use Rattle.p416_parentheses.specs.Syntax.{full_property};
 
     ghost plain = { written_property };
@@ -157,7 +156,7 @@ fn write_default_action(
 }
 
 impl Written for Table16 {
-    ghost use Rattle.p416_ast.specs.Written.{written_table};
+    ghost use Rattle.p416_syntax.specs.Written.{written_table};
     ghost use Rattle.p416_parentheses.specs.Syntax.{full_table};
 
     ghost plain = { written_table };

@@ -10,7 +10,7 @@ use std::alloc::Global;
 /// What is written in one piece.
 pub trait Written {
     ghost use Rattle.std.specs.Prelude.{List};
-    ghost use Rattle.p416_ast.specs.Tokens.{Seen16};
+    ghost use Rattle.p416_syntax.specs.Tokens.{Seen16};
 
     // Its tokens, without parentheses around expressions.
     ghost plain: { Self → List Seen16 };

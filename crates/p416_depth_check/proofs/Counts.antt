@@ -1,6 +1,6 @@
 -- How many expressions, or statements, a walk still comes to.
 use Rattle.std.proofs.Common.{ℕ, suc, ◌+◌, List, [], ◌∷◌}
-use Rattle.p416_ast.specs.Tree.{Exp16, member, index, slice, call, lookahead, cast, unary, binary, choice, argument, listed, Stmt16, then, block, if_then, if_else, switch, case_of}
+use Rattle.p416_syntax.specs.Tree.{Exp16, member, index, slice, call, lookahead, cast, unary, binary, choice, argument, listed, Stmt16, then, block, if_then, if_else, switch, case_of}
 use Rattle.p416_depth_check.specs.declared.expressions.ExpLeft.{ExpLeft}
 use Rattle.p416_depth_check.specs.declared.blocks.StmtLeft.{StmtLeft}
 

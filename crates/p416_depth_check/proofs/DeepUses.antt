@@ -6,51 +6,51 @@ use Rattle.std.specs.Option.{option_map_or}
 use Rattle.std.proofs.lemmas.Bool.{false≢true}
 use Rattle.std.proofs.lemmas.Bool.Decides.{nat_tests}
 use Rattle.std.proofs.lemmas.List.Folds.{list_any-append}
-use Rattle.p416_ast.specs.declared.parts.Note.{Note}
-use Rattle.p416_ast.specs.declared.parts.Type16.{Type16}
-use Rattle.p416_ast.specs.declared.parts.Type16.TheVariants.{Bit, Bool as BoolType, Named}
-use Rattle.p416_ast.specs.declared.parts.Param.{Param}
-use Rattle.p416_ast.specs.declared.parts.StructField.{StructField}
-use Rattle.p416_ast.specs.declared.parsers.Var.{Var}
-use Rattle.p416_ast.specs.declared.parsers.Target.{Target}
-use Rattle.p416_ast.specs.declared.parsers.Simple.{Simple}
-use Rattle.p416_ast.specs.declared.parsers.Simple.TheVariants as simple
-use Rattle.p416_ast.specs.declared.parsers.SelectCase.{SelectCase}
-use Rattle.p416_ast.specs.declared.parsers.Transition.{Transition}
-use Rattle.p416_ast.specs.declared.parsers.Transition.TheVariants as transition
-use Rattle.p416_ast.specs.declared.parsers.State.{State}
-use Rattle.p416_ast.specs.declared.parsers.Parser16.{Parser16}
-use Rattle.p416_ast.specs.declared.node.CastType.{CastType}
-use Rattle.p416_ast.specs.declared.node.CastType.TheVariants as cast_to
-use Rattle.p416_ast.specs.declared.node.CaseLabel.{CaseLabel}
-use Rattle.p416_ast.specs.declared.node.CaseLabel.TheVariants as label
-use Rattle.p416_ast.specs.declared.controls.Instance.{Instance}
-use Rattle.p416_ast.specs.declared.controls.Instance.TheVariants as instance
-use Rattle.p416_ast.specs.declared.controls.ActionName.{ActionName}
-use Rattle.p416_ast.specs.declared.controls.Action16.{Action16}
-use Rattle.p416_ast.specs.declared.controls.TableKey.{TableKey}
-use Rattle.p416_ast.specs.declared.controls.Table16.{Table16}
-use Rattle.p416_ast.specs.declared.controls.Local.{Local}
-use Rattle.p416_ast.specs.declared.controls.Local.TheVariants as local
-use Rattle.p416_ast.specs.declared.controls.Control16.{Control16}
-use Rattle.p416_ast.specs.declared.program.Decl16.{Decl16}
-use Rattle.p416_ast.specs.declared.program.Decl16.TheVariants as decl
-use Rattle.p416_ast.specs.declared.program.Syntax16.{Syntax16}
-use Rattle.p416_ast.specs.Properties.{keys_of, actions_of, size_of, counters_of, default_action_of, default_arguments_of}
-use Rattle.p416_ast.specs.Subtrees.{own_expressions, subtrees}
-use Rattle.p416_ast.specs.Tree.{Exp16, literal, truth, error, name, member, index, slice, call, lookahead, cast, unary, binary, choice, parenthesized, no_arguments, argument, listed, Stmt16, no_statements, then, block, empty, var, var_is, assign, expression, if_then, if_else, switch, no_cases, case_of}
-use Rattle.p416_rules.specs.declared.rule.ProgramRule.TheVariants.{T12}
-use Rattle.p416_rules.specs.Exact.{IsExact}
-use Rattle.p416_rules.specs.Names.{Name}
-use Rattle.p416_rules.specs.Kinds.{Kind, bits, boolean, unknown}
-use Rattle.p416_rules.specs.Expressions.{kind_of, signature_of, argument_count}
-use Rattle.p416_rules.specs.Scopes.{Scope, in_key, kind_of_type}
-use Rattle.p416_rules.specs.Calls.{Place, value, any_bits, literal_of, any_literal, select_key, table_key, target, owner, callee, statement, unasked}
-use Rattle.p416_rules.specs.Uses.{Use, a_number, a_name, names_of_scope, some_parameters, a_table_of, WantedSort, some_action, some_state, some_direct_counter, TypePlace, of_field, of_variable, of_action_parameter, of_block_parameter, of_lookahead, one, many, left_place, right_place, chosen_place, cast_place, wanted_by, type_uses, cast_numbers, uses, uses_at}
-use Rattle.p416_rules.specs.Statements.{Visit, visit, behind, declared_in, visits, visit_uses, own_uses, label_uses, assigned_place, statement_uses, nesting}
-use Rattle.p416_rules.specs.Declarations.{list_numbers, target_name, parameter_name, is_exact, declared_name, default_place, note_uses, field_width, struct_field_uses, instance_uses, object_uses, var_uses, parameter_uses, body_uses, target_uses, simple_uses, keyset_parts, compared_uses, with_keys, case_uses, transition_uses, state_uses, parser_scope, parser_uses, action_scope, action_uses, key_uses, action_name_uses, parameters_of, given_uses, defaults_of, table_uses, control_scope, local_uses, control_uses, declaration_uses}
-use Rattle.p416_rules.specs.Totals.{depth, is_too_deep}
-use Rattle.p416_rules.specs.Breaks.{has_use, scope_of, SomeDeclaration, SomeBreaks}
+use Rattle.p416_syntax.specs.declared.parts.Note.{Note}
+use Rattle.p416_syntax.specs.declared.parts.Type16.{Type16}
+use Rattle.p416_syntax.specs.declared.parts.Type16.TheVariants.{Bit, Bool as BoolType, Named}
+use Rattle.p416_syntax.specs.declared.parts.Param.{Param}
+use Rattle.p416_syntax.specs.declared.parts.StructField.{StructField}
+use Rattle.p416_syntax.specs.declared.parsers.Var.{Var}
+use Rattle.p416_syntax.specs.declared.parsers.Target.{Target}
+use Rattle.p416_syntax.specs.declared.parsers.Simple.{Simple}
+use Rattle.p416_syntax.specs.declared.parsers.Simple.TheVariants as simple
+use Rattle.p416_syntax.specs.declared.parsers.SelectCase.{SelectCase}
+use Rattle.p416_syntax.specs.declared.parsers.Transition.{Transition}
+use Rattle.p416_syntax.specs.declared.parsers.Transition.TheVariants as transition
+use Rattle.p416_syntax.specs.declared.parsers.State.{State}
+use Rattle.p416_syntax.specs.declared.parsers.Parser16.{Parser16}
+use Rattle.p416_syntax.specs.declared.node.CastType.{CastType}
+use Rattle.p416_syntax.specs.declared.node.CastType.TheVariants as cast_to
+use Rattle.p416_syntax.specs.declared.node.CaseLabel.{CaseLabel}
+use Rattle.p416_syntax.specs.declared.node.CaseLabel.TheVariants as label
+use Rattle.p416_syntax.specs.declared.controls.Instance.{Instance}
+use Rattle.p416_syntax.specs.declared.controls.Instance.TheVariants as instance
+use Rattle.p416_syntax.specs.declared.controls.ActionName.{ActionName}
+use Rattle.p416_syntax.specs.declared.controls.Action16.{Action16}
+use Rattle.p416_syntax.specs.declared.controls.TableKey.{TableKey}
+use Rattle.p416_syntax.specs.declared.controls.Table16.{Table16}
+use Rattle.p416_syntax.specs.declared.controls.Local.{Local}
+use Rattle.p416_syntax.specs.declared.controls.Local.TheVariants as local
+use Rattle.p416_syntax.specs.declared.controls.Control16.{Control16}
+use Rattle.p416_syntax.specs.declared.program.Decl16.{Decl16}
+use Rattle.p416_syntax.specs.declared.program.Decl16.TheVariants as decl
+use Rattle.p416_syntax.specs.declared.program.Syntax16.{Syntax16}
+use Rattle.p416_syntax.specs.Properties.{keys_of, actions_of, size_of, counters_of, default_action_of, default_arguments_of}
+use Rattle.p416_syntax.specs.Subtrees.{own_expressions, subtrees}
+use Rattle.p416_syntax.specs.Tree.{Exp16, literal, truth, error, name, member, index, slice, call, lookahead, cast, unary, binary, choice, parenthesized, no_arguments, argument, listed, Stmt16, no_statements, then, block, empty, var, var_is, assign, expression, if_then, if_else, switch, no_cases, case_of}
+use Rattle.p416_syntax.specs.declared.rule.ProgramRule.TheVariants.{T12}
+use Rattle.p416_syntax.specs.Exact.{IsExact}
+use Rattle.p416_syntax.specs.Names.{Name}
+use Rattle.p416_syntax.specs.Kinds.{Kind, bits, boolean, unknown}
+use Rattle.p416_syntax.specs.Expressions.{kind_of, signature_of, argument_count}
+use Rattle.p416_syntax.specs.Scopes.{Scope, in_key, kind_of_type}
+use Rattle.p416_syntax.specs.Calls.{Place, value, any_bits, literal_of, any_literal, select_key, table_key, target, owner, callee, statement, unasked}
+use Rattle.p416_syntax.specs.Uses.{Use, a_number, a_name, names_of_scope, some_parameters, a_table_of, WantedSort, some_action, some_state, some_direct_counter, TypePlace, of_field, of_variable, of_action_parameter, of_block_parameter, of_lookahead, one, many, left_place, right_place, chosen_place, cast_place, wanted_by, type_uses, cast_numbers, uses, uses_at}
+use Rattle.p416_syntax.specs.Statements.{Visit, visit, behind, declared_in, visits, visit_uses, own_uses, label_uses, assigned_place, statement_uses, nesting}
+use Rattle.p416_syntax.specs.Declarations.{list_numbers, target_name, parameter_name, is_exact, declared_name, default_place, note_uses, field_width, struct_field_uses, instance_uses, object_uses, var_uses, parameter_uses, body_uses, target_uses, simple_uses, keyset_parts, compared_uses, with_keys, case_uses, transition_uses, state_uses, parser_scope, parser_uses, action_scope, action_uses, key_uses, action_name_uses, parameters_of, given_uses, defaults_of, table_uses, control_scope, local_uses, control_uses, declaration_uses}
+use Rattle.p416_syntax.specs.Totals.{depth, is_too_deep}
+use Rattle.p416_syntax.specs.Breaks.{has_use, scope_of, SomeDeclaration, SomeBreaks}
 use Rattle.p416_depth_check.specs.internal.Deep.{is_deep, has_deep_argument, has_deep_expression, is_deep_body, is_deep_var, is_deep_instance, is_deep_simple, is_deep_case, is_deep_transition, is_deep_state, is_deep_parser, is_deep_key, is_deep_default, is_deep_table, is_deep_local, is_deep_control, is_deep_decl}
 
 -- among these uses something nests too deep

@@ -3,9 +3,9 @@ use Rattle.std.proofs.Common.{◌≡◌, ℕ, suc, ◌+◌, ◌-◌, ◌<◌, �
 use Rattle.std.specs.List.{list_any}
 use Rattle.std.proofs.lemmas.Bool.Decides.{nat_tests}
 use Rattle.std.proofs.lemmas.Bool.{false≢true}
-use Rattle.p416_ast.specs.Tree.{Exp16, literal, truth, error, name, member, index, slice, call, lookahead, cast, unary, binary, choice, parenthesized, no_arguments, argument, listed, Stmt16, no_statements, then, block, empty, var, var_is, assign, expression, if_then, if_else, switch, no_cases, case_of}
-use Rattle.p416_rules.specs.Statements.{nesting}
-use Rattle.p416_rules.specs.Totals.{depth}
+use Rattle.p416_syntax.specs.Tree.{Exp16, literal, truth, error, name, member, index, slice, call, lookahead, cast, unary, binary, choice, parenthesized, no_arguments, argument, listed, Stmt16, no_statements, then, block, empty, var, var_is, assign, expression, if_then, if_else, switch, no_cases, case_of}
+use Rattle.p416_syntax.specs.Statements.{nesting}
+use Rattle.p416_syntax.specs.Totals.{depth}
 use Rattle.p416_depth_check.specs.declared.expressions.ExpLeft.{ExpLeft}
 use Rattle.p416_depth_check.specs.declared.blocks.StmtLeft.{StmtLeft}
 use Rattle.p416_depth_check.specs.internal.Walks.{exp_left, exp_is_deep, is_exp_beyond, parts_of, stmt_left, stmt_is_deep, is_stmt_beyond, within_of}

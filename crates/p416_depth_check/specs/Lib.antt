@@ -1,2 +1,2 @@
--- The contracts are the definitions of `p416_rules`.
+-- The contracts are the definitions of `p416_syntax`.
 pub mod internal

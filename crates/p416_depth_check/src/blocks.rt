@@ -1,11 +1,11 @@
 // How deep blocks nest: the statements of a case are a block too, and `else if`, or a branch without braces, is none.
 ghost use Rattle.std.specs.Prelude.{◌≡◌, ◌∷◌, ◌++◌, nat_lt, IfOk, OnOk};
-ghost use Rattle.p416_ast.specs.Heads.{of_head};
-ghost use Rattle.p416_rules.specs.Statements.{nesting};
+ghost use Rattle.p416_syntax.specs.Heads.{of_head};
+ghost use Rattle.p416_syntax.specs.Statements.{nesting};
 ghost use Rattle.p416_depth_check.specs.internal.Walks.{stmt_left, is_nest, is_stmt_beyond, within_of};
 
 use p4x_bits::OutOfMemory;
-use p416_ast::{StmtHead, StmtView};
+use p416_syntax::{StmtHead, StmtView};
 use std::alloc::Global;
 use work_stack::Stack;
 

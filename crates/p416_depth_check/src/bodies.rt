@@ -1,13 +1,13 @@
 // How deep the statements of a state, an action or a control nest, with the expressions in them.
 ghost use Rattle.std.specs.Prelude.{◌≡◌, ◌+◌, ◌≤◌, nat_lt, flat_map, IfOk};
-ghost use Rattle.p416_ast.specs.Subtrees.{own_expressions};
-ghost use Rattle.p416_rules.specs.Statements.{nesting};
+ghost use Rattle.p416_syntax.specs.Subtrees.{own_expressions};
+ghost use Rattle.p416_syntax.specs.Statements.{nesting};
 ghost use Rattle.p416_depth_check.specs.internal.Deep.{has_deep_expression, is_deep_body, is_deep_var, is_deep_instance};
 
 use crate::blocks::nests_deeper;
 use crate::expressions::{is_deep, some_deep};
 use p4x_bits::OutOfMemory;
-use p416_ast::{ExpView, Instance, StmtView, Var, own_expressions, statements_within};
+use p416_syntax::{ExpView, Instance, StmtView, Var, own_expressions, statements_within};
 use std::alloc::Global;
 
 /// How many blocks may nest.

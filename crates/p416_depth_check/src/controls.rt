@@ -2,13 +2,13 @@
 ghost use Rattle.std.specs.Prelude.{◌≡◌, false, option_copied, IfOk};
 ghost use Rattle.std.specs.List.{list_any};
 ghost use Rattle.std.specs.Option.{option_map_or};
-ghost use Rattle.p416_ast.specs.Properties.{default_action_of, default_arguments_of};
+ghost use Rattle.p416_syntax.specs.Properties.{default_action_of, default_arguments_of};
 ghost use Rattle.p416_depth_check.specs.internal.Deep.{has_deep_argument, is_deep_key, is_deep_default, is_deep_table, is_deep_local, is_deep_control};
 
 use crate::bodies::{is_deep_body, is_deep_instance, is_deep_var};
 use crate::expressions::{has_deep_argument, is_deep};
 use p4x_bits::OutOfMemory;
-use p416_ast::{Control16, Exp, Local, Table16, TableKey};
+use p416_syntax::{Control16, Exp, Local, Table16, TableKey};
 use std::alloc::Global;
 
 /// Whether one of these keys nests over 512 deep.

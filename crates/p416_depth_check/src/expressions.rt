@@ -2,13 +2,13 @@
 // each.
 ghost use Rattle.std.specs.Prelude.{◌≡◌, ◌∷◌, ◌++◌, false, IfOk, OnOk, MatchOption};
 ghost use Rattle.std.specs.List.{list_any};
-ghost use Rattle.p416_ast.specs.Heads.{of_exp_head};
-ghost use Rattle.p416_ast.specs.Tree.{argument};
+ghost use Rattle.p416_syntax.specs.Heads.{of_exp_head};
+ghost use Rattle.p416_syntax.specs.Tree.{argument};
 ghost use Rattle.p416_depth_check.specs.internal.Walks.{exp_left, is_list, is_exp_beyond, parts_of};
 ghost use Rattle.p416_depth_check.specs.internal.Deep.{is_deep, has_deep_argument};
 
 use p4x_bits::OutOfMemory;
-use p416_ast::{ExpHead, ExpView};
+use p416_syntax::{ExpHead, ExpView};
 use std::alloc::Global;
 use work_stack::Stack;
 

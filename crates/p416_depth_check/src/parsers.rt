@@ -1,13 +1,13 @@
 // How deep parsers nest.
 ghost use Rattle.std.specs.Prelude.{◌≡◌, ◌||◌, IfOk};
 ghost use Rattle.std.specs.List.{list_any};
-ghost use Rattle.p416_rules.specs.Declarations.{keyset_parts};
+ghost use Rattle.p416_syntax.specs.Declarations.{keyset_parts};
 ghost use Rattle.p416_depth_check.specs.internal.Deep.{is_deep, is_deep_var, is_deep_simple, is_deep_case, is_deep_transition, is_deep_state, is_deep_parser};
 
 use crate::bodies::{is_deep_body, is_deep_var};
 use crate::expressions::is_deep;
 use p4x_bits::OutOfMemory;
-use p416_ast::{Exp, Keyset, Parser16, SelectCase, Simple, State, Transition, Var};
+use p416_syntax::{Exp, Keyset, Parser16, SelectCase, Simple, State, Transition, Var};
 use std::alloc::Global;
 
 /// Whether one of two expressions nests over 512 deep.

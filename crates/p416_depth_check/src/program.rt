@@ -1,18 +1,18 @@
 // How deep a program nests (the limit is this project's own).
 ghost use Rattle.std.specs.Prelude.{◌≡◌, IfOk};
 ghost use Rattle.std.specs.List.{list_any};
-ghost use Rattle.p416_rules.specs.declared.rule.ProgramRule.TheVariants.{T12};
-ghost use Rattle.p416_rules.specs.Exact.{IsExact};
-ghost use Rattle.p416_rules.specs.Scopes.{Scope};
-ghost use Rattle.p416_rules.specs.Totals as totals;
-ghost use Rattle.p416_rules.specs.Breaks.{has_use, SomeBreaks};
+ghost use Rattle.p416_syntax.specs.declared.rule.ProgramRule.TheVariants.{T12};
+ghost use Rattle.p416_syntax.specs.Exact.{IsExact};
+ghost use Rattle.p416_syntax.specs.Scopes.{Scope};
+ghost use Rattle.p416_syntax.specs.Totals as totals;
+ghost use Rattle.p416_syntax.specs.Breaks.{has_use, SomeBreaks};
 ghost use Rattle.p416_depth_check.specs.internal.Deep.{is_deep_decl};
 
 use crate::bodies::is_deep_instance;
 use crate::controls::is_deep_control;
 use crate::parsers::is_deep_parser;
 use p4x_bits::OutOfMemory;
-use p416_ast::{Decl16, Syntax16};
+use p416_syntax::{Decl16, Syntax16};
 use std::alloc::Global;
 
 /// Whether blocks or expressions of a declaration nest over 512 deep.

@@ -1,10 +1,9 @@
 // What expressions are, and which of them can be written.
 use crate::kind_words::kind_of;
 use p4x_bits::OutOfMemory;
-use p416_ast::{Control16, Decl16, Exp, Local};
-use p416_kinds::Kind;
-use p416_names::Top;
+use p416_names::{Kind, Top};
 use p416_scopes::Scope;
+use p416_syntax::{Control16, Decl16, Exp, Local};
 use p416_typing::{Row, typed_expression};
 use std::alloc::Global;
 

@@ -1,7 +1,7 @@
 // Words that tell kinds.
 use crate::lines::{cut, number_of};
 use p4x_bits::OutOfMemory;
-use p416_kinds::Kind;
+use p416_names::Kind;
 use std::alloc::Global;
 
 /// The kind that a word tells: a letter, and behind it a width, the name of a type, or that and the size of a stack.

@@ -3,8 +3,8 @@ ghost use Rattle.std.specs.Prelude.{IsTrue};
 ghost use Rattle.p416_sheet.specs.Tokens.{are_put};
 
 use p4x_bits::{Octets, OutOfMemory};
-use p416_lexemes::{Annotation16, Include16, Keyword16, Literal16, Mark16};
 use p416_sheet::{Gap, Put16, Sheet16, TextView, Token16, put_tokens};
+use p416_syntax::{Annotation16, Include16, Keyword16, Literal16, Mark16};
 use std::alloc::Global;
 
 macro_rules! put {

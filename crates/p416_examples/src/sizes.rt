@@ -2,10 +2,9 @@
 use crate::kind_words::{kind_of, kinds_of};
 use crate::lines::{cut, is_true, number_of};
 use p4x_bits::OutOfMemory;
-use p416_ast::Decl16;
-use p416_kinds::Kind;
-use p416_names::Top;
+use p416_names::{Kind, Top};
 use p416_size_check::{has_large_headers, has_large_variables};
+use p416_syntax::Decl16;
 use p416_top_check::declares_twice;
 use p416_type_totals::TypeTotals;
 use std::alloc::Global;

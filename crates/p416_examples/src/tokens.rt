@@ -1,6 +1,6 @@
 // The tokens of texts, told.
 use p4x_bits::OutOfMemory;
-use p416_lexemes::Literal16;
+use p416_syntax::Literal16;
 use p416_tok::{Token16, TokenKind16, tokens16};
 use std::alloc::Global;
 

@@ -2,9 +2,9 @@
 use Rattle.std.proofs.Common.{◌≡◌, List, [], ◌∷◌, ◌++◌, sym, ap, ◌∙◌, append_assoc}
 use Rattle.std.proofs.lemmas.List.{map-append}
 use Rattle.p416_tok.specs.declared.kind.TokenKind16.{TokenKind16}
-use Rattle.p416_ast.specs.declared.parts.Type16.{Type16}
-use Rattle.p416_ast.specs.Tokens.{id, opens, lookahead_text, dot, greater, paren_open}
-use Rattle.p416_ast.specs.Written.{written_type}
+use Rattle.p416_syntax.specs.declared.parts.Type16.{Type16}
+use Rattle.p416_syntax.specs.Tokens.{id, opens, lookahead_text, dot, greater, paren_open}
+use Rattle.p416_syntax.specs.Written.{written_type}
 use Rattle.token_sheet.specs.Words.{Word}
 use Rattle.p416_spelling.specs.Words.{word16, words16}
 

@@ -3,9 +3,9 @@ use Rattle.std.proofs.Common.{◌≡◌, ◌+◌, ◌<◌, Bool, true, false, Li
 use Rattle.std.proofs.lemmas.List.Concat.{flat_map-append}
 use Rattle.std.proofs.lemmas.List.Folds.{list_all-append}
 use Rattle.std.proofs.lemmas.Bool.{and_from}
-use Rattle.p416_ast.specs.declared.views.ExpHead.{ExpHead}
-use Rattle.p416_ast.specs.Tree.{Exp16}
-use Rattle.p416_ast.specs.Heads.{of_exp_head}
+use Rattle.p416_syntax.specs.declared.views.ExpHead.{ExpHead}
+use Rattle.p416_syntax.specs.Tree.{Exp16}
+use Rattle.p416_syntax.specs.Heads.{of_exp_head}
 use Rattle.token_sheet.specs.declared.blanks.Gap.{Gap}
 use Rattle.p416_exp_writer.specs.declared.work.Form.{Form}
 use Rattle.p416_exp_writer.specs.declared.work.Form.TheVariants as form

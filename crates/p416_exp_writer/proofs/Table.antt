@@ -5,18 +5,18 @@ use Rattle.std.specs.List.{list_all}
 use Rattle.std.proofs.lemmas.List.{map-append}
 use Rattle.std.proofs.lemmas.List.Folds.{list_all-append}
 use Rattle.std.proofs.lemmas.Bool.{and_from, and_parts}
-use Rattle.p416_lexemes.specs.Spelt.{is_identifier16, is_spelt_literal16}
-use Rattle.p416_ast.specs.declared.node.UnaryOperator.{UnaryOperator}
-use Rattle.p416_ast.specs.declared.node.UnaryOperator.TheVariants as prefix
-use Rattle.p416_ast.specs.declared.node.BinaryOperator.{BinaryOperator}
-use Rattle.p416_ast.specs.declared.node.BinaryOperator.TheVariants as operator_of
-use Rattle.p416_ast.specs.declared.views.ExpHead.{ExpHead}
-use Rattle.p416_ast.specs.declared.views.ExpHead.TheVariants as head
-use Rattle.p416_ast.specs.Tree.{Exp16, literal, truth, error, name, member, index, slice, call, lookahead, cast, unary, binary, choice, parenthesized, no_arguments, argument, listed}
-use Rattle.p416_ast.specs.Heads.{of_exp_head}
-use Rattle.p416_ast.specs.Operators.{unary_token, binary_tokens}
-use Rattle.p416_ast.specs.Tokens.{Seen16, id, number, mark, opens, seen_word, lookahead_text, dot, bracket_open, bracket_close, colon, comma, greater, question, paren_open, paren_close, brace_open, brace_close, in_parens, is_spelt_seen}
-use Rattle.p416_ast.specs.Written.{written_exp, written_type, written_cast, comma_behind}
+use Rattle.p416_syntax.specs.SpeltLexemes.{is_identifier16, is_spelt_literal16}
+use Rattle.p416_syntax.specs.declared.node.UnaryOperator.{UnaryOperator}
+use Rattle.p416_syntax.specs.declared.node.UnaryOperator.TheVariants as prefix
+use Rattle.p416_syntax.specs.declared.node.BinaryOperator.{BinaryOperator}
+use Rattle.p416_syntax.specs.declared.node.BinaryOperator.TheVariants as operator_of
+use Rattle.p416_syntax.specs.declared.views.ExpHead.{ExpHead}
+use Rattle.p416_syntax.specs.declared.views.ExpHead.TheVariants as head
+use Rattle.p416_syntax.specs.Tree.{Exp16, literal, truth, error, name, member, index, slice, call, lookahead, cast, unary, binary, choice, parenthesized, no_arguments, argument, listed}
+use Rattle.p416_syntax.specs.Heads.{of_exp_head}
+use Rattle.p416_syntax.specs.Operators.{unary_token, binary_tokens}
+use Rattle.p416_syntax.specs.Tokens.{Seen16, id, number, mark, opens, seen_word, lookahead_text, dot, bracket_open, bracket_close, colon, comma, greater, question, paren_open, paren_close, brace_open, brace_close, in_parens, is_spelt_seen}
+use Rattle.p416_syntax.specs.Written.{written_exp, written_type, written_cast, comma_behind}
 use Rattle.token_sheet.specs.declared.blanks.Gap.{Gap}
 use Rattle.p416_spelling.specs.Words.{word16, words16}
 use Rattle.p416_sheet.specs.Tokens.{words_put, is_put}

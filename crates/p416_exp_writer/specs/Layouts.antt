@@ -1,22 +1,22 @@
 -- The table of what each expression is written with, part by part, what the parts say, and how much work they are.
 use Rattle.std.specs.Prelude.{◌≡◌, ℕ, ◌+◌, Bool, true, false, ◌&&◌, List, [], ◌∷◌, ◌++◌}
 use Rattle.std.specs.List.{flat_map, list_all}
-use Rattle.p416_lexemes.specs.declared.keyword.Keyword16.{Keyword16}
-use Rattle.p416_lexemes.specs.declared.keyword.Keyword16.TheVariants as key
-use Rattle.p416_lexemes.specs.declared.mark.Mark16.{Mark16}
-use Rattle.p416_lexemes.specs.declared.mark.Mark16.TheVariants as mark_of
-use Rattle.p416_lexemes.specs.Spelt.{is_identifier16, is_spelt_literal16}
+use Rattle.p416_syntax.specs.declared.keyword.Keyword16.{Keyword16}
+use Rattle.p416_syntax.specs.declared.keyword.Keyword16.TheVariants as key
+use Rattle.p416_syntax.specs.declared.mark.Mark16.{Mark16}
+use Rattle.p416_syntax.specs.declared.mark.Mark16.TheVariants as mark_of
+use Rattle.p416_syntax.specs.SpeltLexemes.{is_identifier16, is_spelt_literal16}
 use Rattle.p416_tok.specs.declared.kind.TokenKind16.{TokenKind16}
-use Rattle.p416_ast.specs.declared.node.UnaryOperator.{UnaryOperator}
-use Rattle.p416_ast.specs.declared.node.UnaryOperator.TheVariants as prefix
-use Rattle.p416_ast.specs.declared.node.BinaryOperator.{BinaryOperator}
-use Rattle.p416_ast.specs.declared.node.BinaryOperator.TheVariants as operator_of
-use Rattle.p416_ast.specs.declared.views.ExpHead.{ExpHead}
-use Rattle.p416_ast.specs.declared.views.ExpHead.TheVariants as head
-use Rattle.p416_ast.specs.Tree.{Exp16, literal, truth, error, name, member, index, slice, call, lookahead, cast, unary, binary, choice, parenthesized, no_arguments, argument, listed}
-use Rattle.p416_ast.specs.Heads.{of_exp_head}
-use Rattle.p416_ast.specs.Tokens.{id, number, opens, seen_word, lookahead_text, dot, bracket_open, bracket_close, colon, greater, paren_open, in_parens}
-use Rattle.p416_ast.specs.Written.{written_exp, written_type, written_cast}
+use Rattle.p416_syntax.specs.declared.node.UnaryOperator.{UnaryOperator}
+use Rattle.p416_syntax.specs.declared.node.UnaryOperator.TheVariants as prefix
+use Rattle.p416_syntax.specs.declared.node.BinaryOperator.{BinaryOperator}
+use Rattle.p416_syntax.specs.declared.node.BinaryOperator.TheVariants as operator_of
+use Rattle.p416_syntax.specs.declared.views.ExpHead.{ExpHead}
+use Rattle.p416_syntax.specs.declared.views.ExpHead.TheVariants as head
+use Rattle.p416_syntax.specs.Tree.{Exp16, literal, truth, error, name, member, index, slice, call, lookahead, cast, unary, binary, choice, parenthesized, no_arguments, argument, listed}
+use Rattle.p416_syntax.specs.Heads.{of_exp_head}
+use Rattle.p416_syntax.specs.Tokens.{id, number, opens, seen_word, lookahead_text, dot, bracket_open, bracket_close, colon, greater, paren_open, in_parens}
+use Rattle.p416_syntax.specs.Written.{written_exp, written_type, written_cast}
 use Rattle.token_sheet.specs.declared.blanks.Gap.{Gap}
 use Rattle.token_sheet.specs.declared.blanks.Gap.TheVariants.{Nothing, Space}
 use Rattle.token_sheet.specs.Words.{Word}

@@ -1,7 +1,7 @@
 -- An expression as it is written at its place (P4_16 1.2, "Expressions"; where more parentheses stand than have to, is this
 -- project's own).
 use Rattle.std.specs.Prelude.{Bool, false}
-use Rattle.p416_ast.specs.Tree.{Exp16}
+use Rattle.p416_syntax.specs.Tree.{Exp16}
 use Rattle.p416_parentheses.specs.Expressions.{is_wrapped, is_wrapped_base, wrapped, within}
 use Rattle.p416_exp_writer.specs.declared.work.Form.{Form}
 use Rattle.p416_exp_writer.specs.declared.work.Form.TheVariants as form

@@ -1,7 +1,7 @@
 // The parts that an expression is written with, in order.
 ghost use Rattle.std.specs.Prelude.{◌≡◌, ◌++◌, ◌∷◌, OnOk};
-ghost use Rattle.p416_ast.specs.declared.views.ExpHead.TheVariants.{Binary, Choice, Listed};
-ghost use Rattle.p416_ast.specs.Heads.{of_exp_head};
+ghost use Rattle.p416_syntax.specs.declared.views.ExpHead.TheVariants.{Binary, Choice, Listed};
+ghost use Rattle.p416_syntax.specs.Heads.{of_exp_head};
 ghost use Rattle.p416_parentheses.specs.Expressions as parentheses;
 ghost use Rattle.p416_exp_writer.specs.Placed.{is_wrapped_as};
 ghost use Rattle.p416_exp_writer.specs.declared.work.Form.TheVariants.{Base};
@@ -12,9 +12,8 @@ use crate::operators::{operator_token, prefix_mark, truth_word};
 use crate::pushes::{push_five, push_four};
 use crate::work::{Form, Part, Work};
 use p4x_bits::OutOfMemory;
-use p416_ast::{BinaryOperator, ExpHead, ExpView};
-use p416_lexemes::{Keyword16, Mark16};
 use p416_sheet::{Gap, TextView, Token16};
+use p416_syntax::{BinaryOperator, ExpHead, ExpView, Keyword16, Mark16};
 use work_stack::Stack;
 
 /// The one member that the grammar reads in another way.

@@ -2,9 +2,8 @@
 ghost use Rattle.std.specs.Prelude.{◌≡◌};
 ghost use Rattle.p416_exp_writer.specs.Layouts.{prefix_mark, operator_token, truth_word};
 
-use p416_ast::{BinaryOperator, UnaryOperator};
-use p416_lexemes::{Keyword16, Mark16};
 use p416_sheet::Token16;
+use p416_syntax::{BinaryOperator, Keyword16, Mark16, UnaryOperator};
 
 pub fn truth_word(value: bool) -> Keyword16
     ensures { result ≡ truth_word value }

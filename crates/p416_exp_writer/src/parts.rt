@@ -1,21 +1,20 @@
 // Types and other parts of expressions.
 ghost use Rattle.std.specs.Prelude.{◌≡◌, ◌++◌, ◌∷◌, [], OnOk, IsTrue};
-ghost use Rattle.p416_lexemes.specs.Spelt.{is_identifier16, is_spelt_literal16};
+ghost use Rattle.p416_syntax.specs.SpeltLexemes.{is_identifier16, is_spelt_literal16};
 ghost use Rattle.token_sheet.specs.declared.blanks.Gap.TheVariants.{Nothing};
 ghost use Rattle.p416_sheet.specs.declared.sheet.Token16.TheVariants.{Mark, Word, Number};
-ghost use Rattle.p416_ast.specs.declared.parts.Type16.TheVariants.{Named};
+ghost use Rattle.p416_syntax.specs.declared.parts.Type16.TheVariants.{Named};
 ghost use Rattle.p416_sheet.specs.Tokens.{words_put, is_put};
-ghost use Rattle.p416_ast.specs.Written.{written_size, written_type, written_cast};
-ghost use Rattle.p416_ast.specs.Tokens.{id, opens, seen_word, lookahead_text, dot, greater, paren_open, in_parens};
+ghost use Rattle.p416_syntax.specs.Written.{written_size, written_type, written_cast};
+ghost use Rattle.p416_syntax.specs.Tokens.{id, opens, seen_word, lookahead_text, dot, greater, paren_open, in_parens};
 ghost use Rattle.p416_spelling.specs.Words.{words16};
 ghost use Rattle.p416_exp_writer.specs.Spelt.{is_spelt_type, is_spelt_cast};
 ghost use Rattle.p416_exp_writer.specs.Layouts.{said_part, is_part_spelt};
 
 use crate::work::Part;
 use p4x_bits::OutOfMemory;
-use p416_ast::{CastType, Literal16, Type16};
-use p416_lexemes::{Keyword16, Mark16};
 use p416_sheet::{Gap, Put16, Sheet16, TextView, Token16, put_token, put_tokens};
+use p416_syntax::{CastType, Keyword16, Literal16, Mark16, Type16};
 use std::alloc::Global;
 
 const LOOKAHEAD: &[u8] = b"lookahead";

@@ -1,6 +1,6 @@
 // What is left to be written of an expression.
-use p416_ast::{CastType, ExpView, Literal16, Type16};
 use p416_sheet::{Gap, TextView, Token16};
+use p416_syntax::{CastType, ExpView, Literal16, Type16};
 
 /// Some tokens that are written at once.
 #[derive(Drop)]

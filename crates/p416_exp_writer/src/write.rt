@@ -1,6 +1,6 @@
 // Expressions and argument lists.
 ghost use Rattle.std.specs.Prelude.{◌≡◌, ◌++◌, ◌<◌, ◌+◌, OnOk, IsTrue};
-ghost use Rattle.p416_ast.specs.Written.{written_exp};
+ghost use Rattle.p416_syntax.specs.Written.{written_exp};
 ghost use Rattle.p416_spelling.specs.Words.{words16};
 ghost use Rattle.p416_exp_writer.specs.Placed.{written_as};
 ghost use Rattle.p416_exp_writer.specs.Spelt.{is_spelt_exp};
@@ -10,8 +10,8 @@ use crate::layout::push_expression;
 use crate::parts::write_part;
 use crate::work::{Form, Work};
 use p4x_bits::OutOfMemory;
-use p416_ast::ExpView;
 use p416_sheet::{Gap, Sheet16};
+use p416_syntax::ExpView;
 use std::alloc::Global;
 use work_stack::Stack;
 

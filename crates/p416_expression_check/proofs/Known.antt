@@ -1,16 +1,16 @@
 -- What is known of an expression tells which rule it breaks.
 use Rattle.std.proofs.Common.{◌≡◌, Bool, cond, not, Some, None, refl, sym, ap, ◌∙◌}
-use Rattle.p416_ast.specs.Tree.{Exp16, literal, truth, error, name, member, index, slice, call, lookahead, cast, unary, binary, choice, parenthesized, no_arguments, argument, listed}
-use Rattle.p416_rules.specs.declared.rule.ProgramRule.{ProgramRule}
-use Rattle.p416_rules.specs.Scopes.{Scope}
-use Rattle.p416_rules.specs.declared.rule.ProgramRule.TheVariants.{T1, T2, T3, T4}
-use Rattle.p416_rules.specs.Names.{Name}
-use Rattle.p416_rules.specs.Calls.{Place, value, written, any_bits, written_bits, one_bit, bits_or_boolean, written_header, emitted, literal_of, any_literal, item_list, member_place, select_key, table_key, target, owner, written_owner, a_stack, callee, statement, unasked, method_signature}
-use Rattle.p416_rules.specs.Expressions.{kind_of}
-use Rattle.p416_rules.specs.Types.{takes}
-use Rattle.p416_rules.specs.Literals.{overflows}
-use Rattle.p416_rules.specs.Unknown.{is_unknown_member}
-use Rattle.p416_rules.specs.Uses.{an_expression}
+use Rattle.p416_syntax.specs.Tree.{Exp16, literal, truth, error, name, member, index, slice, call, lookahead, cast, unary, binary, choice, parenthesized, no_arguments, argument, listed}
+use Rattle.p416_syntax.specs.declared.rule.ProgramRule.{ProgramRule}
+use Rattle.p416_syntax.specs.Scopes.{Scope}
+use Rattle.p416_syntax.specs.declared.rule.ProgramRule.TheVariants.{T1, T2, T3, T4}
+use Rattle.p416_syntax.specs.Names.{Name}
+use Rattle.p416_syntax.specs.Calls.{Place, value, written, any_bits, written_bits, one_bit, bits_or_boolean, written_header, emitted, literal_of, any_literal, item_list, member_place, select_key, table_key, target, owner, written_owner, a_stack, callee, statement, unasked, method_signature}
+use Rattle.p416_syntax.specs.Expressions.{kind_of}
+use Rattle.p416_syntax.specs.Types.{takes}
+use Rattle.p416_syntax.specs.Literals.{overflows}
+use Rattle.p416_syntax.specs.Unknown.{is_unknown_member}
+use Rattle.p416_syntax.specs.Uses.{an_expression}
 use Rattle.p416_typing.specs.Rows.{RowOf, row_of}
 use Rattle.p416_expression_check.specs.Judged.{first_lower, first_higher, first_of, first_broken}
 use Rattle.p416_expression_check.specs.internal.Broken.{unknown_member_by, unknown_by, leaves_by, lower_by, higher_by}

@@ -1,5 +1,5 @@
 -- Which place of a call a value of code is.
-use Rattle.p416_rules.specs.Calls as rule
+use Rattle.p416_syntax.specs.Calls as rule
 use Rattle.p416_expression_check.specs.declared.stands.Stand.{Stand}
 use Rattle.p416_expression_check.specs.declared.stands.Stand.TheVariants as stand_of
 

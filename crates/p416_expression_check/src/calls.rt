@@ -1,13 +1,13 @@
 // How many arguments calls have (P4_16 1.2, "Function calls and method invocations", "Actions").
 ghost use Rattle.std.specs.Prelude.{◌≡◌, List};
-ghost use Rattle.p416_rules.specs.Scopes.{Known};
+ghost use Rattle.p416_syntax.specs.Scopes.{Known};
 ghost use Rattle.p416_calls.specs.Seen.{seen_callee};
-ghost use Rattle.p416_kinds.specs.Seen.{seen_kind};
+ghost use Rattle.p416_names.specs.SeenKinds.{seen_kind};
 ghost use Rattle.p416_expression_check.specs.internal.Broken.{takes_other_by, miscounted_by, application_by};
 
-use p416_ast::{ExpHead, ExpView};
 use p416_calls::Callee;
-use p416_kinds::Kind;
+use p416_names::Kind;
+use p416_syntax::{ExpHead, ExpView};
 
 /// Whether what is called takes another number of arguments.
 fn takes_other_count(called: Callee<'_>, given: usize) -> bool

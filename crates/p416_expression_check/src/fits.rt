@@ -1,7 +1,7 @@
 // Which sort of declaration a place asks for (P4_16 1.2, "Name resolution").
 ghost use Rattle.std.specs.Prelude.{◌≡◌, List};
-ghost use Rattle.p416_rules.specs.Scopes.{Known};
-ghost use Rattle.p416_rules.specs.Unknown as rules;
+ghost use Rattle.p416_syntax.specs.Scopes.{Known};
+ghost use Rattle.p416_syntax.specs.Unknown as rules;
 ghost use Rattle.p416_names.specs.Seen.{seen_sort};
 ghost use Rattle.p416_calls.specs.Seen.{seen_place};
 

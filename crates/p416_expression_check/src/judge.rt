@@ -1,7 +1,7 @@
 // The first rule that an expression breaks.
 ghost use Rattle.std.specs.Prelude.{◌≡◌};
-ghost use Rattle.p416_rules.specs.Declarations.{top_names};
-ghost use Rattle.p416_rules.specs.Uses.{an_expression};
+ghost use Rattle.p416_syntax.specs.Declarations.{top_names};
+ghost use Rattle.p416_syntax.specs.Uses.{an_expression};
 ghost use Rattle.p416_calls.specs.Seen.{seen_place};
 ghost use Rattle.p416_scopes.specs.Seen.{seen_scope};
 ghost use Rattle.p416_typing.specs.Rows.{row_of};
@@ -15,10 +15,9 @@ use crate::names::is_unknown;
 use crate::sizes::leaves_size;
 use crate::stands::{Standing, applies_nothing, is_misplaced};
 use crate::takes::takes;
-use p416_ast::ExpView;
 use p416_calls::Place;
-use p416_rules::ProgramRule;
 use p416_scopes::Scope;
+use p416_syntax::{ExpView, ProgramRule};
 use p416_typing::Row;
 
 /// The first of T1 to T4 that an expression breaks.

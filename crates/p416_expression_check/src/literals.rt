@@ -1,14 +1,14 @@
 // Whether a literal fits its width (P4_16 1.2, "Literal constants").
 ghost use Rattle.std.specs.Prelude.{◌≡◌, Option};
-ghost use Rattle.p416_rules.specs.Literals as rules;
-ghost use Rattle.p416_rules.specs.Scopes.{Scope as RuleScope};
-ghost use Rattle.p416_rules.specs.Uses.{an_expression};
-ghost use Rattle.p416_kinds.specs.Seen.{seen_kind};
+ghost use Rattle.p416_syntax.specs.Literals as rules;
+ghost use Rattle.p416_syntax.specs.Scopes.{Scope as RuleScope};
+ghost use Rattle.p416_syntax.specs.Uses.{an_expression};
+ghost use Rattle.p416_names.specs.SeenKinds.{seen_kind};
 ghost use Rattle.p416_calls.specs.Seen.{seen_place};
 
-use p416_ast::{ExpHead, ExpView, Literal16};
 use p416_calls::Place;
-use p416_kinds::Kind;
+use p416_names::Kind;
+use p416_syntax::{ExpHead, ExpView, Literal16};
 
 /// The width of bits.
 fn width_of_kind(kind: Kind<'_>) -> Option<u128>

@@ -1,20 +1,19 @@
 // Names, members and methods that aren't there (P4_16 1.2, "Name resolution").
 ghost use Rattle.std.specs.Prelude.{◌≡◌, List, is_none};
-ghost use Rattle.p416_rules.specs.Scopes.{Known};
-ghost use Rattle.p416_rules.specs.Declarations.{layouts_of, top_names};
-ghost use Rattle.p416_rules.specs.Expressions.{member_kind};
-ghost use Rattle.p416_rules.specs.Unknown.{has_lookahead};
-ghost use Rattle.p416_kinds.specs.Seen.{seen_kind};
+ghost use Rattle.p416_syntax.specs.Scopes.{Known};
+ghost use Rattle.p416_syntax.specs.Declarations.{layouts_of, top_names};
+ghost use Rattle.p416_syntax.specs.Expressions.{member_kind};
+ghost use Rattle.p416_syntax.specs.Unknown.{has_lookahead};
+ghost use Rattle.p416_names.specs.SeenKinds.{seen_kind};
 ghost use Rattle.p416_calls.specs.Seen.{seen_place, seen_callee};
 ghost use Rattle.p416_scopes.specs.Seen.{seen_scope};
 ghost use Rattle.p416_expression_check.specs.internal.Broken.{unknown_member_by, unknown_by};
 
 use crate::fits::fits_place;
-use p416_ast::{ExpHead, ExpView};
 use p416_calls::{Callee, Place};
-use p416_kinds::Kind;
-use p416_names::Top;
+use p416_names::{Kind, Top};
 use p416_scopes::Scope;
+use p416_syntax::{ExpHead, ExpView};
 use p416_typing::member_kind;
 
 /// Whether `lookahead` may be called on this.

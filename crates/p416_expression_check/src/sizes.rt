@@ -1,12 +1,12 @@
 // Widths and sizes that elements, slices and `++` leave (P4_16 1.2, "Header stacks", "Operations on `bit` types").
 ghost use Rattle.std.specs.Prelude.{◌≡◌, ◌+◌, nat_lt};
-ghost use Rattle.p416_ast.specs.declared.node.BinaryOperator.TheVariants.{Concatenate};
-ghost use Rattle.p416_rules.specs.Sizes as rules;
-ghost use Rattle.p416_kinds.specs.Seen.{seen_kind};
+ghost use Rattle.p416_syntax.specs.declared.node.BinaryOperator.TheVariants.{Concatenate};
+ghost use Rattle.p416_syntax.specs.Sizes as rules;
+ghost use Rattle.p416_names.specs.SeenKinds.{seen_kind};
 ghost use Rattle.p416_expression_check.specs.internal.Broken.{leaves_by};
 
-use p416_ast::{BinaryOperator, ExpHead, ExpView, Literal16};
-use p416_kinds::Kind;
+use p416_names::Kind;
+use p416_syntax::{BinaryOperator, ExpHead, ExpView, Literal16};
 
 /// Whether an element isn't one of a stack.
 fn leaves_stack(of: Kind<'_>, at: Literal16) -> bool

@@ -1,18 +1,18 @@
 // Where calls may stand, and `next` and `last` of a stack (`core.p4`; `v1model.p4`; P4_16 1.2, "Header stacks").
 ghost use Rattle.std.specs.Prelude.{◌≡◌, List, option_to_list};
-ghost use Rattle.p416_rules.specs.Scopes.{Known};
-ghost use Rattle.p416_rules.specs.Applications.{applies_nothing};
-ghost use Rattle.p416_rules.specs.Externs as rules;
-ghost use Rattle.p416_kinds.specs.Seen.{seen_kind};
+ghost use Rattle.p416_syntax.specs.Scopes.{Known};
+ghost use Rattle.p416_syntax.specs.Applications.{applies_nothing};
+ghost use Rattle.p416_syntax.specs.Externs as rules;
+ghost use Rattle.p416_names.specs.SeenKinds.{seen_kind};
 ghost use Rattle.p416_calls.specs.Seen.{seen_callee, function_seen, method_seen};
 ghost use Rattle.p416_scopes.specs.Seen.{seen_part};
 ghost use Rattle.p416_expression_check.specs.Stands.{seen_stand};
 ghost use Rattle.p416_expression_check.specs.internal.Broken.{all_allowed, may_stand_by, stands_elsewhere_by, outside_parser_by, misplaced_by};
 
-use p416_ast::{ExpHead, ExpView};
 use p416_calls::{Callee, Function, Method};
-use p416_kinds::{Kind, is_among};
+use p416_names::{Kind, is_among};
 use p416_scopes::Part;
+use p416_syntax::{ExpHead, ExpView};
 
 /// Where a call may stand.
 #[derive(Clone, Copy, Drop)]

@@ -1,14 +1,14 @@
 // Which kinds a place takes (P4_16 1.2, "Expressions", "Statements").
 ghost use Rattle.std.specs.Prelude.{◌≡◌};
-ghost use Rattle.p416_ast.specs.Tree.{no_arguments};
-ghost use Rattle.p416_rules.specs.Calls.{select_key};
-ghost use Rattle.p416_rules.specs.Types as rules;
-ghost use Rattle.p416_kinds.specs.Seen.{seen_kind};
+ghost use Rattle.p416_syntax.specs.Tree.{no_arguments};
+ghost use Rattle.p416_syntax.specs.Calls.{select_key};
+ghost use Rattle.p416_syntax.specs.Types as rules;
+ghost use Rattle.p416_names.specs.SeenKinds.{seen_kind};
 ghost use Rattle.p416_calls.specs.Seen.{seen_place};
 
-use p416_ast::{ExpHead, ExpView};
 use p416_calls::Place;
-use p416_kinds::Kind;
+use p416_names::Kind;
+use p416_syntax::{ExpHead, ExpView};
 
 /// Whether this is a number or a truth value as it is written.
 fn is_literal(view: &ExpView<'_>) -> bool

@@ -1,9 +1,9 @@
 -- The place of an argument that a table gives its default action.
 use Rattle.std.proofs.Common.{◌≡◌, ℕ, zero, suc, Option, Some, None, List, [], ◌∷◌, map, get_or, slice_get, refl, ap}
-use Rattle.p416_ast.specs.declared.parts.Param.{Param}
-use Rattle.p416_rules.specs.Scopes.{Known, handed}
-use Rattle.p416_rules.specs.Calls.{Place, any_literal}
-use Rattle.p416_rules.specs.Declarations.{default_place}
+use Rattle.p416_syntax.specs.declared.parts.Param.{Param}
+use Rattle.p416_syntax.specs.Scopes.{Known, handed}
+use Rattle.p416_syntax.specs.Calls.{Place, any_literal}
+use Rattle.p416_syntax.specs.Declarations.{default_place}
 
 abbrev placed : List Known → Option Param → Place
 placed names (Some p) = default_place (handed names p)

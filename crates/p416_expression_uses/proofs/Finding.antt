@@ -2,22 +2,22 @@
 use Rattle.std.proofs.Common.{◌≡◌, Bool, true, false, not, if◌then◌else◌, Option, Some, None, List, [], ◌∷◌, ◌++◌, option_to_list, filter_map, flat_map, refl, sym, ap, ◌∙◌}
 use Rattle.std.proofs.lemmas.Bool.{false≢true}
 use Rattle.std.proofs.lemmas.List.{append_assoc, append-nil}
-use Rattle.p416_lexemes.specs.declared.lexeme.Literal16.{Literal16}
-use Rattle.p416_ast.specs.declared.parts.Type16.{Type16}
-use Rattle.p416_ast.specs.declared.parts.Type16.TheVariants.{Named}
-use Rattle.p416_ast.specs.Tree.{Exp16, literal, truth, error, name, member, index, slice, call, lookahead, cast, unary, binary, choice, parenthesized, no_arguments, argument, listed}
-use Rattle.p416_rules.specs.declared.rule.ProgramRule.{ProgramRule}
-use Rattle.p416_rules.specs.declared.rule.ProgramRule.TheVariants.{T1, T3}
-use Rattle.p416_rules.specs.Names.{Name}
-use Rattle.p416_rules.specs.Kinds.{Kind}
-use Rattle.p416_rules.specs.Scopes.{Scope, sort_of}
-use Rattle.p416_rules.specs.Calls.{Place, callee}
-use Rattle.p416_rules.specs.Uses.{Use, an_expression, a_type, a_name, names_of_scope, a_width, a_size, a_number, a_header, a_member, a_keyset, a_count, a_switch, some_parameters, some_counters, a_table_of, a_body, TypePlace}
-use Rattle.p416_rules.specs.Unknown.{is_type_sort}
-use Rattle.p416_rules.specs.Types.{is_misplaced}
-use Rattle.p416_rules.specs.Applications.{called_action, called_name}
-use Rattle.p416_rules.specs.Expressions.{kind_of}
-use Rattle.p416_rules.specs.Totals.{held_kinds}
+use Rattle.p416_syntax.specs.declared.lexeme.Literal16.{Literal16}
+use Rattle.p416_syntax.specs.declared.parts.Type16.{Type16}
+use Rattle.p416_syntax.specs.declared.parts.Type16.TheVariants.{Named}
+use Rattle.p416_syntax.specs.Tree.{Exp16, literal, truth, error, name, member, index, slice, call, lookahead, cast, unary, binary, choice, parenthesized, no_arguments, argument, listed}
+use Rattle.p416_syntax.specs.declared.rule.ProgramRule.{ProgramRule}
+use Rattle.p416_syntax.specs.declared.rule.ProgramRule.TheVariants.{T1, T3}
+use Rattle.p416_syntax.specs.Names.{Name}
+use Rattle.p416_syntax.specs.Kinds.{Kind}
+use Rattle.p416_syntax.specs.Scopes.{Scope, sort_of}
+use Rattle.p416_syntax.specs.Calls.{Place, callee}
+use Rattle.p416_syntax.specs.Uses.{Use, an_expression, a_type, a_name, names_of_scope, a_width, a_size, a_number, a_header, a_member, a_keyset, a_count, a_switch, some_parameters, some_counters, a_table_of, a_body, TypePlace}
+use Rattle.p416_syntax.specs.Unknown.{is_type_sort}
+use Rattle.p416_syntax.specs.Types.{is_misplaced}
+use Rattle.p416_syntax.specs.Applications.{called_action, called_name}
+use Rattle.p416_syntax.specs.Expressions.{kind_of}
+use Rattle.p416_syntax.specs.Totals.{held_kinds}
 use Rattle.p416_names.specs.Seen.{kind_of_named}
 use Rattle.p416_typing.specs.Rows.{RowOf, row_of, left_of}
 use Rattle.p416_expression_check.specs.Judged.{first_of, first_broken}

@@ -4,24 +4,24 @@ use Rattle.std.specs.List.{list_any}
 use Rattle.std.proofs.lemmas.Bool.{false≢true}
 use Rattle.std.proofs.lemmas.Bool.Decides.{nat_tests}
 use Rattle.std.proofs.lemmas.List.Folds.{list_any-append}
-use Rattle.p416_ast.specs.declared.parts.Param.{Param}
-use Rattle.p416_ast.specs.declared.node.CaseLabel.{CaseLabel}
-use Rattle.p416_ast.specs.declared.controls.Table16.{Table16}
-use Rattle.p416_rules.specs.declared.rule.ProgramRule.{ProgramRule}
-use Rattle.p416_rules.specs.declared.rule.ProgramRule.TheVariants.{T1, T2, T3, T4, T5, T6, T8, T9, T10}
-use Rattle.p416_rules.specs.Breaks.{rule_number}
-use Rattle.p416_rules.specs.Names.{Name, repeats}
-use Rattle.p416_rules.specs.Scopes.{Scope, sort_of}
-use Rattle.p416_rules.specs.Uses.{Use, a_switch, some_parameters, some_counters, a_table_of}
-use Rattle.p416_rules.specs.Unknown.{is_misnamed}
-use Rattle.p416_rules.specs.Sizes.{leaves_size}
-use Rattle.p416_rules.specs.Types.{is_mistyped}
-use Rattle.p416_rules.specs.Literals.{overflows}
-use Rattle.p416_rules.specs.Writes.{writes_constant}
-use Rattle.p416_rules.specs.Arguments.{is_miscounted}
-use Rattle.p416_rules.specs.Applications.{applies_nothing, applies_wrongly}
-use Rattle.p416_rules.specs.Externs.{is_outside_block}
-use Rattle.p416_rules.specs.Tables.{is_bad_table, is_behind, is_outside_label, listed_by}
+use Rattle.p416_syntax.specs.declared.parts.Param.{Param}
+use Rattle.p416_syntax.specs.declared.node.CaseLabel.{CaseLabel}
+use Rattle.p416_syntax.specs.declared.controls.Table16.{Table16}
+use Rattle.p416_syntax.specs.declared.rule.ProgramRule.{ProgramRule}
+use Rattle.p416_syntax.specs.declared.rule.ProgramRule.TheVariants.{T1, T2, T3, T4, T5, T6, T8, T9, T10}
+use Rattle.p416_syntax.specs.Breaks.{rule_number}
+use Rattle.p416_syntax.specs.Names.{Name, repeats}
+use Rattle.p416_syntax.specs.Scopes.{Scope, sort_of}
+use Rattle.p416_syntax.specs.Uses.{Use, a_switch, some_parameters, some_counters, a_table_of}
+use Rattle.p416_syntax.specs.Unknown.{is_misnamed}
+use Rattle.p416_syntax.specs.Sizes.{leaves_size}
+use Rattle.p416_syntax.specs.Types.{is_mistyped}
+use Rattle.p416_syntax.specs.Literals.{overflows}
+use Rattle.p416_syntax.specs.Writes.{writes_constant}
+use Rattle.p416_syntax.specs.Arguments.{is_miscounted}
+use Rattle.p416_syntax.specs.Applications.{applies_nothing, applies_wrongly}
+use Rattle.p416_syntax.specs.Externs.{is_outside_block}
+use Rattle.p416_syntax.specs.Tables.{is_bad_table, is_behind, is_outside_label, listed_by}
 use Rattle.p416_expression_check.specs.Judged.{first_of, first_broken}
 use Rattle.p416_expression_uses.specs.First.{UseRule, is_bad_elsewhere, use_rules, first_by, first_in, lower}
 

@@ -1,14 +1,14 @@
 -- An expression is judged from its front to its end as it is judged within itself.
 use Rattle.std.proofs.Common.{◌≡◌, ℕ, ◌+◌, ◌-◌, ◌<◌, List, [], ◌∷◌, ◌++◌, length, drop, map, get_or, refl, sym, ap, ◌∙◌, arith, add-one, drop-cons}
 use Rattle.std.proofs.lemmas.List.{append_assoc, append-nil}
-use Rattle.p416_ast.specs.Tree.{Exp16, literal, truth, error, name, member, index, slice, call, lookahead, cast, unary, binary, choice, parenthesized, no_arguments, argument, listed}
-use Rattle.p416_ast.specs.Subtrees.{subexpressions}
-use Rattle.p416_rules.specs.Kinds.{boolean}
-use Rattle.p416_rules.specs.Scopes.{Scope, Known}
-use Rattle.p416_rules.specs.Calls.{Place, value, any_bits, owner, a_stack, callee, unasked, method_signature}
-use Rattle.p416_rules.specs.Expressions.{kind_of, signature_of, argument_count}
-use Rattle.p416_rules.specs.Uses.{Use, Places, one, many, owner_place, wanted_by, cast_place, unary_place, left_place, right_place, chosen_place, uses_at}
-use Rattle.p416_kinds.specs.Seen.{seen_kind}
+use Rattle.p416_syntax.specs.Tree.{Exp16, literal, truth, error, name, member, index, slice, call, lookahead, cast, unary, binary, choice, parenthesized, no_arguments, argument, listed}
+use Rattle.p416_syntax.specs.Subtrees.{subexpressions}
+use Rattle.p416_syntax.specs.Kinds.{boolean}
+use Rattle.p416_syntax.specs.Scopes.{Scope, Known}
+use Rattle.p416_syntax.specs.Calls.{Place, value, any_bits, owner, a_stack, callee, unasked, method_signature}
+use Rattle.p416_syntax.specs.Expressions.{kind_of, signature_of, argument_count}
+use Rattle.p416_syntax.specs.Uses.{Use, Places, one, many, owner_place, wanted_by, cast_place, unary_place, left_place, right_place, chosen_place, uses_at}
+use Rattle.p416_names.specs.SeenKinds.{seen_kind}
 use Rattle.p416_typing.specs.declared.row.Row.{Row}
 use Rattle.p416_typing.specs.Seen.{seen_row}
 use Rattle.p416_typing.specs.Rows.{RowOf, row_of}

@@ -3,19 +3,19 @@
 -- direct counters are counted.
 use Rattle.std.specs.Prelude.{Bool, false, nat_le, if◌then◌else◌, List, [], ◌∷◌, Option, Some, None}
 use Rattle.std.specs.List.{list_any}
-use Rattle.p416_rules.specs.declared.rule.ProgramRule.{ProgramRule}
-use Rattle.p416_rules.specs.declared.rule.ProgramRule.TheVariants.{T1, T2, T3, T4, T5, T6, T8, T9, T10}
-use Rattle.p416_rules.specs.Breaks.{rule_number}
-use Rattle.p416_rules.specs.Uses.{Use, an_expression}
-use Rattle.p416_rules.specs.Unknown.{is_misnamed}
-use Rattle.p416_rules.specs.Sizes.{leaves_size}
-use Rattle.p416_rules.specs.Types.{is_mistyped}
-use Rattle.p416_rules.specs.Literals.{overflows}
-use Rattle.p416_rules.specs.Writes.{writes_constant}
-use Rattle.p416_rules.specs.Arguments.{is_miscounted}
-use Rattle.p416_rules.specs.Applications.{applies_wrongly}
-use Rattle.p416_rules.specs.Externs.{is_outside_block}
-use Rattle.p416_rules.specs.Tables.{is_bad_in_table}
+use Rattle.p416_syntax.specs.declared.rule.ProgramRule.{ProgramRule}
+use Rattle.p416_syntax.specs.declared.rule.ProgramRule.TheVariants.{T1, T2, T3, T4, T5, T6, T8, T9, T10}
+use Rattle.p416_syntax.specs.Breaks.{rule_number}
+use Rattle.p416_syntax.specs.Uses.{Use, an_expression}
+use Rattle.p416_syntax.specs.Unknown.{is_misnamed}
+use Rattle.p416_syntax.specs.Sizes.{leaves_size}
+use Rattle.p416_syntax.specs.Types.{is_mistyped}
+use Rattle.p416_syntax.specs.Literals.{overflows}
+use Rattle.p416_syntax.specs.Writes.{writes_constant}
+use Rattle.p416_syntax.specs.Arguments.{is_miscounted}
+use Rattle.p416_syntax.specs.Applications.{applies_wrongly}
+use Rattle.p416_syntax.specs.Externs.{is_outside_block}
+use Rattle.p416_syntax.specs.Tables.{is_bad_in_table}
 
 -- what is judged breaks T9, but for expressions
 abbrev pub is_bad_elsewhere : Use → Bool

@@ -1,17 +1,17 @@
 -- What is found as one use after another is judged: the first rule that is broken, and what questions about more than one use
 -- need.
 use Rattle.std.specs.Prelude.{List, [], ◌∷◌, ◌++◌, option_to_list, if◌then◌else◌, Option, None}
-use Rattle.p416_ast.specs.Tree.{Exp16, name, member}
-use Rattle.p416_rules.specs.declared.rule.ProgramRule.{ProgramRule}
-use Rattle.p416_rules.specs.Names.{Name}
-use Rattle.p416_rules.specs.Kinds.{Kind}
-use Rattle.p416_rules.specs.Scopes.{Scope, Part, in_action}
-use Rattle.p416_rules.specs.Calls.{Place, callee}
-use Rattle.p416_rules.specs.Expressions.{kind_of}
-use Rattle.p416_rules.specs.Uses.{Use, an_expression}
-use Rattle.p416_rules.specs.Applications.{called_action}
-use Rattle.p416_rules.specs.Tables.{is_direct_counter}
-use Rattle.p416_rules.specs.Totals.{held_kinds}
+use Rattle.p416_syntax.specs.Tree.{Exp16, name, member}
+use Rattle.p416_syntax.specs.declared.rule.ProgramRule.{ProgramRule}
+use Rattle.p416_syntax.specs.Names.{Name}
+use Rattle.p416_syntax.specs.Kinds.{Kind}
+use Rattle.p416_syntax.specs.Scopes.{Scope, Part, in_action}
+use Rattle.p416_syntax.specs.Calls.{Place, callee}
+use Rattle.p416_syntax.specs.Expressions.{kind_of}
+use Rattle.p416_syntax.specs.Uses.{Use, an_expression}
+use Rattle.p416_syntax.specs.Applications.{called_action}
+use Rattle.p416_syntax.specs.Tables.{is_direct_counter}
+use Rattle.p416_syntax.specs.Totals.{held_kinds}
 use Rattle.p416_expression_uses.specs.First.{first_in, lower}
 
 -- a direct counter that is counted in an action

@@ -1,10 +1,10 @@
 -- Which place of a type, and which places of parts of an expression, values of code are.
 use Rattle.std.specs.Prelude.{List, [], map}
-use Rattle.p416_rules.specs.Scopes.{Known}
-use Rattle.p416_rules.specs.Calls.{Place, any_bits, unasked, any_literal}
-use Rattle.p416_rules.specs.Uses as rule
-use Rattle.p416_rules.specs.Uses.{one, many, wanted_by}
-use Rattle.p416_rules.specs.Declarations.{default_place, sort_parameters}
+use Rattle.p416_syntax.specs.Scopes.{Known}
+use Rattle.p416_syntax.specs.Calls.{Place, any_bits, unasked, any_literal}
+use Rattle.p416_syntax.specs.Uses as rule
+use Rattle.p416_syntax.specs.Uses.{one, many, wanted_by}
+use Rattle.p416_syntax.specs.Declarations.{default_place, sort_parameters}
 use Rattle.p416_names.specs.Seen.{seen_sort}
 use Rattle.p416_calls.specs.Seen.{seen_place, seen_callee}
 use Rattle.p416_expression_uses.specs.declared.found.Counted.{Counted}

@@ -2,7 +2,7 @@
 ghost use Rattle.std.specs.Prelude.{◌≡◌, Some};
 ghost use Rattle.p416_expression_uses.specs.First.{lower};
 
-use p416_rules::ProgramRule;
+use p416_syntax::ProgramRule;
 
 /// The lower one of this rule and another, where there is another.
 fn lower_of(rule: ProgramRule, other: Option<ProgramRule>) -> Option<ProgramRule>

@@ -1,13 +1,13 @@
 // What is found as one use after another is judged.
 ghost use Rattle.std.specs.Prelude.{◌≡◌, ◌++◌, ◌∷◌, [], true, map, option_to_list, List, OnOk};
 ghost use Rattle.std.specs.Option.{option_map};
-ghost use Rattle.p416_rules.specs.Scopes.{Known};
-ghost use Rattle.p416_rules.specs.Declarations.{top_names};
-ghost use Rattle.p416_rules.specs.Calls.{callee};
-ghost use Rattle.p416_rules.specs.Applications.{called_name, if_action};
-ghost use Rattle.p416_rules.specs.Tables.{is_direct_counter};
-ghost use Rattle.p416_rules.specs.Uses.{Use, an_expression};
-ghost use Rattle.p416_kinds.specs.Seen.{seen_kind, referred};
+ghost use Rattle.p416_syntax.specs.Scopes.{Known};
+ghost use Rattle.p416_syntax.specs.Declarations.{top_names};
+ghost use Rattle.p416_syntax.specs.Calls.{callee};
+ghost use Rattle.p416_syntax.specs.Applications.{called_name, if_action};
+ghost use Rattle.p416_syntax.specs.Tables.{is_direct_counter};
+ghost use Rattle.p416_syntax.specs.Uses.{Use, an_expression};
+ghost use Rattle.p416_names.specs.SeenKinds.{seen_kind, referred};
 ghost use Rattle.p416_names.specs.Seen.{seen_sort};
 ghost use Rattle.p416_calls.specs.Seen.{seen_place};
 ghost use Rattle.p416_scopes.specs.Seen.{seen_part, seen_scope};
@@ -21,13 +21,11 @@ ghost use Rattle.p416_expression_uses.specs.internal.Plain.{is_plain_use, is_lis
 
 use crate::first::lower;
 use p4x_bits::OutOfMemory;
-use p416_ast::{ExpHead, ExpView};
 use p416_calls::Place;
 use p416_expression_check::broken_rule;
-use p416_kinds::{Kind, ObjectKind};
-use p416_names::Sort;
-use p416_rules::ProgramRule;
+use p416_names::{Kind, ObjectKind, Sort};
 use p416_scopes::{Part, Scope};
+use p416_syntax::{ExpHead, ExpView, ProgramRule};
 use p416_typing::Row;
 use std::alloc::Global;
 use std::marker::Model;
@@ -42,7 +40,6 @@ pub struct Counted<'a> {
 }
 
 /// What was found as one use after another was judged. Contracts see it as a record of lists.
-#[derive(Drop)]
 pub struct Findings<'a> {
     rule: Option<ProgramRule>,
     called: Vec<&'a [u8]>,
@@ -50,9 +47,20 @@ pub struct Findings<'a> {
     held: Vec<Kind<'a>>,
 }
 
+impl Drop for Findings<'_> {
+    fn drop(self) {
+        let Findings {
+            rule: _rule,
+            called: _called,
+            counted: _counted,
+            held: _held,
+        } = self;
+    }
+}
+
 impl<'a> Model for Findings<'a> {
     ghost use Rattle.std.specs.Prelude.{map};
-    ghost use Rattle.p416_kinds.specs.Seen.{seen_kind};
+    ghost use Rattle.p416_names.specs.SeenKinds.{seen_kind};
     ghost use Rattle.p416_expression_uses.specs.Found.{Found};
     ghost use Rattle.p416_expression_uses.specs.Seen.{seen_counted};
 

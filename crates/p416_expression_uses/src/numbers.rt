@@ -1,14 +1,13 @@
 // Numbers that stand by themselves (P4_16 1.2, "Literal constants", "Base types", "Header stacks").
 ghost use Rattle.std.specs.Prelude.{◌≡◌};
-ghost use Rattle.p416_rules.specs.Sizes.{is_outside};
-ghost use Rattle.p416_rules.specs.Uses.{a_width, a_size, a_number, cast_numbers};
+ghost use Rattle.p416_syntax.specs.Sizes.{is_outside};
+ghost use Rattle.p416_syntax.specs.Uses.{a_width, a_size, a_number, cast_numbers};
 ghost use Rattle.p416_expression_check.specs.Judged.{first_broken};
 ghost use Rattle.p416_expression_uses.specs.Found.{after, after_all};
 
 use crate::found::Findings;
-use p416_ast::{CastType, Literal16};
 use p416_expression_check::is_too_large;
-use p416_rules::ProgramRule;
+use p416_syntax::{CastType, Literal16, ProgramRule};
 
 /// The most bits of a width.
 const MOST_BITS: u128 = 128;

@@ -1,13 +1,13 @@
 // The places of the parts of expressions (P4_16 1.2, "Expressions", "Casts").
 ghost use Rattle.std.specs.Prelude.{◌≡◌, List};
-ghost use Rattle.p416_rules.specs.Scopes.{Known};
-ghost use Rattle.p416_rules.specs.Uses as rules;
-ghost use Rattle.p416_kinds.specs.Seen.{seen_kind};
+ghost use Rattle.p416_syntax.specs.Scopes.{Known};
+ghost use Rattle.p416_syntax.specs.Uses as rules;
+ghost use Rattle.p416_names.specs.SeenKinds.{seen_kind};
 ghost use Rattle.p416_calls.specs.Seen.{seen_place, seen_callee};
 
-use p416_ast::{BinaryOperator, CastType, UnaryOperator};
 use p416_calls::{Callee, Place};
-use p416_kinds::Kind;
+use p416_names::Kind;
+use p416_syntax::{BinaryOperator, CastType, UnaryOperator};
 
 /// The place of operands that have to have one width, given that of the whole and what the operands are.
 fn joint_place<'a>(place: Place<'a>, a: Kind<'a>, b: Kind<'a>) -> Place<'a>

@@ -1,16 +1,16 @@
 // The places of an expression or of the arguments of a list.
 ghost use Rattle.std.specs.Prelude.{◌≡◌, map, get_or};
-ghost use Rattle.p416_rules.specs.Scopes.{handed};
-ghost use Rattle.p416_rules.specs.Calls.{any_literal};
-ghost use Rattle.p416_rules.specs.Declarations.{top_names, default_place, sort_parameters};
+ghost use Rattle.p416_syntax.specs.Scopes.{handed};
+ghost use Rattle.p416_syntax.specs.Calls.{any_literal};
+ghost use Rattle.p416_syntax.specs.Declarations.{top_names, default_place, sort_parameters};
 ghost use Rattle.p416_names.specs.Seen.{seen_sort};
 ghost use Rattle.p416_calls.specs.Seen.{seen_place};
 ghost use Rattle.p416_expression_uses.specs.Seen.{wanted_in, otherwise_in};
 ghost use Rattle.p416_expression_uses.specs.internal.Runs.{place_in};
 
-use p416_ast::Action16;
 use p416_calls::{Callee, Place};
 use p416_names::{Sort, Top};
+use p416_syntax::Action16;
 
 /// What the places of the arguments of a list are told by.
 #[derive(Clone, Copy, Drop)]

@@ -1,8 +1,8 @@
 // Where the parts of an expression that are still to come stand.
 ghost use Rattle.std.specs.Prelude.{◌≡◌, [], ◌∷◌, ◌++◌, OnOk, List};
-ghost use Rattle.p416_ast.specs.Heads.{of_exp_head};
-ghost use Rattle.p416_rules.specs.Scopes.{Known};
-ghost use Rattle.p416_rules.specs.Declarations.{top_names};
+ghost use Rattle.p416_syntax.specs.Heads.{of_exp_head};
+ghost use Rattle.p416_syntax.specs.Scopes.{Known};
+ghost use Rattle.p416_syntax.specs.Declarations.{top_names};
 ghost use Rattle.p416_calls.specs.Seen.{seen_place};
 ghost use Rattle.p416_typing.specs.Seen.{seen_row};
 ghost use Rattle.p416_expression_uses.specs.Seen.{wanted_in, otherwise_in};
@@ -13,10 +13,9 @@ use crate::operands::{
 };
 use crate::places::{Arguments, Places};
 use p4x_bits::OutOfMemory;
-use p416_ast::ExpHead;
 use p416_calls::{Callee, Place};
-use p416_kinds::Kind;
-use p416_names::Top;
+use p416_names::{Kind, Top};
+use p416_syntax::ExpHead;
 use p416_typing::Row;
 use work_stack::Stack;
 

@@ -1,12 +1,12 @@
 // Types in their places (P4_16 1.2, "Types", "Name resolution").
 ghost use Rattle.std.specs.Prelude.{◌≡◌, List, map, option_to_list, OnOk};
-ghost use Rattle.p416_ast.specs.declared.parts.Type16.TheVariants.{Named};
-ghost use Rattle.p416_rules.specs.Names.{Name};
-ghost use Rattle.p416_rules.specs.Scopes.{Known};
-ghost use Rattle.p416_rules.specs.Types.{is_misplaced};
-ghost use Rattle.p416_rules.specs.Totals.{is_held, is_compound, if_held, held_kinds};
-ghost use Rattle.p416_rules.specs.Uses.{a_type, of_field, type_numbers, type_uses};
-ghost use Rattle.p416_kinds.specs.Seen.{seen_kind};
+ghost use Rattle.p416_syntax.specs.declared.parts.Type16.TheVariants.{Named};
+ghost use Rattle.p416_syntax.specs.Names.{Name};
+ghost use Rattle.p416_syntax.specs.Scopes.{Known};
+ghost use Rattle.p416_syntax.specs.Types.{is_misplaced};
+ghost use Rattle.p416_syntax.specs.Totals.{is_held, is_compound, if_held, held_kinds};
+ghost use Rattle.p416_syntax.specs.Uses.{a_type, of_field, type_numbers, type_uses};
+ghost use Rattle.p416_names.specs.SeenKinds.{seen_kind};
 ghost use Rattle.p416_names.specs.Seen.{seen_sort};
 ghost use Rattle.p416_scopes.specs.Seen.{seen_scope};
 ghost use Rattle.p416_expression_check.specs.Judged.{first_broken};
@@ -17,11 +17,9 @@ ghost use Rattle.p416_expression_uses.specs.internal.Runs.{kind_rule, named_rule
 use crate::found::Findings;
 use crate::numbers::{see_size, see_width};
 use p4x_bits::OutOfMemory;
-use p416_ast::{Literal16, Type16};
-use p416_kinds::Kind;
-use p416_names::Sort;
-use p416_rules::ProgramRule;
+use p416_names::{Kind, Sort};
 use p416_scopes::Scope;
+use p416_syntax::{Literal16, ProgramRule, Type16};
 
 /// What a type stands for.
 #[derive(Clone, Copy, Drop)]

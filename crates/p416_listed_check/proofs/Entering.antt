@@ -6,11 +6,11 @@ use Rattle.std.specs.Str.{bytes_eq}
 use Rattle.std.proofs.lemmas.Bool.{false≢true}
 use Rattle.std.proofs.lemmas.List.Folds.{list_any-append}
 use Rattle.std.proofs.lemmas.Slice.Eq.{bytes_eq-Decides}
-use Rattle.p416_ast.specs.declared.controls.ActionName.{ActionName}
-use Rattle.p416_ast.specs.declared.controls.ActionName.TheVariants as action_name
-use Rattle.p416_rules.specs.Names.{Name, has_name}
-use Rattle.p416_rules.specs.Scopes.{Sort, Known, Scope, sort_in, sort_of}
-use Rattle.p416_rules.specs.Tables.{is_same_action, is_bad_action, listed_by}
+use Rattle.p416_syntax.specs.declared.controls.ActionName.{ActionName}
+use Rattle.p416_syntax.specs.declared.controls.ActionName.TheVariants as action_name
+use Rattle.p416_syntax.specs.Names.{Name, has_name}
+use Rattle.p416_syntax.specs.Scopes.{Sort, Known, Scope, sort_in, sort_of}
+use Rattle.p416_syntax.specs.Tables.{is_same_action, is_bad_action, listed_by}
 use Rattle.p416_listed_check.specs.Pairs.{Pair, is_same_pair, is_listed_pair}
 use Rattle.p416_listed_check.specs.Listings.{Listed, AreListed, AreGiven, ListsScope, lists, is_table, is_known_table, tables_in}
 use Rattle.p416_listed_check.specs.internal.Labels.{Tells, is_listed}

@@ -2,15 +2,15 @@
 use Rattle.std.proofs.Common.{◌≡◌, ◌+◌, ◌<◌, Bool, true, false, not, ◌||◌, List, [], ◌∷◌, refl, sym, ap, ◌∙◌, arith}
 use Rattle.std.specs.List.{list_any}
 use Rattle.std.proofs.lemmas.List.Folds.{list_any-append}
-use Rattle.p416_ast.specs.declared.node.CaseLabel.{CaseLabel}
-use Rattle.p416_ast.specs.declared.node.CaseLabel.TheVariants as label
-use Rattle.p416_ast.specs.declared.controls.ActionName.{ActionName}
-use Rattle.p416_ast.specs.declared.controls.ActionName.TheVariants as action_name
-use Rattle.p416_ast.specs.Tree.{Stmt16, case_of}
-use Rattle.p416_rules.specs.Names.{Name}
-use Rattle.p416_rules.specs.Scopes.{Sort, Scope, sort_of}
-use Rattle.p416_rules.specs.Statements.{labels_of}
-use Rattle.p416_rules.specs.Tables.{is_same_action, is_outside_label, listed_by}
+use Rattle.p416_syntax.specs.declared.node.CaseLabel.{CaseLabel}
+use Rattle.p416_syntax.specs.declared.node.CaseLabel.TheVariants as label
+use Rattle.p416_syntax.specs.declared.controls.ActionName.{ActionName}
+use Rattle.p416_syntax.specs.declared.controls.ActionName.TheVariants as action_name
+use Rattle.p416_syntax.specs.Tree.{Stmt16, case_of}
+use Rattle.p416_syntax.specs.Names.{Name}
+use Rattle.p416_syntax.specs.Scopes.{Sort, Scope, sort_of}
+use Rattle.p416_syntax.specs.Statements.{labels_of}
+use Rattle.p416_syntax.specs.Tables.{is_same_action, is_outside_label, listed_by}
 use Rattle.p416_listed_check.specs.Pairs.{Pair}
 use Rattle.p416_listed_check.specs.internal.Labels.{is_listed, is_outside_listed, case_count}
 

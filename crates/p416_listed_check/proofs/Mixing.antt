@@ -7,11 +7,11 @@ use Rattle.std.specs.Str.{bytes_eq}
 use Rattle.std.proofs.lemmas.Bool.{false≢true}
 use Rattle.std.proofs.lemmas.Slice.Eq.{bytes_eq-Decides}
 use Rattle.name_numbers.specs.Names.{find_name}
-use Rattle.p416_ast.specs.declared.controls.ActionName.{ActionName}
-use Rattle.p416_ast.specs.declared.controls.ActionName.TheVariants as action_name
-use Rattle.p416_rules.specs.Names.{Name}
-use Rattle.p416_rules.specs.Scopes.{Scope}
-use Rattle.p416_rules.specs.Tables.{is_same_action, action_plane, is_mixed_up, mixes_up}
+use Rattle.p416_syntax.specs.declared.controls.ActionName.{ActionName}
+use Rattle.p416_syntax.specs.declared.controls.ActionName.TheVariants as action_name
+use Rattle.p416_syntax.specs.Names.{Name}
+use Rattle.p416_syntax.specs.Scopes.{Scope}
+use Rattle.p416_syntax.specs.Tables.{is_same_action, action_plane, is_mixed_up, mixes_up}
 use Rattle.p416_names.proofs.Found.{first_named, first_step}
 use Rattle.p416_listed_check.specs.internal.Mixed.{is_other, is_other_where, is_mixed}
 

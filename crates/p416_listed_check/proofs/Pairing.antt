@@ -8,10 +8,10 @@ use Rattle.std.proofs.lemmas.List.{map-append}
 use Rattle.std.proofs.lemmas.List.Folds.{list_any-append}
 use Rattle.std.proofs.lemmas.Slice.Eq.{bytes_eq-Decides}
 use Rattle.indexmap.specs.IndexSet.{insert_key}
-use Rattle.p416_ast.specs.declared.controls.ActionName.{ActionName}
-use Rattle.p416_ast.specs.declared.controls.ActionName.TheVariants as action_name
-use Rattle.p416_rules.specs.Names.{Name}
-use Rattle.p416_rules.specs.Tables.{is_same_action}
+use Rattle.p416_syntax.specs.declared.controls.ActionName.{ActionName}
+use Rattle.p416_syntax.specs.declared.controls.ActionName.TheVariants as action_name
+use Rattle.p416_syntax.specs.Names.{Name}
+use Rattle.p416_syntax.specs.Tables.{is_same_action}
 use Rattle.p416_listed_check.specs.Pairs.{Pair, shown_pair, is_same_pair, is_listed_pair}
 
 -- equal either way round

@@ -1,10 +1,10 @@
 -- What is known of tables and actions in scope that were gone through.
 use Rattle.std.specs.Prelude.{◌≡◌, Bool, true, false, ◌&&◌, List, filter}
 use Rattle.std.specs.List.{list_any}
-use Rattle.p416_ast.specs.declared.controls.ActionName.TheVariants as action_name
-use Rattle.p416_rules.specs.Names.{Name, has_name}
-use Rattle.p416_rules.specs.Scopes.{Sort, a_table, Known, Scope, sort_in}
-use Rattle.p416_rules.specs.Tables.{is_same_action, listed_by, is_bad_action}
+use Rattle.p416_syntax.specs.declared.controls.ActionName.TheVariants as action_name
+use Rattle.p416_syntax.specs.Names.{Name, has_name}
+use Rattle.p416_syntax.specs.Scopes.{Sort, a_table, Known, Scope, sort_in}
+use Rattle.p416_syntax.specs.Tables.{is_same_action, listed_by, is_bad_action}
 use Rattle.p416_listed_check.specs.Pairs.{Pair, is_same_pair}
 
 abbrev pub is_table : Sort → Bool

@@ -1,20 +1,19 @@
 // The parameters of the actions that a table lists (P4_16 1.2, "Actions", "Tables").
 ghost use Rattle.std.specs.Prelude.{◌≡◌, map, IfOk, OnOk};
 ghost use Rattle.std.specs.List.{list_any};
-ghost use Rattle.p416_ast.specs.declared.controls.ActionName.TheVariants as action_name;
-ghost use Rattle.p416_rules.specs.Scopes.{handed};
-ghost use Rattle.p416_rules.specs.Declarations.{top_names, sort_parameters};
-ghost use Rattle.p416_rules.specs.Tables.{is_not_given, is_bad_action};
+ghost use Rattle.p416_syntax.specs.declared.controls.ActionName.TheVariants as action_name;
+ghost use Rattle.p416_syntax.specs.Scopes.{handed};
+ghost use Rattle.p416_syntax.specs.Declarations.{top_names, sort_parameters};
+ghost use Rattle.p416_syntax.specs.Tables.{is_not_given, is_bad_action};
 ghost use Rattle.p416_names.specs.Seen.{seen_sort};
 ghost use Rattle.p416_scopes.specs.Seen.{seen_scope};
 ghost use Rattle.p416_listed_check.specs.Listings.{AreGiven};
 
 use p4x_bits::OutOfMemory;
-use p416_ast::{ActionName, Param};
-use p416_kinds::Kind;
 use p416_name_set::NameSet;
-use p416_names::{Sort, Top};
+use p416_names::{Kind, Sort, Top};
 use p416_scopes::Scope;
+use p416_syntax::{ActionName, Param};
 
 /// Whether an entry of a table can't give a parameter: it has a direction, or isn't bits.
 fn is_not_given(top: &Top<'_>, parameter: &Param) -> bool

@@ -1,12 +1,12 @@
 // The labels of `switch` (P4_16 1.2, "Switch statement").
 ghost use Rattle.std.specs.Prelude.{◌≡◌, [], Bool, true, ◌&&◌, List, MatchOption, IfOk, OnOk};
 ghost use Rattle.std.specs.List.{list_any};
-ghost use Rattle.p416_ast.specs.declared.controls.ActionName.TheVariants as action_name;
-ghost use Rattle.p416_ast.specs.Tree.{case_of};
-ghost use Rattle.p416_rules.specs.Names.{Name, has_name};
-ghost use Rattle.p416_rules.specs.Scopes.{Known, Scope as RuleScope, sort_in, sort_of};
-ghost use Rattle.p416_rules.specs.Statements.{labels_of};
-ghost use Rattle.p416_rules.specs.Tables.{is_outside_label, is_same_action, listed_by};
+ghost use Rattle.p416_syntax.specs.declared.controls.ActionName.TheVariants as action_name;
+ghost use Rattle.p416_syntax.specs.Tree.{case_of};
+ghost use Rattle.p416_syntax.specs.Names.{Name, has_name};
+ghost use Rattle.p416_syntax.specs.Scopes.{Known, Scope as RuleScope, sort_in, sort_of};
+ghost use Rattle.p416_syntax.specs.Statements.{labels_of};
+ghost use Rattle.p416_syntax.specs.Tables.{is_outside_label, is_same_action, listed_by};
 ghost use Rattle.p416_names.specs.Seen.{seen_sort};
 ghost use Rattle.p416_scopes.specs.Seen.{seen_scope};
 ghost use Rattle.p416_listed_check.specs.Listings.{AreListed, ListsScope};
@@ -14,10 +14,10 @@ ghost use Rattle.p416_listed_check.specs.internal.Labels.{Tells, is_listed, is_o
 
 use crate::pairs::{PairSet, add_actions};
 use p4x_bits::{OutOfMemory, Text};
-use p416_ast::{ActionName, CaseLabel, StmtHead, StmtView};
 use p416_name_set::NameSet;
 use p416_names::Sort;
 use p416_scopes::Scope;
+use p416_syntax::{ActionName, CaseLabel, StmtHead, StmtView};
 use std::alloc::Global;
 use std::marker::Model;
 

@@ -5,7 +5,7 @@ ghost use Rattle.p416_listed_check.specs.Pairs.{Pair, shown_pair, is_same_pair, 
 
 use indexmap::IndexSet;
 use p4x_bits::OutOfMemory;
-use p416_ast::ActionName;
+use p416_syntax::ActionName;
 use std::alloc::Global;
 use std::marker::Model;
 

@@ -1,7 +1,7 @@
 // Actions of one table that have one control-plane name (P4_16 1.2, "Control-plane API annotations").
 ghost use Rattle.std.specs.Prelude.{◌≡◌, List, map, IfOk};
-ghost use Rattle.p416_rules.specs.Scopes.{Known, plane_name};
-ghost use Rattle.p416_rules.specs.Tables.{is_same_action, sort_plane, action_plane, mixes_up};
+ghost use Rattle.p416_syntax.specs.Scopes.{Known, plane_name};
+ghost use Rattle.p416_syntax.specs.Tables.{is_same_action, sort_plane, action_plane, mixes_up};
 ghost use Rattle.p416_names.specs.Seen.{seen_sort};
 ghost use Rattle.p416_scopes.specs.Seen.{seen_scope};
 ghost use Rattle.p416_listed_check.specs.internal.Mixed.{is_other_at, is_mixed};
@@ -9,9 +9,9 @@ ghost use Rattle.std.specs.List.{list_any};
 
 use name_numbers::{Numbering, number_names};
 use p4x_bits::{OutOfMemory, Text};
-use p416_ast::{ActionName, Note, name_note};
 use p416_names::Sort;
 use p416_scopes::Scope;
+use p416_syntax::{ActionName, Note, name_note};
 use std::alloc::Global;
 
 /// The name by which the control plane knows what has these annotations: that of `@name`, else its own.

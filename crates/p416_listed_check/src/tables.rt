@@ -1,15 +1,15 @@
 // What T9 asks of one table (P4_16 1.2, "Tables").
 ghost use Rattle.std.specs.Prelude.{◌≡◌, IfOk, OnOk};
-ghost use Rattle.p416_rules.specs.Tables.{has_bad_actions, is_bad_table};
+ghost use Rattle.p416_syntax.specs.Tables.{has_bad_actions, is_bad_table};
 ghost use Rattle.p416_scopes.specs.Seen.{seen_scope};
 ghost use Rattle.p416_listed_check.specs.Listings.{AreGiven};
 
 use crate::actions::some_bad_action;
 use crate::planes::mixes_up;
 use p4x_bits::OutOfMemory;
-use p416_ast::{ActionName, Table16};
 use p416_name_set::NameSet;
 use p416_scopes::Scope;
+use p416_syntax::{ActionName, Table16};
 use p416_table_check::{has_bad_keys, has_outside_default};
 use std::alloc::Global;
 

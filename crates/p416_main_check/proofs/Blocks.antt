@@ -3,15 +3,15 @@ use Rattle.std.proofs.Common.{◌≡◌, ℕ, zero, suc, Bool, true, false, ◌&
 use Rattle.std.proofs.lemmas.List.{length-map}
 use Rattle.std.specs.Prelude.{IfOk}
 use Rattle.std.specs.Option.{option_map_or}
-use Rattle.p416_ast.specs.declared.parts.Param.{Param}
-use Rattle.p416_ast.specs.declared.program.Decl16.{Decl16}
-use Rattle.p416_rules.specs.Names.{Name}
+use Rattle.p416_syntax.specs.declared.parts.Param.{Param}
+use Rattle.p416_syntax.specs.declared.program.Decl16.{Decl16}
+use Rattle.p416_syntax.specs.Names.{Name}
 use Rattle.p416_main_check.specs.internal.Seen.{parameter_kind}
-use Rattle.p416_rules.specs.Kinds.{Kind, unknown}
-use Rattle.p416_rules.specs.Scopes.{Known}
-use Rattle.p416_ast.specs.declared.program.Syntax16.{Syntax16}
-use Rattle.p416_rules.specs.Declarations.{top_names, layouts_of}
-use Rattle.p416_rules.specs.Main.{wanted_blocks, are_headers, is_metadata, headers_kind, metadata_kind, is_main, Shape, BlockShape, parameter_shape, kind_at, block_of, is_same_shape, are_same_shapes, is_block, are_blocks}
+use Rattle.p416_syntax.specs.Kinds.{Kind, unknown}
+use Rattle.p416_syntax.specs.Scopes.{Known}
+use Rattle.p416_syntax.specs.declared.program.Syntax16.{Syntax16}
+use Rattle.p416_syntax.specs.Declarations.{top_names, layouts_of}
+use Rattle.p416_syntax.specs.Main.{wanted_blocks, are_headers, is_metadata, headers_kind, metadata_kind, is_main, Shape, BlockShape, parameter_shape, kind_at, block_of, is_same_shape, are_same_shapes, is_block, are_blocks}
 
 and_false : (b c : Bool) → c ≡ false → (b && c) ≡ false
 and_false true c e = e

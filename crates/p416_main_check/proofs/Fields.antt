@@ -5,13 +5,13 @@ use Rattle.std.specs.Str.{bytes_eq}
 use Rattle.std.specs.Bool.{MatchBool}
 use Rattle.std.proofs.lemmas.Bool.{ne_eqb}
 use Rattle.std.proofs.lemmas.Slice.Eq.{bytes_eq-Decides}
-use Rattle.p416_ast.specs.declared.parts.BitField.{BitField}
-use Rattle.p416_ast.specs.declared.program.Decl16.{Decl16}
-use Rattle.p416_rules.specs.Names.{Name, has_name}
-use Rattle.p416_rules.specs.Kinds.{struct}
-use Rattle.p416_rules.specs.Scopes.{Layout}
-use Rattle.p416_rules.specs.Declarations.{layouts_of, bit_field}
-use Rattle.p416_rules.specs.Main.{is_header_field, is_bits_field, is_metadata_field, is_struct_where}
+use Rattle.p416_syntax.specs.declared.parts.BitField.{BitField}
+use Rattle.p416_syntax.specs.declared.program.Decl16.{Decl16}
+use Rattle.p416_syntax.specs.Names.{Name, has_name}
+use Rattle.p416_syntax.specs.Kinds.{struct}
+use Rattle.p416_syntax.specs.Scopes.{Layout}
+use Rattle.p416_syntax.specs.Declarations.{layouts_of, bit_field}
+use Rattle.p416_syntax.specs.Main.{is_header_field, is_bits_field, is_metadata_field, is_struct_where}
 use Rattle.p416_main_check.specs.internal.Seen.{AreOfBits}
 
 pub no_headers : (fs : List BitField) → list_all is_header_field (map bit_field fs) ≡ nat_eq (length fs) 0

@@ -8,8 +8,8 @@ use Rattle.std.proofs.lemmas.List.{take_more, length-take-le, length-set, length
 use Rattle.std.proofs.lemmas.List.Quantifiers.{position-Some}
 use Rattle.std.proofs.lemmas.Slice.Eq.{bytes_eq-Decides}
 use Rattle.name_numbers.specs.Names.{find_name}
-use Rattle.p416_rules.specs.Names.{Name}
-use Rattle.p416_rules.specs.Main.{positions_from}
+use Rattle.p416_syntax.specs.Names.{Name}
+use Rattle.p416_syntax.specs.Main.{positions_from}
 use Rattle.p416_main_check.specs.internal.Places.{ArePlaces, added}
 
 -- equal either way round

@@ -1,2 +1,2 @@
--- The contract is the definition of `p416_rules`.
+-- The contract is the definition of `p416_syntax`.
 pub mod internal

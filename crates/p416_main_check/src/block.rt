@@ -1,15 +1,14 @@
 // Parsers and controls with their parameters (P4_16 1.2, "Parameterization", "Calling convention: call by copy in/copy out").
 ghost use Rattle.std.specs.Prelude.{◌≡◌, List};
 ghost use Rattle.std.specs.Option.{option_map};
-ghost use Rattle.p416_rules.specs.Scopes.{Known};
-ghost use Rattle.p416_rules.specs.Declarations.{top_names};
-ghost use Rattle.p416_rules.specs.Main.{shape, parameter_shape, block_in, block_of, is_same_direction, is_same_parameter_kind, is_same_shape};
-ghost use Rattle.p416_kinds.specs.Seen.{seen_kind};
+ghost use Rattle.p416_syntax.specs.Scopes.{Known};
+ghost use Rattle.p416_syntax.specs.Declarations.{top_names};
+ghost use Rattle.p416_syntax.specs.Main.{shape, parameter_shape, block_in, block_of, is_same_direction, is_same_parameter_kind, is_same_shape};
+ghost use Rattle.p416_names.specs.SeenKinds.{seen_kind};
 ghost use Rattle.p416_main_check.specs.internal.Seen.{seen_block};
 
-use p416_ast::{Decl16, Direction, Param};
-use p416_kinds::Kind;
-use p416_names::Top;
+use p416_names::{Kind, Top};
+use p416_syntax::{Decl16, Direction, Param};
 
 /// A parser or a control, by its parameters.
 #[derive(Clone, Copy, Drop)]

@@ -1,7 +1,7 @@
 // At which places the names in `main` stand.
 ghost use Rattle.std.specs.Prelude.{◌≡◌, [], ◌∷◌, ◌++◌, length, map, replicate, slice_index_or, IfOk, OnOk};
 ghost use Rattle.name_numbers.specs.Names.{find_name};
-ghost use Rattle.p416_rules.specs.Main.{positions_from};
+ghost use Rattle.p416_syntax.specs.Main.{positions_from};
 ghost use Rattle.p416_main_check.specs.internal.Places.{ArePlaces, added};
 
 use name_numbers::{Numbering, number_names};
@@ -10,10 +10,18 @@ use std::alloc::Global;
 use std::marker::Model;
 
 /// The names in `main`, each found with the places where it stands. Contracts see the names.
-#[derive(Drop)]
 pub struct MainPlaces<'a> {
     names: Numbering<'a>,
     places: Vec<Rows<usize>>,
+}
+
+impl Drop for MainPlaces<'_> {
+    fn drop(self) {
+        let MainPlaces {
+            names: _names,
+            places: _places,
+        } = self;
+    }
 }
 
 impl<'a> Model for MainPlaces<'a> {

@@ -1,19 +1,18 @@
 // The six blocks of `main` (`v1model.p4`).
 ghost use Rattle.std.specs.Prelude.{◌≡◌, map, slice_get, IfOk};
 ghost use Rattle.std.specs.Option.{option_map, option_map_or};
-ghost use Rattle.p416_ast.specs.declared.program.Syntax16.{Syntax16};
-ghost use Rattle.p416_rules.specs.Kinds.{unknown};
-ghost use Rattle.p416_rules.specs.Declarations.{top_names};
-ghost use Rattle.p416_rules.specs.Main.{parameter_shape, are_same_shapes, is_block, are_blocks, block_of, block_kind, first_block, checksum_block, pipeline_block, wanted_blocks, headers_kind, metadata_kind, is_main};
-ghost use Rattle.p416_kinds.specs.Seen.{seen_kind};
+ghost use Rattle.p416_syntax.specs.declared.program.Syntax16.{Syntax16};
+ghost use Rattle.p416_syntax.specs.Kinds.{unknown};
+ghost use Rattle.p416_syntax.specs.Declarations.{top_names};
+ghost use Rattle.p416_syntax.specs.Main.{parameter_shape, are_same_shapes, is_block, are_blocks, block_of, block_kind, first_block, checksum_block, pipeline_block, wanted_blocks, headers_kind, metadata_kind, is_main};
+ghost use Rattle.p416_names.specs.SeenKinds.{seen_kind};
 ghost use Rattle.p416_main_check.specs.internal.Seen.{seen_block, parameter_kind, parser_block, deparser_block};
 
 use crate::block::{Block, block_of, is_parameter};
 use crate::structs::{are_headers, is_metadata};
 use p4x_bits::{OutOfMemory, Text};
-use p416_ast::{Direction, Param, Syntax16};
-use p416_kinds::Kind;
-use p416_names::Top;
+use p416_names::{Kind, Top};
+use p416_syntax::{Direction, Param, Syntax16};
 use std::alloc::Global;
 
 const STANDARD: Kind<'static> = Kind::Struct(b"standard_metadata_t");

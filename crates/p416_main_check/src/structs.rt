@@ -1,17 +1,16 @@
 // The structs of a program's headers and of its metadata (`v1model.p4`; what may stand in them is this project's own).
 ghost use Rattle.std.specs.Prelude.{◌≡◌, map, true, IfOk, OnOk};
 ghost use Rattle.std.specs.List.{list_all};
-ghost use Rattle.p416_rules.specs.Kinds.{is_bits, struct};
-ghost use Rattle.p416_rules.specs.Declarations.{top_names, layouts_of, struct_field};
-ghost use Rattle.p416_rules.specs.Main.{is_header_field, is_bits_field, is_metadata_field, is_struct_where, are_headers, is_metadata};
-ghost use Rattle.p416_kinds.specs.Seen.{seen_kind};
+ghost use Rattle.p416_syntax.specs.Kinds.{is_bits, struct};
+ghost use Rattle.p416_syntax.specs.Declarations.{top_names, layouts_of, struct_field};
+ghost use Rattle.p416_syntax.specs.Main.{is_header_field, is_bits_field, is_metadata_field, is_struct_where, are_headers, is_metadata};
+ghost use Rattle.p416_names.specs.SeenKinds.{seen_kind};
 ghost use Rattle.p416_main_check.specs.internal.Seen.{AreOfBits};
 
 use p4x_bits::OutOfMemory;
-use p416_ast::StructField;
-use p416_kinds::Kind;
 use p416_name_set::NameSet;
-use p416_names::{Fields, Top};
+use p416_names::{Fields, Kind, Top};
+use p416_syntax::StructField;
 use std::alloc::Global;
 
 /// Whether a field is a header or a stack.

@@ -6,7 +6,7 @@ use Rattle.std.specs.List.{list_any}
 use Rattle.std.specs.Str.{bytes_eq}
 use Rattle.std.proofs.lemmas.Slice.Eq.{bytes_eq-Decides}
 use Rattle.std.proofs.lemmas.List.Folds.{list_any-append}
-use Rattle.p416_rules.specs.Names.{Name, has_name, repeats}
+use Rattle.p416_syntax.specs.Names.{Name, has_name, repeats}
 
 -- one of these names was seen, or stands twice among them
 abbrev pub repeats_behind : List Name → List Name → Bool

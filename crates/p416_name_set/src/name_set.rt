@@ -1,7 +1,7 @@
 // Different names that are borrowed from a syntax.
 ghost use Rattle.std.specs.Prelude.{◌≡◌, true, false, [], ◌∷◌, ◌++◌, IfOk};
 ghost use Rattle.std.specs.Bool.{MatchBool};
-ghost use Rattle.p416_rules.specs.Names.{has_name};
+ghost use Rattle.p416_syntax.specs.Names.{has_name};
 
 use indexmap::IndexSet;
 use p4x_bits::OutOfMemory;

@@ -1,7 +1,7 @@
 // Whether a name stands twice (P4_16 1.2, "Name resolution").
 ghost use Rattle.std.specs.Prelude.{◌≡◌, true, false, [], ◌∷◌, ◌++◌, map, IfOk};
 ghost use Rattle.std.specs.Bool.{MatchBool};
-ghost use Rattle.p416_rules.specs.Names.{has_name, repeats};
+ghost use Rattle.p416_syntax.specs.Names.{has_name, repeats};
 
 use crate::name_set::NameSet;
 use p4x_bits::OutOfMemory;

@@ -8,18 +8,18 @@ use Rattle.std.proofs.lemmas.Bool.{cases_eq, ne_eqb, lt-ltb, ltb-true}
 use Rattle.std.proofs.lemmas.List.{length-map}
 use Rattle.std.proofs.lemmas.List.Quantifiers.{position-Some}
 use Rattle.std.proofs.lemmas.Option.{slice_get_cases}
-use Rattle.p416_ast.specs.declared.program.Decl16.{Decl16}
-use Rattle.p416_ast.specs.declared.program.Decl16.TheVariants as decl
+use Rattle.p416_syntax.specs.declared.program.Decl16.{Decl16}
+use Rattle.p416_syntax.specs.declared.program.Decl16.TheVariants as decl
 use Rattle.name_numbers.specs.Names.{find_name}
-use Rattle.p416_rules.specs.Names.{Name, has_name}
-use Rattle.p416_rules.specs.Kinds.{Kind}
-use Rattle.p416_rules.specs.BuiltIn.{built_in, standard_layout}
-use Rattle.p416_rules.specs.Scopes.{Sort, Known, FieldKind, Layout, a_function, undeclared, known, sort_in, fields_in, kind_of_type}
-use Rattle.p416_rules.specs.Expressions.{field_kind_in}
-use Rattle.p416_rules.specs.Declarations.{top_name, top_names, layouts_of, field_name, member_name, bit_field, struct_field, layout_in}
-use Rattle.p416_rules.specs.Unknown.{declared_name}
-use Rattle.p416_lexemes.specs.declared.lexeme.Literal16.{Literal16}
-use Rattle.p416_ast.specs.declared.parts.Type16.TheVariants.{Named}
+use Rattle.p416_syntax.specs.Names.{Name, has_name}
+use Rattle.p416_syntax.specs.Kinds.{Kind}
+use Rattle.p416_syntax.specs.BuiltIn.{built_in, standard_layout}
+use Rattle.p416_syntax.specs.Scopes.{Sort, Known, FieldKind, Layout, a_function, undeclared, known, sort_in, fields_in, kind_of_type}
+use Rattle.p416_syntax.specs.Expressions.{field_kind_in}
+use Rattle.p416_syntax.specs.Declarations.{top_name, top_names, layouts_of, field_name, member_name, bit_field, struct_field, layout_in}
+use Rattle.p416_syntax.specs.Unknown.{declared_name}
+use Rattle.p416_syntax.specs.declared.lexeme.Literal16.{Literal16}
+use Rattle.p416_syntax.specs.declared.parts.Type16.TheVariants.{Named}
 use Rattle.p416_names.specs.Seen.{kind_of_named}
 use Rattle.p416_names.specs.internal.Tables.{is_type, field_names, fields_of, bits_of_field, kind_of_field, kind_at, field_in, field_at, fields_at, sort_of_decl, sort_at, declared_sort}
 

@@ -1,13 +1,13 @@
 -- Which sort of the rules a sort of code is, given the names at the top.
 use Rattle.std.specs.Prelude.{List, [], map, Option, Some, None}
-use Rattle.p416_lexemes.specs.declared.lexeme.Literal16.{Literal16}
-use Rattle.p416_ast.specs.Properties.{actions_of, counters_of}
-use Rattle.p416_rules.specs.Kinds.{Kind, bits}
-use Rattle.p416_rules.specs.Scopes as rule
-use Rattle.p416_rules.specs.Scopes.{Known, type_sort, stack_kind, kind_of_type, handed, plane_name, FieldKind}
-use Rattle.p416_rules.specs.BuiltIn.{standard_layout}
-use Rattle.p416_rules.specs.Declarations.{bit_field, struct_field}
-use Rattle.p416_kinds.specs.Seen.{seen_enumeration, seen_object, seen_kind}
+use Rattle.p416_syntax.specs.declared.lexeme.Literal16.{Literal16}
+use Rattle.p416_syntax.specs.Properties.{actions_of, counters_of}
+use Rattle.p416_syntax.specs.Kinds.{Kind, bits}
+use Rattle.p416_syntax.specs.Scopes as rule
+use Rattle.p416_syntax.specs.Scopes.{Known, type_sort, stack_kind, kind_of_type, handed, plane_name, FieldKind}
+use Rattle.p416_syntax.specs.BuiltIn.{standard_layout}
+use Rattle.p416_syntax.specs.Declarations.{bit_field, struct_field}
+use Rattle.p416_names.specs.SeenKinds.{seen_enumeration, seen_object, seen_kind}
 use Rattle.p416_names.specs.declared.sort.Sort.{Sort}
 use Rattle.p416_names.specs.declared.sort.Sort.TheVariants as sort_of
 use Rattle.p416_names.specs.declared.fields.Fields.{Fields}

@@ -1,16 +1,17 @@
 // What `core.p4` and `v1model.p4` declare.
 ghost use Rattle.std.specs.Prelude.{◌≡◌, List, [], ◌∷◌};
 ghost use Rattle.std.specs.Option.{option_map};
-ghost use Rattle.p416_rules.specs.Scopes.{Known, sort_in, fields_in};
-ghost use Rattle.p416_rules.specs.Names.{has_name};
-ghost use Rattle.p416_rules.specs.Expressions.{field_kind_in};
-ghost use Rattle.p416_rules.specs.BuiltIn.{built_in, functions, standard_layout};
-ghost use Rattle.p416_kinds.specs.Seen.{seen_kind};
+ghost use Rattle.p416_syntax.specs.Scopes.{Known, sort_in, fields_in};
+ghost use Rattle.p416_syntax.specs.Names.{has_name};
+ghost use Rattle.p416_syntax.specs.Expressions.{field_kind_in};
+ghost use Rattle.p416_syntax.specs.BuiltIn.{built_in, functions, standard_layout};
+ghost use Rattle.p416_names.specs.SeenKinds.{seen_kind};
 ghost use Rattle.p416_names.specs.Seen.{seen_sort};
 ghost use Rattle.p416_names.specs.internal.Tables.{function_behind, enumeration_behind, standard_field};
 
+use crate::kind::{Enumeration, Kind};
+use crate::members::is_among;
 use crate::sort::Sort;
-use p416_kinds::{Enumeration, Kind, is_among};
 
 const PACKET_IN: &[u8] = b"packet_in";
 

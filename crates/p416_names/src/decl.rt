@@ -1,14 +1,14 @@
 // What the declarations at the top declare.
 ghost use Rattle.std.specs.Prelude.{◌≡◌, List};
-ghost use Rattle.p416_rules.specs.Scopes.{Known};
-ghost use Rattle.p416_rules.specs.Declarations.{top_name, instance_name, instance_sort};
-ghost use Rattle.p416_rules.specs.Unknown.{declared_name};
+ghost use Rattle.p416_syntax.specs.Scopes.{Known};
+ghost use Rattle.p416_syntax.specs.Declarations.{top_name, instance_name, instance_sort};
+ghost use Rattle.p416_syntax.specs.Unknown.{declared_name};
 ghost use Rattle.p416_names.specs.Seen.{seen_sort};
 
+use crate::kind::{Kind, ObjectKind};
 use crate::sort::Sort;
 use p4x_bits::Text;
-use p416_ast::{Decl16, Instance};
-use p416_kinds::{Kind, ObjectKind};
+use p416_syntax::{Decl16, Instance};
 
 /// The name of a stateful object.
 pub fn instance_name(instance: &Instance) -> &Text

@@ -1,11 +1,11 @@
 // The fields of the types of a program (P4_16 1.2, "Derived types").
 ghost use Rattle.std.specs.Prelude.{◌≡◌, List, [], ◌∷◌};
-ghost use Rattle.p416_rules.specs.Scopes.{Known, fields_in};
-ghost use Rattle.p416_rules.specs.BuiltIn.{standard_layout};
+ghost use Rattle.p416_syntax.specs.Scopes.{Known, fields_in};
+ghost use Rattle.p416_syntax.specs.BuiltIn.{standard_layout};
 ghost use Rattle.p416_names.specs.Seen.{seen_fields};
 ghost use Rattle.p416_names.specs.internal.Tables.{fields_of};
 
-use p416_ast::{BitField, Decl16, StructField};
+use p416_syntax::{BitField, Decl16, StructField};
 
 /// The fields of a type.
 #[derive(Clone, Copy, Drop)]

@@ -1,16 +1,16 @@
 // Header and struct types with the names of their fields.
 ghost use Rattle.std.specs.Prelude.{◌≡◌, List, map, filter, IfOk, slice_get};
 ghost use Rattle.std.specs.Option.{option_map};
-ghost use Rattle.p416_rules.specs.Scopes.{Known};
-ghost use Rattle.p416_rules.specs.Declarations.{field_name, member_name};
-ghost use Rattle.p416_rules.specs.Expressions.{field_kind_in};
+ghost use Rattle.p416_syntax.specs.Scopes.{Known};
+ghost use Rattle.p416_syntax.specs.Declarations.{field_name, member_name};
+ghost use Rattle.p416_syntax.specs.Expressions.{field_kind_in};
 ghost use Rattle.p416_names.specs.Seen.{seen_field, seen_fields};
 ghost use Rattle.p416_names.specs.internal.Tables.{field_names, is_type, fields_of, bits_of_field, kind_of_field, kind_at};
 
 use crate::fields::{Fields, fields_of};
 use name_numbers::{Numbering, number_names};
 use p4x_bits::OutOfMemory;
-use p416_ast::{BitField, Decl16, StructField};
+use p416_syntax::{BitField, Decl16, StructField};
 use std::alloc::Global;
 use std::marker::Model;
 
@@ -22,8 +22,8 @@ pub struct Layout<'a> {
 }
 
 impl<'a> Model for Layout<'a> {
-    ghost use Rattle.p416_ast.specs.declared.program.Decl16.{Decl16};
-    ghost use Rattle.p416_ast.specs.contracts.program.Decl16 as declaration;
+    ghost use Rattle.p416_syntax.specs.declared.program.Decl16.{Decl16};
+    ghost use Rattle.p416_syntax.specs.contracts.program.Decl16 as declaration;
     ghost use Rattle.p416_names.specs.internal.Tables.{field_names};
     ghost use Rattle.std.specs.Prelude.{◌≡◌};
 

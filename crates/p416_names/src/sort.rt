@@ -1,11 +1,11 @@
 // What a name is declared as (P4_16 1.2, "Name resolution").
 ghost use Rattle.std.specs.Prelude.{◌≡◌, List};
-ghost use Rattle.p416_rules.specs.Scopes.{Known, type_sort, stack_kind};
-ghost use Rattle.p416_kinds.specs.Seen.{seen_kind};
+ghost use Rattle.p416_syntax.specs.Scopes.{Known, type_sort, stack_kind};
+ghost use Rattle.p416_names.specs.SeenKinds.{seen_kind};
 ghost use Rattle.p416_names.specs.Seen.{seen_sort, kind_of_named};
 
-use p416_ast::{Action16, Literal16, Table16};
-use p416_kinds::{Enumeration, Kind, ObjectKind};
+use crate::kind::{Enumeration, Kind, ObjectKind};
+use p416_syntax::{Action16, Literal16, Table16};
 
 /// What a name is declared as.
 #[derive(Clone, Copy, Drop)]

@@ -1,29 +1,28 @@
 // The names at the top of a program, and its types.
 ghost use Rattle.std.specs.Prelude.{◌≡◌, List, map, filter, IfOk};
 ghost use Rattle.std.specs.Option.{option_map};
-ghost use Rattle.p416_rules.specs.Scopes.{Known, sort_in, kind_of_type, fields_in};
-ghost use Rattle.p416_rules.specs.Expressions.{field_kind_in};
-ghost use Rattle.p416_rules.specs.Declarations.{top_names, layouts_of};
-ghost use Rattle.p416_rules.specs.Unknown.{declared_name};
-ghost use Rattle.p416_kinds.specs.Seen.{seen_kind};
+ghost use Rattle.p416_syntax.specs.Scopes.{Known, sort_in, kind_of_type, fields_in};
+ghost use Rattle.p416_syntax.specs.Expressions.{field_kind_in};
+ghost use Rattle.p416_syntax.specs.Declarations.{top_names, layouts_of};
+ghost use Rattle.p416_syntax.specs.Unknown.{declared_name};
+ghost use Rattle.p416_names.specs.SeenKinds.{seen_kind};
 ghost use Rattle.p416_names.specs.Seen.{seen_sort, seen_field, seen_fields};
 ghost use Rattle.p416_names.specs.internal.Tables.{is_type, sort_at, declared_sort, field_at, fields_at};
 
 use crate::built_in::{built_in_field, built_in_sort};
 use crate::decl::{decl_name, decl_sort};
 use crate::fields::{Fields, built_in_fields};
+use crate::kind::Kind;
 use crate::layout::{Field, Layout, is_type, layouts_of};
 use crate::sort::Sort;
 use name_numbers::{Numbering, number_names};
 use p4x_bits::OutOfMemory;
-use p416_ast::{Decl16, Type16};
-use p416_kinds::Kind;
+use p416_syntax::{Decl16, Type16};
 use std::alloc::Global;
 use std::marker::Model;
 
 /// The names at the top of a program with what they mean, and its types with their fields. Of two declarations of one name
 /// the first counts. Contracts see the declarations of the program.
-#[derive(Drop)]
 pub struct Top<'a> {
     decls: &'a [Decl16],
     names: Numbering<'a>,
@@ -31,11 +30,22 @@ pub struct Top<'a> {
     layouts: Vec<Layout<'a>>,
 }
 
+impl Drop for Top<'_> {
+    fn drop(self) {
+        let Top {
+            decls: _decls,
+            names: _names,
+            types: _types,
+            layouts: _layouts,
+        } = self;
+    }
+}
+
 impl<'a> Model for Top<'a> {
     ghost use Rattle.std.specs.Prelude.{◌≡◌, List, map, filter};
     ghost use Rattle.std.specs.Coded.{codes};
-    ghost use Rattle.p416_ast.specs.contracts.program.Decl16 as declaration;
-    ghost use Rattle.p416_ast.specs.declared.program.Decl16.{Decl16};
+    ghost use Rattle.p416_syntax.specs.contracts.program.Decl16 as declaration;
+    ghost use Rattle.p416_syntax.specs.declared.program.Decl16.{Decl16};
     ghost use Rattle.p416_names.specs.internal.Tables.{AreTables};
 
     ghost Value = { List Decl16 };

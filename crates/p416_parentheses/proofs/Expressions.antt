@@ -4,13 +4,13 @@ use Rattle.std.specs.Prelude.{◌&&◌, nat_le}
 use Rattle.std.specs.Str.{bytes_eq}
 use Rattle.std.proofs.lemmas.Bool.{and_from, and_parts}
 use Rattle.std.proofs.lemmas.Bool.Decides.{nat_tests}
-use Rattle.p416_ast.specs.declared.node.BinaryOperator.{BinaryOperator}
-use Rattle.p416_ast.specs.declared.node.BinaryOperator.TheVariants as operator_of
-use Rattle.p416_ast.specs.Tree.{Exp16, literal, truth, error, name, member, index, slice, call, lookahead, cast, unary, binary, choice, parenthesized, no_arguments, argument, listed}
-use Rattle.p416_ast.specs.Tokens.{lookahead_text}
-use Rattle.p416_ast.specs.Operators.{postfix_power, prefix_power, binary_power, choice_power}
-use Rattle.p416_ast.specs.Parentheses.{bare_exp}
-use Rattle.p416_ast.specs.Conditions.{with_parentheses, without_parentheses, one, many, is_exp_at, is_exp, are_arguments, is_call, is_parenthesized}
+use Rattle.p416_syntax.specs.declared.node.BinaryOperator.{BinaryOperator}
+use Rattle.p416_syntax.specs.declared.node.BinaryOperator.TheVariants as operator_of
+use Rattle.p416_syntax.specs.Tree.{Exp16, literal, truth, error, name, member, index, slice, call, lookahead, cast, unary, binary, choice, parenthesized, no_arguments, argument, listed}
+use Rattle.p416_syntax.specs.Tokens.{lookahead_text}
+use Rattle.p416_syntax.specs.Operators.{postfix_power, prefix_power, binary_power, choice_power}
+use Rattle.p416_syntax.specs.Parentheses.{bare_exp}
+use Rattle.p416_syntax.specs.Conditions.{with_parentheses, without_parentheses, one, many, is_exp_at, is_exp, are_arguments, is_call, is_parenthesized}
 use Rattle.p416_parentheses.specs.Expressions.{is_wrapped, is_wrapped_base, wrapped, within, full, full_base}
 
 at_most : (a b : ℕ) → a ≤ b → nat_le a b ≡ true

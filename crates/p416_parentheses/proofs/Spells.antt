@@ -2,12 +2,12 @@
 use Rattle.std.proofs.Common.{◌≡◌, true, refl}
 use Rattle.std.specs.List.{list_all}
 use Rattle.std.proofs.lemmas.Bool.{and_parts}
-use Rattle.p416_ast.specs.declared.program.Syntax16.{Syntax16}
-use Rattle.p416_ast.specs.Tokens.{is_spelt_seen}
-use Rattle.p416_ast.specs.Written.{written}
-use Rattle.p416_ast.specs.Conditions.{without_parentheses, is_syntax}
-use Rattle.p416_ast.specs.Spells.{Spells16}
-use Rattle.p416_ast.specs.Spelt.{is_spelt16}
+use Rattle.p416_syntax.specs.declared.program.Syntax16.{Syntax16}
+use Rattle.p416_syntax.specs.Tokens.{is_spelt_seen}
+use Rattle.p416_syntax.specs.Written.{written}
+use Rattle.p416_syntax.specs.Conditions.{without_parentheses, is_syntax}
+use Rattle.p416_syntax.specs.Spells.{Spells16}
+use Rattle.p416_syntax.specs.Spelt.{is_spelt16}
 use Rattle.p416_parentheses.specs.Syntax.{full_syntax}
 use Rattle.p416_parentheses.proofs.Kept.{kept_keeps}
 use Rattle.p416_parentheses.proofs.Spelt.{full_spelt_by}

@@ -2,8 +2,8 @@
 -- to, is this project's own).
 use Rattle.std.specs.Prelude.{Bool, true, false}
 use Rattle.std.specs.Str.{bytes_eq}
-use Rattle.p416_ast.specs.Tree.{Exp16, literal, truth, error, name, member, index, slice, call, lookahead, cast, unary, binary, choice, parenthesized, no_arguments, argument, listed}
-use Rattle.p416_ast.specs.Tokens.{lookahead_text}
+use Rattle.p416_syntax.specs.Tree.{Exp16, literal, truth, error, name, member, index, slice, call, lookahead, cast, unary, binary, choice, parenthesized, no_arguments, argument, listed}
+use Rattle.p416_syntax.specs.Tokens.{lookahead_text}
 
 -- Parentheses stand around an operator between two operands, around `c ? a : b`, and around a member named `lookahead`,
 -- behind which a `<` would begin a type.

@@ -2,12 +2,12 @@
 #![tactic(auto)]
 
 ghost use Rattle.std.specs.Prelude.{IsTrue};
-ghost use Rattle.p416_ast.specs.declared.program.Syntax16.{Syntax16};
+ghost use Rattle.p416_syntax.specs.declared.program.Syntax16.{Syntax16};
 ghost use Rattle.std.specs.List.{list_all};
-ghost use Rattle.p416_ast.specs.Tokens.{is_spelt_seen};
-ghost use Rattle.p416_ast.specs.Written.{written};
-ghost use Rattle.p416_ast.specs.Spells.{Spells16};
-ghost use Rattle.p416_ast.specs.Spelt.{is_spelt16};
+ghost use Rattle.p416_syntax.specs.Tokens.{is_spelt_seen};
+ghost use Rattle.p416_syntax.specs.Written.{written};
+ghost use Rattle.p416_syntax.specs.Spells.{Spells16};
+ghost use Rattle.p416_syntax.specs.Spelt.{is_spelt16};
 ghost use Rattle.p416_parentheses.specs.Syntax.{full_syntax};
 
 /// A syntax that a text can have is spelled with the tokens that it is written with when these parentheses are put in, and each

@@ -5,12 +5,12 @@ use Rattle.std.specs.Str.{bytes_eq}
 use Rattle.std.proofs.lemmas.List.{map-append}
 use Rattle.std.proofs.lemmas.Bool.{lt-ltb, ltb-true, false≢true}
 use Rattle.name_numbers.specs.Names.{find_name}
-use Rattle.p416_ast.specs.declared.controls.Control16.{Control16}
-use Rattle.p416_ast.specs.declared.program.Decl16.{Decl16}
-use Rattle.p416_rules.specs.Names.{Name}
-use Rattle.p416_rules.specs.Scopes.{called_of, known_parameter}
-use Rattle.p416_rules.specs.Declarations.{known_local, control_names}
-use Rattle.p416_rules.specs.Tables.{table_plane, tables_of, is_not_among}
+use Rattle.p416_syntax.specs.declared.controls.Control16.{Control16}
+use Rattle.p416_syntax.specs.declared.program.Decl16.{Decl16}
+use Rattle.p416_syntax.specs.Names.{Name}
+use Rattle.p416_syntax.specs.Scopes.{called_of, known_parameter}
+use Rattle.p416_syntax.specs.Declarations.{known_local, control_names}
+use Rattle.p416_syntax.specs.Tables.{table_plane, tables_of, is_not_among}
 
 next_items : {X : Type 0} (xs : List X) (i : ℕ) (d : X) → i < length xs → drop i xs ≡ get_or xs i d ∷ drop (i + 1) xs
 next_items xs i d h = rw (add-one, drop-cons xs i d h) refl

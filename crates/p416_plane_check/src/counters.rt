@@ -1,12 +1,12 @@
 // The direct counters that tables name and that aren't declared in the control of the table.
 ghost use Rattle.std.specs.Prelude.{◌≡◌, ◌++◌, [], map, filter, filter_map, flat_map, IfOk, OnOk};
-ghost use Rattle.p416_rules.specs.Scopes.{called_of, known_parameter};
-ghost use Rattle.p416_rules.specs.Declarations.{instance_name, known_local, control_names, table_in, tables_in, counters_in};
-ghost use Rattle.p416_rules.specs.Tables.{is_not_among, outer_counters};
+ghost use Rattle.p416_syntax.specs.Scopes.{called_of, known_parameter};
+ghost use Rattle.p416_syntax.specs.Declarations.{instance_name, known_local, control_names, table_in, tables_in, counters_in};
+ghost use Rattle.p416_syntax.specs.Tables.{is_not_among, outer_counters};
 
 use name_numbers::{Numbering, number_names};
 use p4x_bits::{OutOfMemory, Text};
-use p416_ast::{Control16, Decl16, Instance, Local, Param};
+use p416_syntax::{Control16, Decl16, Instance, Local, Param};
 use std::alloc::Global;
 
 /// The name of an object.

@@ -1,11 +1,11 @@
 // The names by which the control plane knows tables and objects (P4_16 1.2, "Control-plane API annotations").
 ghost use Rattle.std.specs.Prelude.{◌≡◌, ◌++◌, map, filter_map, flat_map, IfOk, OnOk};
-ghost use Rattle.p416_rules.specs.Scopes.{plane_name};
-ghost use Rattle.p416_rules.specs.Declarations.{instance_name, table_in};
-ghost use Rattle.p416_rules.specs.Tables.{table_plane, tables_of, local_object, objects_of};
+ghost use Rattle.p416_syntax.specs.Scopes.{plane_name};
+ghost use Rattle.p416_syntax.specs.Declarations.{instance_name, table_in};
+ghost use Rattle.p416_syntax.specs.Tables.{table_plane, tables_of, local_object, objects_of};
 
 use p4x_bits::{OutOfMemory, Text};
-use p416_ast::{Decl16, Instance, Local, Note, Table16, name_note};
+use p416_syntax::{Decl16, Instance, Local, Note, Table16, name_note};
 use std::alloc::Global;
 
 /// The name by which the control plane knows what has these annotations: that of `@name`, else its own.

@@ -1,13 +1,13 @@
 // Whether control-plane names are shared.
 ghost use Rattle.std.specs.Prelude.{◌≡◌, map, flat_map, IfOk};
-ghost use Rattle.p416_rules.specs.Names.{repeats};
-ghost use Rattle.p416_rules.specs.Tables.{table_plane, tables_of, objects_of, outer_counters, has_shared_names};
+ghost use Rattle.p416_syntax.specs.Names.{repeats};
+ghost use Rattle.p416_syntax.specs.Tables.{table_plane, tables_of, objects_of, outer_counters, has_shared_names};
 
 use crate::counters::counter_names;
 use crate::names::{object_names, table_names};
 use p4x_bits::OutOfMemory;
-use p416_ast::Decl16;
 use p416_name_set::is_repeated;
+use p416_syntax::Decl16;
 use std::alloc::Global;
 
 /// Whether two tables have one control-plane name.

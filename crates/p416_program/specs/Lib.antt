@@ -1,2 +1,2 @@
--- Nothing is defined here: which syntax some text spells is said by `is_spelt16` of p416_ast, and which rules one breaks by
--- `BreaksNone` of p416_rules.
+-- Nothing is defined here: which syntax some text spells is said by `is_spelt16` of p416_syntax, and which rules one breaks by
+-- `BreaksNone` of p416_syntax.

@@ -1,9 +1,9 @@
 // Programs that break no rule.
 ghost use Rattle.std.specs.Prelude.{◌≡◌, IsTrue};
-ghost use Rattle.p416_ast.specs.Spelt.{is_spelt16};
-ghost use Rattle.p416_rules.specs.Breaks.{BreaksNone, program_rules};
+ghost use Rattle.p416_syntax.specs.Spelt.{is_spelt16};
+ghost use Rattle.p416_syntax.specs.Breaks.{BreaksNone, program_rules};
 
-use p416_ast::Syntax16;
+use p416_syntax::Syntax16;
 use std::marker::Model;
 
 /// A P4_16 program that breaks none of the rules T1 to T12. Contracts see its syntax.
@@ -15,10 +15,10 @@ pub struct Program16 {
 impl Model for Program16 {
     ghost use Rattle.std.specs.Prelude.{IsTrue};
     ghost use Rattle.std.specs.Coded.{codes};
-    ghost use Rattle.p416_ast.specs.declared.program.Syntax16.{Syntax16 as Syntax};
-    ghost use Rattle.p416_ast.specs.contracts.program.Syntax16 as declaration;
-    ghost use Rattle.p416_ast.specs.Spelt.{is_spelt16};
-    ghost use Rattle.p416_rules.specs.Breaks.{BreaksNone, program_rules};
+    ghost use Rattle.p416_syntax.specs.declared.program.Syntax16.{Syntax16 as Syntax};
+    ghost use Rattle.p416_syntax.specs.contracts.program.Syntax16 as declaration;
+    ghost use Rattle.p416_syntax.specs.Spelt.{is_spelt16};
+    ghost use Rattle.p416_syntax.specs.Breaks.{BreaksNone, program_rules};
 
     ghost Value = { Syntax };
 

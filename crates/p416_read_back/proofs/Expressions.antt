@@ -3,23 +3,23 @@ use Rattle.std.proofs.Common.{◌≡◌, ℕ, suc, Bool, true, false, List, [], 
 use Rattle.std.specs.Prelude.{◌&&◌}
 use Rattle.std.specs.Str.{bytes_eq}
 use Rattle.std.proofs.lemmas.Bool.{and_parts}
-use Rattle.p416_lexemes.specs.declared.keyword.Keyword16.{Keyword16}
-use Rattle.p416_lexemes.specs.declared.keyword.Keyword16.TheVariants as key
-use Rattle.p416_lexemes.specs.declared.lexeme.Literal16.{Literal16}
-use Rattle.p416_lexemes.specs.Keywords.{all_keywords16}
-use Rattle.p416_ast.specs.declared.parts.Type16.{Type16}
-use Rattle.p416_ast.specs.declared.parts.Type16.TheVariants as type_of
-use Rattle.p416_ast.specs.declared.node.CastType.{CastType}
-use Rattle.p416_ast.specs.declared.node.CastType.TheVariants as cast_to
-use Rattle.p416_ast.specs.declared.node.UnaryOperator.{UnaryOperator}
-use Rattle.p416_ast.specs.declared.node.UnaryOperator.TheVariants as prefix
-use Rattle.p416_ast.specs.declared.node.BinaryOperator.{BinaryOperator}
-use Rattle.p416_ast.specs.declared.node.BinaryOperator.TheVariants as operator_of
-use Rattle.p416_ast.specs.Tree.{Exp16, literal, truth, error, name, member, index, slice, call, lookahead, cast, unary, binary, choice, parenthesized, no_arguments, argument, listed}
-use Rattle.p416_ast.specs.Operators.{postfix_power, prefix_power, binary_power, choice_power, unary_token, binary_tokens}
-use Rattle.p416_ast.specs.Tokens.{Seen16, id, quoted, number, opens, seen_word, seen_as, keyword_among, lookahead_text, dot, greater, bracket_open, bracket_close, paren_open, paren_close, brace_open, brace_close, colon, comma, question, in_parens, in_braces}
-use Rattle.p416_ast.specs.Written.{written_exp, written_type, written_cast, comma_behind}
-use Rattle.p416_ast.specs.Conditions.{without_parentheses, one, many, is_exp_at, is_exp, are_arguments}
+use Rattle.p416_syntax.specs.declared.keyword.Keyword16.{Keyword16}
+use Rattle.p416_syntax.specs.declared.keyword.Keyword16.TheVariants as key
+use Rattle.p416_syntax.specs.declared.lexeme.Literal16.{Literal16}
+use Rattle.p416_syntax.specs.Keywords.{all_keywords16}
+use Rattle.p416_syntax.specs.declared.parts.Type16.{Type16}
+use Rattle.p416_syntax.specs.declared.parts.Type16.TheVariants as type_of
+use Rattle.p416_syntax.specs.declared.node.CastType.{CastType}
+use Rattle.p416_syntax.specs.declared.node.CastType.TheVariants as cast_to
+use Rattle.p416_syntax.specs.declared.node.UnaryOperator.{UnaryOperator}
+use Rattle.p416_syntax.specs.declared.node.UnaryOperator.TheVariants as prefix
+use Rattle.p416_syntax.specs.declared.node.BinaryOperator.{BinaryOperator}
+use Rattle.p416_syntax.specs.declared.node.BinaryOperator.TheVariants as operator_of
+use Rattle.p416_syntax.specs.Tree.{Exp16, literal, truth, error, name, member, index, slice, call, lookahead, cast, unary, binary, choice, parenthesized, no_arguments, argument, listed}
+use Rattle.p416_syntax.specs.Operators.{postfix_power, prefix_power, binary_power, choice_power, unary_token, binary_tokens}
+use Rattle.p416_syntax.specs.Tokens.{Seen16, id, quoted, number, opens, seen_word, seen_as, keyword_among, lookahead_text, dot, greater, bracket_open, bracket_close, paren_open, paren_close, brace_open, brace_close, colon, comma, question, in_parens, in_braces}
+use Rattle.p416_syntax.specs.Written.{written_exp, written_type, written_cast, comma_behind}
+use Rattle.p416_syntax.specs.Conditions.{without_parentheses, one, many, is_exp_at, is_exp, are_arguments}
 use Rattle.token_sheet.specs.Words.{word}
 use Rattle.p416_parentheses.specs.Expressions.{is_wrapped, is_wrapped_base, wrapped, within, full, full_base}
 use Rattle.p416_spelling.specs.Words.{word16}

@@ -3,56 +3,56 @@ use Rattle.std.proofs.Common.{◌≡◌, ℕ, Bool, true, not, ◌&&◌, List, [
 use Rattle.std.specs.List.{flat_map}
 use Rattle.std.proofs.lemmas.Bool.{and_parts}
 use Rattle.std.specs.List.{list_all}
-use Rattle.p416_ast.specs.declared.parts.Note.{Note}
-use Rattle.p416_ast.specs.declared.parsers.Var.{Var}
-use Rattle.p416_ast.specs.declared.parsers.Simple.{Simple}
-use Rattle.p416_ast.specs.declared.parsers.Simple.TheVariants as simple
-use Rattle.p416_ast.specs.declared.parsers.Keyset.{Keyset}
-use Rattle.p416_ast.specs.declared.parsers.Keyset.TheVariants as keyset
-use Rattle.p416_ast.specs.declared.parsers.SelectCase.{SelectCase}
-use Rattle.p416_ast.specs.declared.parsers.Transition.{Transition}
-use Rattle.p416_ast.specs.declared.parsers.Transition.TheVariants as transition
-use Rattle.p416_ast.specs.declared.parsers.State.{State}
-use Rattle.p416_ast.specs.declared.parsers.Parser16.{Parser16}
-use Rattle.p416_ast.specs.declared.controls.Instance.{Instance}
-use Rattle.p416_ast.specs.declared.controls.Instance.TheVariants as instance
-use Rattle.p416_ast.specs.declared.controls.Action16.{Action16}
-use Rattle.p416_ast.specs.declared.controls.TableKey.{TableKey}
-use Rattle.p416_ast.specs.declared.controls.Property.{Property}
-use Rattle.p416_ast.specs.declared.controls.Property.TheVariants as property
-use Rattle.p416_ast.specs.declared.controls.Table16.{Table16}
-use Rattle.p416_ast.specs.declared.controls.Local.{Local}
-use Rattle.p416_ast.specs.declared.controls.Local.TheVariants as local
-use Rattle.p416_ast.specs.declared.controls.Control16.{Control16}
-use Rattle.p416_ast.specs.declared.program.Decl16.{Decl16}
-use Rattle.p416_ast.specs.declared.program.Decl16.TheVariants as decl
-use Rattle.p416_ast.specs.declared.program.Syntax16.{Syntax16}
-use Rattle.p416_lexemes.specs.declared.keyword.Keyword16.{Keyword16}
-use Rattle.p416_lexemes.specs.declared.keyword.Keyword16.TheVariants as key
-use Rattle.p416_lexemes.specs.declared.lexeme.Include16.{Include16}
+use Rattle.p416_syntax.specs.declared.parts.Note.{Note}
+use Rattle.p416_syntax.specs.declared.parsers.Var.{Var}
+use Rattle.p416_syntax.specs.declared.parsers.Simple.{Simple}
+use Rattle.p416_syntax.specs.declared.parsers.Simple.TheVariants as simple
+use Rattle.p416_syntax.specs.declared.parsers.Keyset.{Keyset}
+use Rattle.p416_syntax.specs.declared.parsers.Keyset.TheVariants as keyset
+use Rattle.p416_syntax.specs.declared.parsers.SelectCase.{SelectCase}
+use Rattle.p416_syntax.specs.declared.parsers.Transition.{Transition}
+use Rattle.p416_syntax.specs.declared.parsers.Transition.TheVariants as transition
+use Rattle.p416_syntax.specs.declared.parsers.State.{State}
+use Rattle.p416_syntax.specs.declared.parsers.Parser16.{Parser16}
+use Rattle.p416_syntax.specs.declared.controls.Instance.{Instance}
+use Rattle.p416_syntax.specs.declared.controls.Instance.TheVariants as instance
+use Rattle.p416_syntax.specs.declared.controls.Action16.{Action16}
+use Rattle.p416_syntax.specs.declared.controls.TableKey.{TableKey}
+use Rattle.p416_syntax.specs.declared.controls.Property.{Property}
+use Rattle.p416_syntax.specs.declared.controls.Property.TheVariants as property
+use Rattle.p416_syntax.specs.declared.controls.Table16.{Table16}
+use Rattle.p416_syntax.specs.declared.controls.Local.{Local}
+use Rattle.p416_syntax.specs.declared.controls.Local.TheVariants as local
+use Rattle.p416_syntax.specs.declared.controls.Control16.{Control16}
+use Rattle.p416_syntax.specs.declared.program.Decl16.{Decl16}
+use Rattle.p416_syntax.specs.declared.program.Decl16.TheVariants as decl
+use Rattle.p416_syntax.specs.declared.program.Syntax16.{Syntax16}
+use Rattle.p416_syntax.specs.declared.keyword.Keyword16.{Keyword16}
+use Rattle.p416_syntax.specs.declared.keyword.Keyword16.TheVariants as key
+use Rattle.p416_syntax.specs.declared.lexeme.Include16.{Include16}
 use Rattle.std.specs.Option.{option_map}
-use Rattle.p416_ast.specs.declared.parts.Type16.{Type16}
+use Rattle.p416_syntax.specs.declared.parts.Type16.{Type16}
 use Rattle.p416_spelling.specs.Words.{word16}
-use Rattle.p416_lexemes.specs.declared.lexeme.Annotation16.TheVariants as annotation_of
-use Rattle.p416_lexemes.specs.declared.lexeme.Include16.TheVariants as include
-use Rattle.p416_lexemes.specs.declared.lexeme.Literal16.{Literal16}
-use Rattle.p416_ast.specs.declared.parts.Note.TheVariants as note
-use Rattle.p416_ast.specs.declared.parts.Direction.{Direction}
-use Rattle.p416_ast.specs.declared.parts.Direction.TheVariants as direction
-use Rattle.p416_ast.specs.declared.parts.Param.{Param}
-use Rattle.p416_ast.specs.declared.parts.BitField.{BitField}
-use Rattle.p416_ast.specs.declared.parts.StructField.{StructField}
-use Rattle.p416_ast.specs.declared.parts.Member.{Member}
-use Rattle.p416_ast.specs.declared.node.CaseLabel.{CaseLabel}
-use Rattle.p416_ast.specs.declared.node.CaseLabel.TheVariants as label
-use Rattle.p416_ast.specs.declared.parsers.Target.{Target}
-use Rattle.p416_ast.specs.declared.parsers.Target.TheVariants as target
-use Rattle.p416_ast.specs.declared.controls.ActionName.{ActionName}
-use Rattle.p416_ast.specs.declared.controls.ActionName.TheVariants as action_name
-use Rattle.p416_ast.specs.Tree.{Exp16, Stmt16, no_statements, then, block, empty, var, var_is, assign, expression, if_then, if_else, switch, no_cases, case_of}
-use Rattle.p416_ast.specs.Tokens.{Seen16, id, quoted, number, string, annotation, include_line, semicolon, colon, comma, dots, equals, less, greater, mask, bracket_open, paren_open, paren_close, in_parens, in_braces}
-use Rattle.p416_ast.specs.Written.{written_option, after_commas, by_commas, written_number, written_block_name, written_note, written_notes, written_bit, written_type, written_direction, written_param, written_member, written_exp, written_var_of, written_initial, written_label, written_run, written_stmt, written_block, written_var, written_target, written_simple, written_keyset, written_case, written_transition, written_state, written_parser, written_instance, written_object, written_action, written_action_name, written_listed_action, written_key, property_word, written_property_value, written_property, written_table, written_local, written_control, written_bit_field, written_struct_field, written_decl, written_main, written}
-use Rattle.p416_ast.specs.Conditions.{without_parentheses, is_some_listed, is_option, are_notes, is_exp, is_call, ends_in_if, StmtPlace, statements, statement, cases, is_stmt, is_var, is_simple, is_parenthesized_value, is_keyset, is_case, is_transition, is_state, is_parser, is_instance, is_key, is_property, are_properties, is_table, is_local, is_control, is_decl, is_syntax}
+use Rattle.p416_syntax.specs.declared.lexeme.Annotation16.TheVariants as annotation_of
+use Rattle.p416_syntax.specs.declared.lexeme.Include16.TheVariants as include
+use Rattle.p416_syntax.specs.declared.lexeme.Literal16.{Literal16}
+use Rattle.p416_syntax.specs.declared.parts.Note.TheVariants as note
+use Rattle.p416_syntax.specs.declared.parts.Direction.{Direction}
+use Rattle.p416_syntax.specs.declared.parts.Direction.TheVariants as direction
+use Rattle.p416_syntax.specs.declared.parts.Param.{Param}
+use Rattle.p416_syntax.specs.declared.parts.BitField.{BitField}
+use Rattle.p416_syntax.specs.declared.parts.StructField.{StructField}
+use Rattle.p416_syntax.specs.declared.parts.Member.{Member}
+use Rattle.p416_syntax.specs.declared.node.CaseLabel.{CaseLabel}
+use Rattle.p416_syntax.specs.declared.node.CaseLabel.TheVariants as label
+use Rattle.p416_syntax.specs.declared.parsers.Target.{Target}
+use Rattle.p416_syntax.specs.declared.parsers.Target.TheVariants as target
+use Rattle.p416_syntax.specs.declared.controls.ActionName.{ActionName}
+use Rattle.p416_syntax.specs.declared.controls.ActionName.TheVariants as action_name
+use Rattle.p416_syntax.specs.Tree.{Exp16, Stmt16, no_statements, then, block, empty, var, var_is, assign, expression, if_then, if_else, switch, no_cases, case_of}
+use Rattle.p416_syntax.specs.Tokens.{Seen16, id, quoted, number, string, annotation, include_line, semicolon, colon, comma, dots, equals, less, greater, mask, bracket_open, paren_open, paren_close, in_parens, in_braces}
+use Rattle.p416_syntax.specs.Written.{written_option, after_commas, by_commas, written_number, written_block_name, written_note, written_notes, written_bit, written_type, written_direction, written_param, written_member, written_exp, written_var_of, written_initial, written_label, written_run, written_stmt, written_block, written_var, written_target, written_simple, written_keyset, written_case, written_transition, written_state, written_parser, written_instance, written_object, written_action, written_action_name, written_listed_action, written_key, property_word, written_property_value, written_property, written_table, written_local, written_control, written_bit_field, written_struct_field, written_decl, written_main, written}
+use Rattle.p416_syntax.specs.Conditions.{without_parentheses, is_some_listed, is_option, are_notes, is_exp, is_call, ends_in_if, StmtPlace, statements, statement, cases, is_stmt, is_var, is_simple, is_parenthesized_value, is_keyset, is_case, is_transition, is_state, is_parser, is_instance, is_key, is_property, are_properties, is_table, is_local, is_control, is_decl, is_syntax}
 use Rattle.p416_parentheses.specs.Expressions.{within, full}
 use Rattle.p416_parentheses.specs.Syntax.{full_stmt, full_var, full_simple, full_one, full_keyset, full_case, full_transition, full_state, full_parser, full_instance, full_action, full_key, full_property, full_table, full_local, full_control, full_decl, full_syntax}
 use Rattle.p416_read_back.proofs.Told.{Good, IsPlain, good_nothing, good_append, good_cons, good_one}

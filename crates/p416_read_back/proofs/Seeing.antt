@@ -7,25 +7,25 @@ use Rattle.std.proofs.lemmas.Bool.{and_from, and_parts}
 use Rattle.std.proofs.lemmas.Bool.Decides.{nat_tests}
 use Rattle.std.proofs.lemmas.List.{take_at, length-append}
 use Rattle.token_division.specs.declared.division.Token.{Token}
-use Rattle.p416_lexemes.specs.declared.keyword.Keyword16.{Keyword16}
-use Rattle.p416_lexemes.specs.declared.keyword.Keyword16.TheVariants as word_of_key
-use Rattle.p416_lexemes.specs.declared.mark.Mark16.{Mark16}
-use Rattle.p416_lexemes.specs.declared.mark.Mark16.TheVariants as mark_of
-use Rattle.p416_lexemes.specs.Keywords.{keyword_text16, all_keywords16, is_among16}
-use Rattle.p416_lexemes.specs.Spelt.{is_identifier16, is_name16}
+use Rattle.p416_syntax.specs.declared.keyword.Keyword16.{Keyword16}
+use Rattle.p416_syntax.specs.declared.keyword.Keyword16.TheVariants as word_of_key
+use Rattle.p416_syntax.specs.declared.mark.Mark16.{Mark16}
+use Rattle.p416_syntax.specs.declared.mark.Mark16.TheVariants as mark_of
+use Rattle.p416_syntax.specs.Keywords.{keyword_text16, all_keywords16, is_among16}
+use Rattle.p416_syntax.specs.SpeltLexemes.{is_identifier16, is_name16}
 use Rattle.p416_tok.specs.declared.kind.TokenKind16.{TokenKind16}
 use Rattle.p416_tok.specs.declared.kind.TokenKind16.TheVariants as kind
 use Rattle.p416_tok.specs.Lexemes.{inner}
-use Rattle.p416_ast.specs.Tokens.{Seen16, id, quoted, number, mark, string, annotation, include_line, joined, opens, seen_word, seen_as, keyword_among, lookahead_text, is_spelt_seen}
+use Rattle.p416_syntax.specs.Tokens.{Seen16, id, quoted, number, mark, string, annotation, include_line, joined, opens, seen_word, seen_as, keyword_among, lookahead_text, is_spelt_seen}
 use Rattle.token_sheet.specs.Words.{first_of, touches, words_in}
 use Rattle.p416_spelling.specs.Spelled.{meets16, is_greater16, string_text16}
 use Rattle.p416_spelling.specs.Words.{word16, words16}
 use Rattle.p416_reader.specs.Seen as seen
 use Rattle.p416_reader.specs.Seen.{Tokens, octets_in, back, ahead, is_less_kind, is_greater_kind, is_dot_kind, is_paren_kind, is_bracket_kind, is_bracket_end_kind, is_number_kind, is_name_kind, is_of_kind, is_word_with, is_bit_type, is_bits, is_free, is_touched, is_past_type, follows_lookahead, seen_greater, seen_less, seen_as_kind, seen_at, seen_from, seen16}
-use Rattle.p416_ast.specs.declared.parts.Type16.{Type16}
-use Rattle.p416_ast.specs.declared.parts.Type16.TheVariants as type_of
-use Rattle.p416_ast.specs.Tokens.{greater, paren_open}
-use Rattle.p416_ast.specs.Written.{written_type}
+use Rattle.p416_syntax.specs.declared.parts.Type16.{Type16}
+use Rattle.p416_syntax.specs.declared.parts.Type16.TheVariants as type_of
+use Rattle.p416_syntax.specs.Tokens.{greater, paren_open}
+use Rattle.p416_syntax.specs.Written.{written_type}
 use Rattle.p416_read_back.proofs.Told.{W, kind_is, word_is, follows, BeginsType, Fits, Told}
 
 -- behind a `<` stands a type, and `>(` behind it, by the words there

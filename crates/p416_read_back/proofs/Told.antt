@@ -3,11 +3,11 @@
 use Rattle.std.proofs.Common.{◌≡◌, ℕ, Bool, true, false, List, [], ◌∷◌, ◌++◌, refl, sym, ap, subst, append_assoc, Option, Some, None}
 use Rattle.std.specs.Prelude.{◌&&◌}
 use Rattle.std.specs.Str.{bytes_eq}
-use Rattle.p416_lexemes.specs.declared.mark.Mark16.TheVariants as mark_of
+use Rattle.p416_syntax.specs.declared.mark.Mark16.TheVariants as mark_of
 use Rattle.p416_tok.specs.declared.kind.TokenKind16.{TokenKind16}
-use Rattle.p416_ast.specs.declared.parts.Type16.{Type16}
-use Rattle.p416_ast.specs.Tokens.{Seen16, mark, joined, opens, lookahead_text, greater, paren_open}
-use Rattle.p416_ast.specs.Written.{written_type}
+use Rattle.p416_syntax.specs.declared.parts.Type16.{Type16}
+use Rattle.p416_syntax.specs.Tokens.{Seen16, mark, joined, opens, lookahead_text, greater, paren_open}
+use Rattle.p416_syntax.specs.Written.{written_type}
 use Rattle.token_sheet.specs.Words.{Word}
 use Rattle.p416_spelling.specs.Words.{word16}
 use Rattle.p416_reader.specs.Seen.{is_less_kind, is_greater_kind, is_dot_kind, is_name_kind}

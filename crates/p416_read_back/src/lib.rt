@@ -5,9 +5,9 @@
 ghost use Rattle.std.specs.Prelude.{◌≡◌, ℕ, List, IsTrue};
 ghost use Rattle.token_sheet.specs.Words.{IsDividedInto};
 ghost use Rattle.p416_tok.specs.Front.{front};
-ghost use Rattle.p416_ast.specs.declared.program.Syntax16.{Syntax16};
-ghost use Rattle.p416_ast.specs.Written.{written};
-ghost use Rattle.p416_ast.specs.Spelt.{is_spelt16};
+ghost use Rattle.p416_syntax.specs.declared.program.Syntax16.{Syntax16};
+ghost use Rattle.p416_syntax.specs.Written.{written};
+ghost use Rattle.p416_syntax.specs.Spelt.{is_spelt16};
 ghost use Rattle.p416_parentheses.specs.Syntax.{full_syntax};
 ghost use Rattle.p416_spelling.specs.Spelled.{meets16};
 ghost use Rattle.p416_spelling.specs.Words.{words16};

@@ -2,32 +2,32 @@
 use Rattle.std.proofs.Common.{◌≡◌, suc, Bool, true, false, not, ◌&&◌, ◌||◌, List, [], ◌∷◌, map, Option, Some, None, refl, sym, ap, subst, ◌∙◌}
 use Rattle.std.specs.List.{list_all}
 use Rattle.std.specs.Option.{option_map}
-use Rattle.p416_ast.specs.declared.parsers.Var.{Var}
-use Rattle.p416_ast.specs.declared.parsers.Simple.{Simple}
-use Rattle.p416_ast.specs.declared.parsers.Simple.TheVariants as simple
-use Rattle.p416_ast.specs.declared.parsers.Keyset.{Keyset}
-use Rattle.p416_ast.specs.declared.parsers.Keyset.TheVariants as keyset
-use Rattle.p416_ast.specs.declared.parsers.SelectCase.{SelectCase}
-use Rattle.p416_ast.specs.declared.parsers.Transition.{Transition}
-use Rattle.p416_ast.specs.declared.parsers.Transition.TheVariants as transition
-use Rattle.p416_ast.specs.declared.parsers.State.{State}
-use Rattle.p416_ast.specs.declared.parsers.Parser16.{Parser16}
-use Rattle.p416_ast.specs.declared.controls.Instance.{Instance}
-use Rattle.p416_ast.specs.declared.controls.Instance.TheVariants as instance
-use Rattle.p416_ast.specs.declared.controls.TableKey.{TableKey}
-use Rattle.p416_ast.specs.declared.controls.Property.{Property}
-use Rattle.p416_ast.specs.declared.controls.Property.TheVariants as property
-use Rattle.p416_ast.specs.declared.controls.Table16.{Table16}
-use Rattle.p416_ast.specs.declared.controls.Local.{Local}
-use Rattle.p416_ast.specs.declared.controls.Local.TheVariants as local
-use Rattle.p416_ast.specs.declared.controls.Control16.{Control16}
-use Rattle.p416_ast.specs.declared.program.Decl16.{Decl16}
-use Rattle.p416_ast.specs.declared.program.Decl16.TheVariants as decl
-use Rattle.p416_ast.specs.declared.program.Syntax16.{Syntax16}
-use Rattle.p416_ast.specs.Tree.{Exp16, literal, truth, error, name, member, index, slice, call, lookahead, cast, unary, binary, choice, parenthesized, no_arguments, argument, listed, Stmt16, no_statements, then, block, empty, var, var_is, assign, expression, if_then, if_else, switch, no_cases, case_of}
-use Rattle.p416_ast.specs.Operators.{postfix_power, prefix_power, binary_power, choice_power}
-use Rattle.p416_ast.specs.Parentheses.{bare_exp, bare_stmt, bare_var, bare_simple, bare_keyset, bare_case, bare_transition, bare_state, bare_parser, bare_instance, bare_key, bare_property, bare_table, bare_local, bare_control, bare_decl, bare}
-use Rattle.p416_ast.specs.Conditions.{with_parentheses, without_parentheses, is_some_listed, is_option, are_notes, fits, ExpPlace, one, many, is_exp_at, is_exp, is_call, ends_in_if, StmtPlace, statements, statement, cases, is_stmt, is_var, is_simple, is_parenthesized, is_parenthesized_value, is_keyset, is_case, is_transition, is_state, is_parser, is_instance, is_key, is_property, are_properties, all_different, is_among, is_table, is_local, is_control, is_decl, is_syntax}
+use Rattle.p416_syntax.specs.declared.parsers.Var.{Var}
+use Rattle.p416_syntax.specs.declared.parsers.Simple.{Simple}
+use Rattle.p416_syntax.specs.declared.parsers.Simple.TheVariants as simple
+use Rattle.p416_syntax.specs.declared.parsers.Keyset.{Keyset}
+use Rattle.p416_syntax.specs.declared.parsers.Keyset.TheVariants as keyset
+use Rattle.p416_syntax.specs.declared.parsers.SelectCase.{SelectCase}
+use Rattle.p416_syntax.specs.declared.parsers.Transition.{Transition}
+use Rattle.p416_syntax.specs.declared.parsers.Transition.TheVariants as transition
+use Rattle.p416_syntax.specs.declared.parsers.State.{State}
+use Rattle.p416_syntax.specs.declared.parsers.Parser16.{Parser16}
+use Rattle.p416_syntax.specs.declared.controls.Instance.{Instance}
+use Rattle.p416_syntax.specs.declared.controls.Instance.TheVariants as instance
+use Rattle.p416_syntax.specs.declared.controls.TableKey.{TableKey}
+use Rattle.p416_syntax.specs.declared.controls.Property.{Property}
+use Rattle.p416_syntax.specs.declared.controls.Property.TheVariants as property
+use Rattle.p416_syntax.specs.declared.controls.Table16.{Table16}
+use Rattle.p416_syntax.specs.declared.controls.Local.{Local}
+use Rattle.p416_syntax.specs.declared.controls.Local.TheVariants as local
+use Rattle.p416_syntax.specs.declared.controls.Control16.{Control16}
+use Rattle.p416_syntax.specs.declared.program.Decl16.{Decl16}
+use Rattle.p416_syntax.specs.declared.program.Decl16.TheVariants as decl
+use Rattle.p416_syntax.specs.declared.program.Syntax16.{Syntax16}
+use Rattle.p416_syntax.specs.Tree.{Exp16, literal, truth, error, name, member, index, slice, call, lookahead, cast, unary, binary, choice, parenthesized, no_arguments, argument, listed, Stmt16, no_statements, then, block, empty, var, var_is, assign, expression, if_then, if_else, switch, no_cases, case_of}
+use Rattle.p416_syntax.specs.Operators.{postfix_power, prefix_power, binary_power, choice_power}
+use Rattle.p416_syntax.specs.Parentheses.{bare_exp, bare_stmt, bare_var, bare_simple, bare_keyset, bare_case, bare_transition, bare_state, bare_parser, bare_instance, bare_key, bare_property, bare_table, bare_local, bare_control, bare_decl, bare}
+use Rattle.p416_syntax.specs.Conditions.{with_parentheses, without_parentheses, is_some_listed, is_option, are_notes, fits, ExpPlace, one, many, is_exp_at, is_exp, is_call, ends_in_if, StmtPlace, statements, statement, cases, is_stmt, is_var, is_simple, is_parenthesized, is_parenthesized_value, is_keyset, is_case, is_transition, is_state, is_parser, is_instance, is_key, is_property, are_properties, all_different, is_among, is_table, is_local, is_control, is_decl, is_syntax}
 use Rattle.p416_reader.proofs.Meaning.{needed_text}
 use Rattle.p416_reader.proofs.Lists.{both, left_true, right_true, not_false}
 use Rattle.p416_reader.proofs.ExpressionLaws.{call_is, open_is}

@@ -4,7 +4,7 @@ use Rattle.std.specs.Prelude.{slice_get}
 use Rattle.std.proofs.lemmas.Result.{IfOk-weaker}
 use Rattle.predictive_parser.specs.Grammar.{first_fit, with_more, plain_lines, ◌⇒◌}
 use Rattle.predictive_parser.specs.Choices.{Chooses}
-use Rattle.p416_ast.specs.Tokens.{Seen16}
+use Rattle.p416_syntax.specs.Tokens.{Seen16}
 use Rattle.p416_reader.specs.declared.symbols.Class.{Class}
 use Rattle.p416_reader.specs.declared.symbols.Class.TheVariants as class
 use Rattle.p416_reader.specs.declared.built.Built.{Built}

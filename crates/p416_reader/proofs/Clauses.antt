@@ -3,8 +3,8 @@ use Rattle.std.proofs.Common.{◌≡◌, ℕ, List, Result, Ok, Err, refl}
 use Rattle.std.specs.Prelude.{IfOk}
 use Rattle.p4x_fault.specs.declared.Fault.{Fault}
 use Rattle.p416_tok.specs.Front.{front}
-use Rattle.p416_ast.specs.declared.program.Syntax16.{Syntax16}
-use Rattle.p416_ast.specs.Spells.{Spells16}
+use Rattle.p416_syntax.specs.declared.program.Syntax16.{Syntax16}
+use Rattle.p416_syntax.specs.Spells.{Spells16}
 use Rattle.text_reading.specs.declared.error.ReadError.{ReadError}
 use Rattle.text_reading.specs.Reading.{IfRefused, Answers}
 use Rattle.text_reading.proofs.Clauses.{ReadsExactly, found, accepts, refused, refuses, one}

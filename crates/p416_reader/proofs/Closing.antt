@@ -3,16 +3,16 @@
 use Rattle.std.proofs.Common.{◌≡◌, ℕ, Bool, true, false, ◌&&◌, nat_eq, nat_le, List, [], ◌∷◌, ◌++◌, codes, get_or, Option, Some, None, refl, bytes_eq}
 use Rattle.predictive_parser.specs.declared.symbol.Symbol.TheVariants.{Put}
 use Rattle.predictive_parser.proofs.Closings.{Closing, IsClosed, row_fits}
-use Rattle.p416_lexemes.specs.declared.keyword.Keyword16.{Keyword16}
-use Rattle.p416_lexemes.specs.declared.keyword.Keyword16.TheVariants as key
-use Rattle.p416_lexemes.specs.declared.lexeme.Annotation16.{Annotation16}
-use Rattle.p416_lexemes.specs.declared.lexeme.Annotation16.TheVariants as note_of
-use Rattle.p416_lexemes.specs.declared.lexeme.Include16.TheVariants as include
-use Rattle.p416_lexemes.specs.declared.mark.Mark16.{Mark16}
-use Rattle.p416_lexemes.specs.declared.mark.Mark16.TheVariants as mark_of
-use Rattle.p416_ast.specs.declared.node.BinaryOperator.{BinaryOperator}
-use Rattle.p416_ast.specs.declared.node.BinaryOperator.TheVariants as operator_of
-use Rattle.p416_ast.specs.Tokens.{Seen16, id, quoted, number, mark, string, annotation, include_line, opens, brace_open, brace_close, paren_open, paren_close, bracket_close, semicolon, dot, equals}
+use Rattle.p416_syntax.specs.declared.keyword.Keyword16.{Keyword16}
+use Rattle.p416_syntax.specs.declared.keyword.Keyword16.TheVariants as key
+use Rattle.p416_syntax.specs.declared.lexeme.Annotation16.{Annotation16}
+use Rattle.p416_syntax.specs.declared.lexeme.Annotation16.TheVariants as note_of
+use Rattle.p416_syntax.specs.declared.lexeme.Include16.TheVariants as include
+use Rattle.p416_syntax.specs.declared.mark.Mark16.{Mark16}
+use Rattle.p416_syntax.specs.declared.mark.Mark16.TheVariants as mark_of
+use Rattle.p416_syntax.specs.declared.node.BinaryOperator.{BinaryOperator}
+use Rattle.p416_syntax.specs.declared.node.BinaryOperator.TheVariants as operator_of
+use Rattle.p416_syntax.specs.Tokens.{Seen16, id, quoted, number, mark, string, annotation, include_line, opens, brace_open, brace_close, paren_open, paren_close, bracket_close, semicolon, dot, equals}
 use Rattle.p416_reader.specs.declared.symbols.Class.{Class}
 use Rattle.p416_reader.specs.declared.symbols.Class.TheVariants as class
 use Rattle.p416_reader.specs.declared.symbols.Known.TheVariants as known

@@ -2,13 +2,13 @@
 use Rattle.std.proofs.Common.{◌≡◌, ℕ, suc, Bool, true, false, ◌&&◌, nat_eq, nat_le, List, [], ◌∷◌, ◌++◌, map, refl, sym, ap, subst, ◌∙◌, append_assoc, append-nil, le_trans, le_refl, leb-true, le-leb}
 use Rattle.std.proofs.lemmas.Bool.{eqb-true}
 use Rattle.std.specs.List.{flat_map, list_all}
-use Rattle.p416_lexemes.specs.declared.lexeme.Literal16.{Literal16}
-use Rattle.p416_ast.specs.Tree.{Exp16, literal, truth, error, name, member, index, slice, call, lookahead, cast, unary, binary, choice, parenthesized, no_arguments, argument, listed, Stmt16, no_statements, then, block, empty, var, var_is, assign, expression, if_then, if_else, switch, no_cases, case_of}
-use Rattle.p416_ast.specs.Tokens.{comma, colon, in_braces}
-use Rattle.p416_ast.specs.Operators.{binary_tokens, binary_power}
-use Rattle.p416_ast.specs.Written.{after_commas, by_commas, written_exp, written_stmt, written_label}
-use Rattle.p416_ast.specs.Parentheses.{bare_exp, bare_stmt}
-use Rattle.p416_ast.specs.Conditions.{with_parentheses, is_exp_at, one, many, is_call, is_stmt, statements, cases, ends_in_if}
+use Rattle.p416_syntax.specs.declared.lexeme.Literal16.{Literal16}
+use Rattle.p416_syntax.specs.Tree.{Exp16, literal, truth, error, name, member, index, slice, call, lookahead, cast, unary, binary, choice, parenthesized, no_arguments, argument, listed, Stmt16, no_statements, then, block, empty, var, var_is, assign, expression, if_then, if_else, switch, no_cases, case_of}
+use Rattle.p416_syntax.specs.Tokens.{comma, colon, in_braces}
+use Rattle.p416_syntax.specs.Operators.{binary_tokens, binary_power}
+use Rattle.p416_syntax.specs.Written.{after_commas, by_commas, written_exp, written_stmt, written_label}
+use Rattle.p416_syntax.specs.Parentheses.{bare_exp, bare_stmt}
+use Rattle.p416_syntax.specs.Conditions.{with_parentheses, is_exp_at, one, many, is_call, is_stmt, statements, cases, ends_in_if}
 use Rattle.p416_reader.specs.declared.built.Built.{Built}
 use Rattle.p416_reader.specs.internal.Classes.{is_plain_name, is_type_like}
 use Rattle.p416_reader.specs.internal.Actions.{with_exps, with_stmt}

@@ -2,20 +2,20 @@
 -- statements and keysets whose beginning is read before it is known what they are.
 use Rattle.std.proofs.Common.{ℕ, suc, Bool, true, false, ◌&&◌, ◌||◌, nat_eq, nat_le, List, [], ◌∷◌, ◌++◌, map, Option}
 use Rattle.std.specs.List.{flat_map, list_all}
-use Rattle.p416_lexemes.specs.declared.lexeme.Literal16.{Literal16}
-use Rattle.p416_ast.specs.declared.parts.Type16.{Type16}
-use Rattle.p416_ast.specs.declared.node.BinaryOperator.{BinaryOperator}
-use Rattle.p416_ast.specs.declared.node.CaseLabel.{CaseLabel}
-use Rattle.p416_ast.specs.declared.parsers.Simple.{Simple}
-use Rattle.p416_ast.specs.declared.parsers.Simple.TheVariants as simple
-use Rattle.p416_ast.specs.declared.parsers.Keyset.{Keyset}
-use Rattle.p416_ast.specs.declared.parsers.Keyset.TheVariants as keyset
-use Rattle.p416_ast.specs.Tree.{Exp16, member, index, slice, call, lookahead, binary, choice, no_arguments, argument, Stmt16, no_statements, then, case_of}
-use Rattle.p416_ast.specs.Tokens.{Seen16, id, number, opens, seen_word, lookahead_text, dot, dots, colon, greater, mask, question, bracket_open, bracket_close, paren_close, in_parens, in_braces}
-use Rattle.p416_ast.specs.Operators.{binary_tokens, binary_power}
-use Rattle.p416_ast.specs.Written.{after_commas, by_commas, written_type, written_exp, written_label, written_stmt, written_simple}
-use Rattle.p416_ast.specs.Parentheses.{bare_exp, bare_simple}
-use Rattle.p416_ast.specs.Conditions.{with_parentheses, is_exp_at, one, is_exp, is_simple}
+use Rattle.p416_syntax.specs.declared.lexeme.Literal16.{Literal16}
+use Rattle.p416_syntax.specs.declared.parts.Type16.{Type16}
+use Rattle.p416_syntax.specs.declared.node.BinaryOperator.{BinaryOperator}
+use Rattle.p416_syntax.specs.declared.node.CaseLabel.{CaseLabel}
+use Rattle.p416_syntax.specs.declared.parsers.Simple.{Simple}
+use Rattle.p416_syntax.specs.declared.parsers.Simple.TheVariants as simple
+use Rattle.p416_syntax.specs.declared.parsers.Keyset.{Keyset}
+use Rattle.p416_syntax.specs.declared.parsers.Keyset.TheVariants as keyset
+use Rattle.p416_syntax.specs.Tree.{Exp16, member, index, slice, call, lookahead, binary, choice, no_arguments, argument, Stmt16, no_statements, then, case_of}
+use Rattle.p416_syntax.specs.Tokens.{Seen16, id, number, opens, seen_word, lookahead_text, dot, dots, colon, greater, mask, question, bracket_open, bracket_close, paren_close, in_parens, in_braces}
+use Rattle.p416_syntax.specs.Operators.{binary_tokens, binary_power}
+use Rattle.p416_syntax.specs.Written.{after_commas, by_commas, written_type, written_exp, written_label, written_stmt, written_simple}
+use Rattle.p416_syntax.specs.Parentheses.{bare_exp, bare_simple}
+use Rattle.p416_syntax.specs.Conditions.{with_parentheses, is_exp_at, one, is_exp, is_simple}
 
 -- an expression of the grammar, an operand, one that members may stand behind, and an argument
 

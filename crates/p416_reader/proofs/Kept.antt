@@ -1,11 +1,11 @@
 -- Places of nodes, while more nodes are put behind: what is seen of them stays as it was.
 use Rattle.std.proofs.Common.{◌≡◌, ℕ, ◌<◌, ◌≤◌, List, [], ◌∷◌, length, refl, sym, subst, ap, ap₂, ◌∙◌, arith}
 use Rattle.std.specs.Prelude.{map, Result, Ok, Err, IfOk, OnOk, OnErr}
-use Rattle.p416_ast.specs.declared.node.ExpNode.{ExpNode}
-use Rattle.p416_ast.specs.declared.node.ExpNode.TheVariants.{Literal, Truth, Error, Name, Member, Index, Slice, Call, Lookahead, Cast, Unary, Binary, Choice, NoArguments, Argument, Listed}
-use Rattle.p416_ast.specs.declared.node.StmtNode.{StmtNode}
-use Rattle.p416_ast.specs.declared.node.StmtNode.TheVariants.{NoStatements, Then, Block, Empty, Var, VarIs, Assign, Expression, If, IfElse, Switch, NoCases, Case}
-use Rattle.p416_ast.specs.Tree.{Exp16, choice, Stmt16, assign, if_then, if_else, Trees, exp_at, stmt_at, exp_of, stmt_of, ExpInOrder, StmtInOrder, Keeps, AddsExp, AddsStmt}
+use Rattle.p416_syntax.specs.declared.node.ExpNode.{ExpNode}
+use Rattle.p416_syntax.specs.declared.node.ExpNode.TheVariants.{Literal, Truth, Error, Name, Member, Index, Slice, Call, Lookahead, Cast, Unary, Binary, Choice, NoArguments, Argument, Listed}
+use Rattle.p416_syntax.specs.declared.node.StmtNode.{StmtNode}
+use Rattle.p416_syntax.specs.declared.node.StmtNode.TheVariants.{NoStatements, Then, Block, Empty, Var, VarIs, Assign, Expression, If, IfElse, Switch, NoCases, Case}
+use Rattle.p416_syntax.specs.Tree.{Exp16, choice, Stmt16, assign, if_then, if_else, Trees, exp_at, stmt_at, exp_of, stmt_of, ExpInOrder, StmtInOrder, Keeps, AddsExp, AddsStmt}
 use Rattle.predictive_parser.specs.Values.{older}
 use Rattle.p416_reader.specs.internal.Actions.{on_exp, on_exps, on_stmt, on_stmts, first_exp, first_stmt}
 use Rattle.p416_reader.specs.internal.Forest.{Forest, forest_of, Rooted, AllBelow, StandIn, TakesExp, TakesStmt}

@@ -6,13 +6,13 @@ use Rattle.predictive_parser.specs.Grammar.{parse}
 use Rattle.predictive_parser.specs.Answers.{IsRefusedAt}
 use Rattle.predictive_parser.proofs.Chains.{reads_all}
 use Rattle.predictive_parser.proofs.Languages.{IsLanguage, refused_at}
-use Rattle.p416_ast.specs.declared.program.Decl16.{Decl16}
-use Rattle.p416_ast.specs.declared.program.Syntax16.{Syntax16}
-use Rattle.p416_ast.specs.Tokens.{Seen16}
-use Rattle.p416_ast.specs.Written.{written}
-use Rattle.p416_ast.specs.Parentheses.{bare, bare_decl}
-use Rattle.p416_ast.specs.Conditions.{with_parentheses, is_decl, is_some_listed}
-use Rattle.p416_ast.specs.Spells.{Spells16}
+use Rattle.p416_syntax.specs.declared.program.Decl16.{Decl16}
+use Rattle.p416_syntax.specs.declared.program.Syntax16.{Syntax16}
+use Rattle.p416_syntax.specs.Tokens.{Seen16}
+use Rattle.p416_syntax.specs.Written.{written}
+use Rattle.p416_syntax.specs.Parentheses.{bare, bare_decl}
+use Rattle.p416_syntax.specs.Conditions.{with_parentheses, is_decl, is_some_listed}
+use Rattle.p416_syntax.specs.Spells.{Spells16}
 use Rattle.p416_reader.specs.declared.symbols.Word.TheVariants as word
 use Rattle.p416_reader.specs.declared.symbols.DeclWord.TheVariants as declare
 use Rattle.p416_reader.specs.declared.built.Built.{Built}

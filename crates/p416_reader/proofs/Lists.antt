@@ -1,7 +1,7 @@
 -- Laws of lists, and of what is built of lists, that the words of every group share.
 use Rattle.std.proofs.Common.{◌≡◌, ℕ, Bool, true, false, not, ◌&&◌, ◌||◌, List, [], ◌∷◌, ◌++◌, map, refl, sym, ap, subst, ◌∙◌, append_assoc, append-nil, bytes_eq}
 use Rattle.std.proofs.lemmas.Slice.Eq.{bytes_eq-Decides}
-use Rattle.p416_ast.specs.Conditions.{is_among, all_different}
+use Rattle.p416_syntax.specs.Conditions.{is_among, all_different}
 use Rattle.predictive_parser.specs.Values.{newest, extended}
 use Rattle.p416_reader.specs.declared.built.Built.{Built}
 use Rattle.p416_reader.proofs.Meaning.{after_all, extended_by, StayDifferent}

@@ -5,43 +5,43 @@ use Rattle.std.specs.List.{flat_map, list_all}
 use Rattle.std.specs.Option.{option_map}
 use Rattle.predictive_parser.proofs.Meanings.{Meaning}
 use Rattle.predictive_parser.specs.Values.{newest, older, extended}
-use Rattle.p416_lexemes.specs.declared.keyword.Keyword16.TheVariants as key
-use Rattle.p416_lexemes.specs.declared.lexeme.Literal16.{Literal16}
-use Rattle.p416_lexemes.specs.Keywords.{keyword_text16}
-use Rattle.p416_ast.specs.declared.parts.Note.{Note}
-use Rattle.p416_ast.specs.declared.parts.Type16.{Type16}
-use Rattle.p416_ast.specs.declared.parts.Param.{Param}
-use Rattle.p416_ast.specs.declared.parts.Member.{Member}
-use Rattle.p416_ast.specs.declared.parts.Member.TheVariants as member_of
-use Rattle.p416_ast.specs.declared.parts.HashAlgorithm.{HashAlgorithm}
-use Rattle.p416_ast.specs.declared.parts.CounterType.{CounterType}
-use Rattle.p416_ast.specs.declared.parts.MeterType.{MeterType}
-use Rattle.p416_ast.specs.declared.parts.CloneType.{CloneType}
-use Rattle.p416_ast.specs.declared.parts.BitField.{BitField}
-use Rattle.p416_ast.specs.declared.parts.StructField.{StructField}
-use Rattle.p416_ast.specs.declared.parsers.Var.{Var}
-use Rattle.p416_ast.specs.declared.parsers.Target.{Target}
-use Rattle.p416_ast.specs.declared.parsers.Simple.{Simple}
-use Rattle.p416_ast.specs.declared.parsers.Keyset.{Keyset}
-use Rattle.p416_ast.specs.declared.parsers.SelectCase.{SelectCase}
-use Rattle.p416_ast.specs.declared.parsers.Transition.{Transition}
-use Rattle.p416_ast.specs.declared.parsers.State.{State}
-use Rattle.p416_ast.specs.declared.controls.Instance.{Instance}
-use Rattle.p416_ast.specs.declared.controls.Action16.{Action16}
-use Rattle.p416_ast.specs.declared.controls.ActionName.{ActionName}
-use Rattle.p416_ast.specs.declared.controls.TableKey.{TableKey}
-use Rattle.p416_ast.specs.declared.controls.Property.{Property}
-use Rattle.p416_ast.specs.declared.controls.Table16.{Table16}
-use Rattle.p416_ast.specs.declared.controls.Local.{Local}
-use Rattle.p416_ast.specs.declared.controls.Local.TheVariants as local_of
-use Rattle.p416_ast.specs.declared.program.Decl16.{Decl16}
-use Rattle.p416_ast.specs.declared.program.Syntax16.{Syntax16}
-use Rattle.p416_ast.specs.Tree.{Exp16, binary, choice, argument, Stmt16, then, assign, expression, var, var_is, case_of, if_then, if_else}
-use Rattle.p416_ast.specs.Members.{hash_text, counter_text, meter_text, clone_text}
-use Rattle.p416_ast.specs.Tokens.{Seen16, id, quoted, number, lookahead_text, dot, paren_open, bracket_open, semicolon, equals}
-use Rattle.p416_ast.specs.Written.{written_option, after_commas, by_commas, written_number, written_note, written_notes, written_size, written_type, written_param, written_member, written_exp, written_stmt, written_initial, written_var, written_target, written_simple, written_keyset, written_case, written_transition, written_state, written_instance, written_action, written_action_name, written_listed_action, written_key, written_property, property_word, written_table, written_local, written_bit_field, written_struct_field, written_decl, written_block_name, written_main, written}
-use Rattle.p416_ast.specs.Parentheses.{bare_exp, bare_stmt, bare_var, bare_simple, bare_keyset, bare_case, bare_transition, bare_state, bare_instance, bare_key, bare_property, bare_local, bare_decl}
-use Rattle.p416_ast.specs.Conditions.{with_parentheses, is_among, all_different, is_option, is_note, is_named_once, is_call, is_stmt, ends_in_if, statement, statements, are_properties, is_var, is_simple, is_parenthesized, is_keyset, is_case, is_transition, is_state, is_instance, is_action, is_key, is_property, property_texts, is_table, is_local, is_struct_field, is_syntax}
+use Rattle.p416_syntax.specs.declared.keyword.Keyword16.TheVariants as key
+use Rattle.p416_syntax.specs.declared.lexeme.Literal16.{Literal16}
+use Rattle.p416_syntax.specs.Keywords.{keyword_text16}
+use Rattle.p416_syntax.specs.declared.parts.Note.{Note}
+use Rattle.p416_syntax.specs.declared.parts.Type16.{Type16}
+use Rattle.p416_syntax.specs.declared.parts.Param.{Param}
+use Rattle.p416_syntax.specs.declared.parts.Member.{Member}
+use Rattle.p416_syntax.specs.declared.parts.Member.TheVariants as member_of
+use Rattle.p416_syntax.specs.declared.parts.HashAlgorithm.{HashAlgorithm}
+use Rattle.p416_syntax.specs.declared.parts.CounterType.{CounterType}
+use Rattle.p416_syntax.specs.declared.parts.MeterType.{MeterType}
+use Rattle.p416_syntax.specs.declared.parts.CloneType.{CloneType}
+use Rattle.p416_syntax.specs.declared.parts.BitField.{BitField}
+use Rattle.p416_syntax.specs.declared.parts.StructField.{StructField}
+use Rattle.p416_syntax.specs.declared.parsers.Var.{Var}
+use Rattle.p416_syntax.specs.declared.parsers.Target.{Target}
+use Rattle.p416_syntax.specs.declared.parsers.Simple.{Simple}
+use Rattle.p416_syntax.specs.declared.parsers.Keyset.{Keyset}
+use Rattle.p416_syntax.specs.declared.parsers.SelectCase.{SelectCase}
+use Rattle.p416_syntax.specs.declared.parsers.Transition.{Transition}
+use Rattle.p416_syntax.specs.declared.parsers.State.{State}
+use Rattle.p416_syntax.specs.declared.controls.Instance.{Instance}
+use Rattle.p416_syntax.specs.declared.controls.Action16.{Action16}
+use Rattle.p416_syntax.specs.declared.controls.ActionName.{ActionName}
+use Rattle.p416_syntax.specs.declared.controls.TableKey.{TableKey}
+use Rattle.p416_syntax.specs.declared.controls.Property.{Property}
+use Rattle.p416_syntax.specs.declared.controls.Table16.{Table16}
+use Rattle.p416_syntax.specs.declared.controls.Local.{Local}
+use Rattle.p416_syntax.specs.declared.controls.Local.TheVariants as local_of
+use Rattle.p416_syntax.specs.declared.program.Decl16.{Decl16}
+use Rattle.p416_syntax.specs.declared.program.Syntax16.{Syntax16}
+use Rattle.p416_syntax.specs.Tree.{Exp16, binary, choice, argument, Stmt16, then, assign, expression, var, var_is, case_of, if_then, if_else}
+use Rattle.p416_syntax.specs.Members.{hash_text, counter_text, meter_text, clone_text}
+use Rattle.p416_syntax.specs.Tokens.{Seen16, id, quoted, number, lookahead_text, dot, paren_open, bracket_open, semicolon, equals}
+use Rattle.p416_syntax.specs.Written.{written_option, after_commas, by_commas, written_number, written_note, written_notes, written_size, written_type, written_param, written_member, written_exp, written_stmt, written_initial, written_var, written_target, written_simple, written_keyset, written_case, written_transition, written_state, written_instance, written_action, written_action_name, written_listed_action, written_key, written_property, property_word, written_table, written_local, written_bit_field, written_struct_field, written_decl, written_block_name, written_main, written}
+use Rattle.p416_syntax.specs.Parentheses.{bare_exp, bare_stmt, bare_var, bare_simple, bare_keyset, bare_case, bare_transition, bare_state, bare_instance, bare_key, bare_property, bare_local, bare_decl}
+use Rattle.p416_syntax.specs.Conditions.{with_parentheses, is_among, all_different, is_option, is_note, is_named_once, is_call, is_stmt, ends_in_if, statement, statements, are_properties, is_var, is_simple, is_parenthesized, is_keyset, is_case, is_transition, is_state, is_instance, is_action, is_key, is_property, property_texts, is_table, is_local, is_struct_field, is_syntax}
 use Rattle.p416_reader.specs.declared.symbols.Word.{Word}
 use Rattle.p416_reader.specs.declared.symbols.Word.TheVariants as word
 use Rattle.p416_reader.specs.declared.symbols.PartWord.{PartWord}

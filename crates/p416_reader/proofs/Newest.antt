@@ -1,6 +1,6 @@
 -- The newest place of a stack of places.
 use Rattle.std.proofs.Common.{◌≡◌, ℕ, ◌<◌, List, [], ◌∷◌, map, subst, ap, arith}
-use Rattle.p416_ast.specs.Tree.{Exp16, exp_at}
+use Rattle.p416_syntax.specs.Tree.{Exp16, exp_at}
 use Rattle.predictive_parser.specs.Values.{newest}
 use Rattle.p416_reader.specs.internal.Actions.{first_exp}
 use Rattle.p416_reader.specs.internal.Forest.{AllBelow}

@@ -11,9 +11,9 @@ use Rattle.predictive_parser.specs.declared.symbol.Otherwise.TheVariants.{Refuse
 use Rattle.predictive_parser.specs.Grammar.{Like, lines_of, plain_lines, first_fit, move}
 use Rattle.predictive_parser.proofs.Chains as chains
 use Rattle.predictive_parser.proofs.Closings as closings
-use Rattle.p416_ast.specs.Tokens.{Seen16, comma}
-use Rattle.p416_ast.specs.Written.{after_commas}
-use Rattle.p416_ast.specs.Conditions.{is_among, all_different}
+use Rattle.p416_syntax.specs.Tokens.{Seen16, comma}
+use Rattle.p416_syntax.specs.Written.{after_commas}
+use Rattle.p416_syntax.specs.Conditions.{is_among, all_different}
 use Rattle.p416_reader.specs.declared.symbols.Class.{Class}
 use Rattle.p416_reader.specs.declared.symbols.Action.{Action}
 use Rattle.p416_reader.specs.declared.symbols.Word.{Word}

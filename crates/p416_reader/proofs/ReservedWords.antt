@@ -2,9 +2,9 @@
 use Rattle.std.proofs.Common.{◌≡◌, ℕ, arith, Bool, true, false, true≢false, List, [], ◌∷◌, is_some, nat_eq, slice_index, bytes_eq, filter, refl, sym, ap, ◌∙◌}
 use Rattle.std.proofs.lemmas.Bool.Decides.{nat_tests}
 use Rattle.std.proofs.lemmas.Slice.Eq.{bytes_eq-Decides}
-use Rattle.p416_lexemes.specs.declared.keyword.Keyword16.{Keyword16}
-use Rattle.p416_lexemes.specs.Keywords.{keyword_text16, is_among16}
-use Rattle.p416_ast.specs.Tokens.{keyword_among}
+use Rattle.p416_syntax.specs.declared.keyword.Keyword16.{Keyword16}
+use Rattle.p416_syntax.specs.Keywords.{keyword_text16, is_among16}
+use Rattle.p416_syntax.specs.Tokens.{keyword_among}
 use Rattle.p416_reader.specs.internal.Words.{begins_with}
 
 same_octet : (n : ℕ) → nat_eq n n ≡ true

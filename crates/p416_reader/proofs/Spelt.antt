@@ -6,22 +6,22 @@ use Rattle.std.proofs.lemmas.Result.{IfOk-weaker}
 use Rattle.token_division.specs.declared.division.Token.{Token}
 use Rattle.token_division.specs.Division.{division}
 use Rattle.token_division.proofs.Whole.{pieces_of}
-use Rattle.p416_lexemes.specs.declared.keyword.Keyword16.{Keyword16}
-use Rattle.p416_lexemes.specs.declared.mark.Mark16.{Mark16}
-use Rattle.p416_lexemes.specs.declared.mark.Mark16.TheVariants as mark_of
-use Rattle.p416_lexemes.specs.Keywords.{keyword_text16, all_keywords16, is_reserved16, is_among16}
-use Rattle.p416_lexemes.specs.Spelt.{is_identifier16, is_spelt_lexeme16}
+use Rattle.p416_syntax.specs.declared.keyword.Keyword16.{Keyword16}
+use Rattle.p416_syntax.specs.declared.mark.Mark16.{Mark16}
+use Rattle.p416_syntax.specs.declared.mark.Mark16.TheVariants as mark_of
+use Rattle.p416_syntax.specs.Keywords.{keyword_text16, all_keywords16, is_reserved16, is_among16}
+use Rattle.p416_syntax.specs.SpeltLexemes.{is_identifier16, is_spelt_lexeme16}
 use Rattle.p416_tok.specs.declared.kind.TokenKind16.{TokenKind16}
 use Rattle.p416_tok.specs.declared.kind.TokenKind16.TheVariants as kind
 use Rattle.p416_tok.specs.Front.{front}
 use Rattle.p416_tok.specs.Lexemes.{lexeme_as, lexeme_in, lexemes16}
 use Rattle.p416_tok.proofs.Spelling.{tokens_spelled}
 use Rattle.p416_tok.proofs.Spelt.{all_spelt}
-use Rattle.p416_ast.specs.declared.program.Syntax16.{Syntax16}
-use Rattle.p416_ast.specs.Tokens.{is_spelt_seen, keyword_among, seen_as, seen_word}
-use Rattle.p416_ast.specs.Written.{written}
-use Rattle.p416_ast.specs.Conditions.{is_syntax, without_parentheses}
-use Rattle.p416_ast.specs.Spelt.{is_spelt16}
+use Rattle.p416_syntax.specs.declared.program.Syntax16.{Syntax16}
+use Rattle.p416_syntax.specs.Tokens.{is_spelt_seen, keyword_among, seen_as, seen_word}
+use Rattle.p416_syntax.specs.Written.{written}
+use Rattle.p416_syntax.specs.Conditions.{is_syntax, without_parentheses}
+use Rattle.p416_syntax.specs.Spelt.{is_spelt16}
 use Rattle.text_reading.specs.declared.error.ReadError.{ReadError}
 use Rattle.p416_reader.specs.Seen.{Tokens, octets_in, seen_greater, seen_less, seen_mark, seen_as_kind, seen_at, seen_from, seen16}
 use Rattle.p416_reader.specs.Reading.{Reads16}

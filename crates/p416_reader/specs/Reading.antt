@@ -1,10 +1,10 @@
 -- Which P4_16 text reads as which syntax, and with which fault a text is refused. What a syntax is spelled with stands in
--- `Spells16` of p416_ast, after P4_16 1.2, "P4 grammar"; the rules L1 to L4 and S1, and their places, are this project's own.
+-- `Spells16` of p416_syntax, after P4_16 1.2, "P4 grammar"; the rules L1 to L4 and S1, and their places, are this project's own.
 use Rattle.std.specs.Prelude.{ℕ, List}
 use Rattle.p4x_fault.specs.declared.Fault.{Fault}
 use Rattle.p416_tok.specs.Front.{front}
-use Rattle.p416_ast.specs.declared.program.Syntax16.{Syntax16}
-use Rattle.p416_ast.specs.Spells.{Spells16}
+use Rattle.p416_syntax.specs.declared.program.Syntax16.{Syntax16}
+use Rattle.p416_syntax.specs.Spells.{Spells16}
 use Rattle.text_reading.specs.Reading.{Reads, IsRefused}
 use Rattle.p416_reader.specs.Seen.{seen16}
 

@@ -3,13 +3,13 @@
 use Rattle.std.specs.Prelude.{ℕ, suc, ◌+◌, ◌-◌, Bool, true, false, not, ◌&&◌, ◌||◌, nat_eq, nat_le, if◌then◌else◌, List, [], ◌∷◌, Option, Some, None, take, drop, slice_get, codes}
 use Rattle.std.specs.Str.{bytes_eq}
 use Rattle.token_division.specs.declared.division.Token.{Token}
-use Rattle.p416_lexemes.specs.declared.mark.Mark16.{Mark16}
-use Rattle.p416_lexemes.specs.declared.mark.Mark16.TheVariants as mark_of
-use Rattle.p416_lexemes.specs.Keywords.{is_reserved16}
+use Rattle.p416_syntax.specs.declared.mark.Mark16.{Mark16}
+use Rattle.p416_syntax.specs.declared.mark.Mark16.TheVariants as mark_of
+use Rattle.p416_syntax.specs.Keywords.{is_reserved16}
 use Rattle.p416_tok.specs.declared.kind.TokenKind16.{TokenKind16}
 use Rattle.p416_tok.specs.declared.kind.TokenKind16.TheVariants as kind
 use Rattle.p416_tok.specs.Lexemes.{inner}
-use Rattle.p416_ast.specs.Tokens.{Seen16, number, mark, string, annotation, include_line, joined, opens, seen_word, lookahead_text}
+use Rattle.p416_syntax.specs.Tokens.{Seen16, number, mark, string, annotation, include_line, joined, opens, seen_word, lookahead_text}
 
 abbrev pub Tokens : Type 0
 Tokens = List (Token TokenKind16)

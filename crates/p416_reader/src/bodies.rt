@@ -5,27 +5,35 @@ ghost use Rattle.p416_reader.specs.declared.built.Built.{Built};
 ghost use Rattle.p416_reader.specs.internal.Actions.{put_body, with_bodies, first_exp, first_stmt};
 ghost use Rattle.p416_reader.specs.internal.Built.{no_bodies};
 ghost use Rattle.p416_reader.specs.internal.Classes.{is_type_like};
-ghost use Rattle.p416_ast.specs.Conditions.{is_call};
+ghost use Rattle.p416_syntax.specs.Conditions.{is_call};
 
 use crate::forest::Forest;
 use crate::parts::Parts;
 use crate::symbols::BodyAction;
 use p4x_bits::{OutOfMemory, Text};
-use p416_ast::{Block16, CaseLabel, CastType, Exp, ExpNode, StmtNode};
+use p416_syntax::{Block16, CaseLabel, CastType, Exp, ExpNode, StmtNode};
 use std::alloc::Global;
 use std::marker::Model;
 
 /// Stacks of expressions and statements, and whether the newest statement ends in an `if` without `else`.
-#[derive(Drop)]
 pub struct Bodies {
     pub forest: Forest,
     pub is_open: bool,
 }
 
+impl Drop for Bodies {
+    fn drop(self) {
+        let Bodies {
+            forest: _forest,
+            is_open: _is_open,
+        } = self;
+    }
+}
+
 impl Model for Bodies {
     ghost use Rattle.p416_reader.specs.internal.Bodies as bodies;
     ghost use Rattle.std.specs.Coded.{codes};
-    ghost use Rattle.p416_ast.specs.Code.{coded_exp, coded_stmt};
+    ghost use Rattle.p416_syntax.specs.Code.{coded_exp, coded_stmt};
 
     ghost Value = { bodies.Bodies };
 

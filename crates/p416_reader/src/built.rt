@@ -1,9 +1,9 @@
 // What is built while a text is read.
 ghost use Rattle.std.specs.Prelude.{◌≡◌, OnOk};
 ghost use Rattle.std.specs.List.{list_any};
-ghost use Rattle.p416_lexemes.specs.Keywords.{keyword_text16};
-ghost use Rattle.p416_ast.specs.Written.{property_word};
-ghost use Rattle.p416_ast.specs.Conditions.{is_name_note, is_among, property_texts};
+ghost use Rattle.p416_syntax.specs.Keywords.{keyword_text16};
+ghost use Rattle.p416_syntax.specs.Written.{property_word};
+ghost use Rattle.p416_syntax.specs.Conditions.{is_name_note, is_among, property_texts};
 ghost use Rattle.p416_reader.specs.internal.Built.{nothing};
 ghost use Rattle.p416_reader.specs.internal.Classes.{accepts, shift};
 ghost use Rattle.p416_reader.specs.internal.Actions.{put};
@@ -18,19 +18,29 @@ use crate::states::States;
 use crate::symbols::{Action, Class};
 use crate::token::TokenView;
 use p4x_bits::{OutOfMemory, Rows, Text};
-use p416_ast::{Decl16, Note, Property};
-use p416_lexemes::{Annotation16, Keyword16, Mark16};
+use p416_syntax::{Annotation16, Decl16, Keyword16, Mark16, Note, Property};
 use std::alloc::Global;
 use std::mem;
 
 /// Stacks of the parts that aren't part of a declaration yet, and the declarations.
-#[derive(Drop)]
 pub struct Built {
     pub parts: Parts,
     pub bodies: Bodies,
     pub states: States,
     pub controls: Controls,
     pub decls: Decls,
+}
+
+impl Drop for Built {
+    fn drop(self) {
+        let Built {
+            parts: _parts,
+            bodies: _bodies,
+            states: _states,
+            controls: _controls,
+            decls: _decls,
+        } = self;
+    }
 }
 
 impl Built {
@@ -69,7 +79,7 @@ impl Built {
             bodies,
             states,
             controls,
-            ..
+            decls: _decls,
         } = self;
         drop(parts);
         drop(bodies);

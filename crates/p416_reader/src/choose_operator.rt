@@ -1,6 +1,6 @@
 // Which row of the operators is taken: what follows an operator depends on how tightly it binds.
 ghost use Rattle.std.specs.Prelude.{◌≡◌, ◌<◌, length, Some, None, IfOk, slice_get};
-ghost use Rattle.p416_ast.specs.Tokens.{Seen16};
+ghost use Rattle.p416_syntax.specs.Tokens.{Seen16};
 ghost use Rattle.p416_reader.specs.internal.Classes.{infix_of};
 ghost use Rattle.p416_reader.specs.internal.Rows as specs;
 ghost use Rattle.p416_reader.specs.internal.Coded.{ChoosesLine, OperatorLines, coded};
@@ -10,7 +10,7 @@ use crate::reading::Reading;
 use crate::rows::{COLON, GREATER, Sym};
 use crate::symbols::{Action, BodyAction, BodyWord, Class, Word};
 use p4x_bits::OutOfMemory;
-use p416_ast::BinaryOperator;
+use p416_syntax::BinaryOperator;
 use predictive_parser::{Alternative, Stack, Symbol, choose_first};
 
 const OPERAND: Sym = Symbol::Word(Word::Body(BodyWord::Operand));

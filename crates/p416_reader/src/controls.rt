@@ -1,10 +1,10 @@
 // Controls, as they are put together.
 ghost use Rattle.std.specs.Prelude.{◌≡◌, OnOk, [], ◌∷◌};
 ghost use Rattle.predictive_parser.specs.Values.{newest, older, extended};
-ghost use Rattle.p416_ast.specs.declared.controls.ActionName.TheVariants as action_name;
-ghost use Rattle.p416_ast.specs.declared.controls.Instance.TheVariants as instance;
+ghost use Rattle.p416_syntax.specs.declared.controls.ActionName.TheVariants as action_name;
+ghost use Rattle.p416_syntax.specs.declared.controls.Instance.TheVariants as instance;
 ghost use Rattle.p416_reader.specs.declared.built.Built.{Built};
-ghost use Rattle.p416_ast.specs.declared.controls.Local.TheVariants as local;
+ghost use Rattle.p416_syntax.specs.declared.controls.Local.TheVariants as local;
 ghost use Rattle.p416_reader.specs.internal.Built.{no_controls};
 ghost use Rattle.p416_reader.specs.internal.Actions.{put_control, no_instance, first_exp, first_stmt, last_name, last_member, last_literal, last_notes, without_name, without_member, without_literal, without_notes, without_exp, without_block, with_controls};
 
@@ -13,14 +13,13 @@ use crate::parts::Parts;
 use crate::states::States;
 use crate::symbols::ControlAction;
 use p4x_bits::{OutOfMemory, Rows, Text};
-use p416_ast::{
+use p416_syntax::{
     Action16, ActionName, HashAlgorithm, Instance, Local, Member, Property, Table16, TableKey,
 };
 use predictive_parser::ValueStack;
 use std::alloc::Global;
 
 /// Stacks of the parts of controls.
-#[derive(Drop)]
 pub struct Controls {
     pub instances: ValueStack<Instance>,
     pub action_names: ValueStack<ActionName>,
@@ -28,6 +27,19 @@ pub struct Controls {
     pub keys: ValueStack<Rows<TableKey>>,
     pub properties: ValueStack<Rows<Property>>,
     pub locals: ValueStack<Rows<Local>>,
+}
+
+impl Drop for Controls {
+    fn drop(self) {
+        let Controls {
+            instances: _instances,
+            action_names: _action_names,
+            action_lists: _action_lists,
+            keys: _keys,
+            properties: _properties,
+            locals: _locals,
+        } = self;
+    }
 }
 
 impl Controls {

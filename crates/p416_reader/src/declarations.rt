@@ -7,17 +7,27 @@ ghost use Rattle.p416_reader.specs.internal.Actions.{put_decl, with_decl};
 use crate::built::Built;
 use crate::symbols::DeclAction;
 use p4x_bits::{OutOfMemory, Rows, Text};
-use p416_ast::{BitField, Control16, Decl16, Header16, Parser16, Struct16, StructField};
+use p416_syntax::{BitField, Control16, Decl16, Header16, Parser16, Struct16, StructField};
 use predictive_parser::ValueStack;
 use std::alloc::Global;
 
 /// Stacks of fields, and the declarations and the names of the blocks in `main`.
-#[derive(Drop)]
 pub struct Decls {
     pub bit_fields: ValueStack<Rows<BitField>>,
     pub struct_fields: ValueStack<Rows<StructField>>,
     pub decls: Rows<Decl16>,
     pub main: Rows<Text>,
+}
+
+impl Drop for Decls {
+    fn drop(self) {
+        let Decls {
+            bit_fields: _bit_fields,
+            struct_fields: _struct_fields,
+            decls: _decls,
+            main: _main,
+        } = self;
+    }
 }
 
 impl Decls {

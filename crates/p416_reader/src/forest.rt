@@ -1,15 +1,15 @@
 // Expressions and statements over earlier ones, as they are put together.
 ghost use Rattle.std.specs.Prelude.{◌≡◌, [], ◌∷◌, ◌<◌, length, IfOk, OnOk};
-ghost use Rattle.p416_ast.specs.Tree as tree;
-ghost use Rattle.p416_ast.specs.Tree.{exp_at, exp_of, stmt_of, ExpInOrder, StmtInOrder};
+ghost use Rattle.p416_syntax.specs.Tree as tree;
+ghost use Rattle.p416_syntax.specs.Tree.{exp_at, exp_of, stmt_of, ExpInOrder, StmtInOrder};
 ghost use Rattle.predictive_parser.specs.Values.{older};
 ghost use Rattle.p416_reader.specs.internal.Actions.{on_exp, on_exps, on_stmt, on_stmts, first_exp, first_stmt, name_of, type_of};
 ghost use Rattle.p416_reader.specs.internal.Classes.{is_plain_name, is_type_like};
-ghost use Rattle.p416_ast.specs.Conditions.{is_call};
+ghost use Rattle.p416_syntax.specs.Conditions.{is_call};
 ghost use Rattle.p416_reader.specs.internal.Forest.{TakesExp, TakesStmt};
 
 use p4x_bits::{OutOfMemory, Text};
-use p416_ast::{
+use p416_syntax::{
     BinaryOperator, Block16, CaseLabel, CastType, Exp, ExpNode, Literal16, Nodes, StmtNode, Type16,
     UnaryOperator,
 };
@@ -30,7 +30,7 @@ pub struct Forest {
 impl Model for Forest {
     ghost use Rattle.p416_reader.specs.internal.Forest.{Rooted, forest_of, StandIn};
     ghost use Rattle.std.specs.Coded.{codes};
-    ghost use Rattle.p416_ast.specs.Code.{coded_exp, coded_stmt};
+    ghost use Rattle.p416_syntax.specs.Code.{coded_exp, coded_stmt};
 
     ghost Value = { Rooted };
 

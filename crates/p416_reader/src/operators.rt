@@ -1,12 +1,11 @@
 // The operators of expressions.
 ghost use Rattle.std.specs.Prelude.{◌≡◌, ◌≤◌};
-ghost use Rattle.p416_ast.specs.Operators.{binary_power};
+ghost use Rattle.p416_syntax.specs.Operators.{binary_power};
 ghost use Rattle.p416_reader.specs.internal.Classes.{infix_of, infix_mark, is_infix};
 ghost use Rattle.p416_reader.specs.internal.Lexemes.{seen_of};
 
 use crate::token::TokenView;
-use p416_ast::BinaryOperator;
-use p416_lexemes::Mark16;
+use p416_syntax::{BinaryOperator, Mark16};
 use predictive_parser::may_follow;
 
 /// The operator that a token is, or begins, if it is one between two operands.

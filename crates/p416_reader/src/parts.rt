@@ -1,15 +1,15 @@
 // Annotations, types, parameters and members of enumerations, as they are put together.
 ghost use Rattle.std.specs.Prelude.{◌≡◌, [], ◌∷◌, None, OnOk};
 ghost use Rattle.predictive_parser.specs.Values.{newest, older, extended};
-ghost use Rattle.p416_ast.specs.declared.parts.Note.TheVariants as note;
-ghost use Rattle.p416_ast.specs.declared.parts.Type16.TheVariants as kind;
-ghost use Rattle.p416_ast.specs.declared.parts.Direction.{Direction};
+ghost use Rattle.p416_syntax.specs.declared.parts.Note.TheVariants as note;
+ghost use Rattle.p416_syntax.specs.declared.parts.Type16.TheVariants as kind;
+ghost use Rattle.p416_syntax.specs.declared.parts.Direction.{Direction};
 ghost use Rattle.p416_reader.specs.internal.Built.{no_parts};
 ghost use Rattle.p416_reader.specs.internal.Actions.{last_name, last_literal, last_type, last_member, last_notes, without_name, without_literal, without_type, without_member, without_notes, put_part};
 
 use crate::symbols::PartAction;
 use p4x_bits::{OutOfMemory, Rows, Text};
-use p416_ast::{Direction, HashAlgorithm, Literal16, Member, Note, Param, Type16};
+use p416_syntax::{Direction, HashAlgorithm, Literal16, Member, Note, Param, Type16};
 use predictive_parser::ValueStack;
 use std::alloc::Global;
 
@@ -20,7 +20,6 @@ const NO_LITERAL: Literal16 = Literal16 {
 };
 
 /// Stacks of names, numbers, annotations, types, parameters and members of enumerations.
-#[derive(Drop)]
 pub struct Parts {
     pub names: ValueStack<Text>,
     pub literals: ValueStack<Literal16>,
@@ -30,6 +29,21 @@ pub struct Parts {
     pub types: ValueStack<Type16>,
     pub params: ValueStack<Rows<Param>>,
     pub members: ValueStack<Member>,
+}
+
+impl Drop for Parts {
+    fn drop(self) {
+        let Parts {
+            names: _names,
+            literals: _literals,
+            literal_options: _literal_options,
+            literal_lists: _literal_lists,
+            notes: _notes,
+            types: _types,
+            params: _params,
+            members: _members,
+        } = self;
+    }
 }
 
 impl Parts {

@@ -1,8 +1,8 @@
 // The reading of a text.
 ghost use Rattle.std.specs.Prelude.{◌≡◌, Ok, Err, IfOk, IsTrue};
 ghost use Rattle.p4x_fault.specs.declared.Fault.{Fault};
-ghost use Rattle.p416_ast.specs.declared.program.Syntax16.{Syntax16};
-ghost use Rattle.p416_ast.specs.Spelt.{is_spelt16};
+ghost use Rattle.p416_syntax.specs.declared.program.Syntax16.{Syntax16};
+ghost use Rattle.p416_syntax.specs.Spelt.{is_spelt16};
 ghost use Rattle.predictive_parser.specs.Grammar.{parse};
 ghost use Rattle.text_reading.specs.Reading.{IfRefused, Answers};
 ghost use Rattle.text_reading.specs.internal.Machine.{IsParsed};
@@ -18,7 +18,7 @@ use crate::built::Built;
 use crate::reading::Reading;
 use crate::seen::SeenTokens;
 use crate::symbols::{DeclWord, Word};
-use p416_ast::Syntax16;
+use p416_syntax::Syntax16;
 use p416_tok::{Token16, tokens16};
 use std::alloc::Global;
 use text_reading::{ReadError, parse_text};
@@ -26,7 +26,7 @@ use text_reading::{ReadError, parse_text};
 /// The syntax of a P4_16 text (P4_16 1.2, "P4 grammar"; the rules and their places are this project's own).
 ///
 /// What is given is a syntax that a text can have: it keeps to the grammar, each of its names is an identifier and not
-/// reserved, and each of its numbers fits (`is_spelt16` of p416_ast).
+/// reserved, and each of its numbers fits (`is_spelt16` of p416_syntax).
 ///
 /// A text that can't be divided into tokens is refused with the L rule that it breaks and the place of what breaks it.
 /// A text whose tokens aren't those of a program is refused with S1, and the place of the first token that can't stand

@@ -3,7 +3,7 @@ ghost use Rattle.p416_reader.specs.declared.built.Built as built;
 ghost use Rattle.p416_reader.specs.internal.Rows.{grammar16};
 ghost use Rattle.p416_reader.specs.internal.Coded.{coded};
 ghost use Rattle.std.specs.Prelude.{◌≡◌, ◌<◌, length, None, IfOk};
-ghost use Rattle.p416_ast.specs.Tokens.{Seen16};
+ghost use Rattle.p416_syntax.specs.Tokens.{Seen16};
 
 use crate::built::Built;
 use crate::choose_operator::choose_coded;

@@ -6,7 +6,7 @@ ghost use Rattle.p416_reader.specs.internal.Rows as specs;
 ghost use Rattle.p416_reader.specs.internal.Coded.{coded};
 
 use crate::symbols::{Action, Class, Word};
-use p416_lexemes::Mark16;
+use p416_syntax::Mark16;
 use predictive_parser::{Row, Symbol, WordRows};
 
 /// A class, and the symbols that follow its token.

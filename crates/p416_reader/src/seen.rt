@@ -18,7 +18,7 @@ pub struct SeenTokens<'t> {
 
 impl<'t> Model for SeenTokens<'t> {
     ghost use Rattle.std.specs.Prelude.{List};
-    ghost use Rattle.p416_ast.specs.Tokens.{Seen16};
+    ghost use Rattle.p416_syntax.specs.Tokens.{Seen16};
     ghost use Rattle.p416_reader.specs.Seen.{seen16};
     ghost use Rattle.p416_reader.specs.internal.Lexemes.{IsAtHand};
 

@@ -1,10 +1,10 @@
 // Parsers and their states, as they are put together.
 ghost use Rattle.std.specs.Prelude.{◌≡◌, OnOk, IfOk, [], ◌∷◌, None, Some};
 ghost use Rattle.predictive_parser.specs.Values.{newest, older, extended};
-ghost use Rattle.p416_ast.specs.declared.parsers.Simple.TheVariants as simple;
-ghost use Rattle.p416_ast.specs.declared.parsers.Keyset.TheVariants as keyset;
-ghost use Rattle.p416_ast.specs.declared.parsers.Target.TheVariants as target;
-ghost use Rattle.p416_ast.specs.declared.parsers.Transition.TheVariants as transition;
+ghost use Rattle.p416_syntax.specs.declared.parsers.Simple.TheVariants as simple;
+ghost use Rattle.p416_syntax.specs.declared.parsers.Keyset.TheVariants as keyset;
+ghost use Rattle.p416_syntax.specs.declared.parsers.Target.TheVariants as target;
+ghost use Rattle.p416_syntax.specs.declared.parsers.Transition.TheVariants as transition;
 ghost use Rattle.p416_reader.specs.declared.built.Built.{Built};
 ghost use Rattle.p416_reader.specs.internal.Built.{no_bodies, no_states};
 ghost use Rattle.p416_reader.specs.internal.Actions.{put_state, first_exp, first_stmt, last_name, last_type, without_name, without_type, without_exp, without_block, with_states};
@@ -13,7 +13,7 @@ use crate::bodies::Bodies;
 use crate::parts::Parts;
 use crate::symbols::StateAction;
 use p4x_bits::{OutOfMemory, Rows};
-use p416_ast::{
+use p416_syntax::{
     Block16, Exp, ExpNode, Keyset, Nodes, SelectCase, Simple, State, StmtNode, Target, Transition,
     Var,
 };
@@ -21,7 +21,6 @@ use predictive_parser::ValueStack;
 use std::alloc::Global;
 
 /// Stacks of the parts of parsers and their states.
-#[derive(Drop)]
 pub struct States {
     pub exps: ValueStack<Exp>,
     pub exp_options: ValueStack<Option<Exp>>,
@@ -35,6 +34,25 @@ pub struct States {
     pub vars: ValueStack<Rows<Var>>,
     pub states: ValueStack<Rows<State>>,
     pub blocks: ValueStack<Block16>,
+}
+
+impl Drop for States {
+    fn drop(self) {
+        let States {
+            exps: _exps,
+            exp_options: _exp_options,
+            exp_lists: _exp_lists,
+            simples: _simples,
+            simple_lists: _simple_lists,
+            keysets: _keysets,
+            targets: _targets,
+            cases: _cases,
+            transitions: _transitions,
+            vars: _vars,
+            states: _states,
+            blocks: _blocks,
+        } = self;
+    }
 }
 
 impl States {

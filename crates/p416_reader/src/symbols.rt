@@ -1,6 +1,7 @@
 // What the rows of the grammar are made of: classes of tokens, actions and words.
-use p416_ast::{BinaryOperator, Direction, Member, UnaryOperator};
-use p416_lexemes::{Annotation16, Include16, Keyword16, Mark16};
+use p416_syntax::{
+    Annotation16, BinaryOperator, Direction, Include16, Keyword16, Mark16, Member, UnaryOperator,
+};
 
 /// A name that the grammar quotes and that isn't reserved.
 #[derive(Clone, Copy, Drop)]

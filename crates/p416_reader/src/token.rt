@@ -1,7 +1,7 @@
 // Tokens, read where they lie in the text.
 ghost use Rattle.std.specs.Prelude.{◌≡◌, ◌<◌, length, true, not, ◌&&◌, take, drop, ◌-◌, ◌+◌, map, Some, IfOk, slice_get};
 ghost use Rattle.std.specs.Str.{bytes_eq};
-ghost use Rattle.p416_ast.specs.Tokens.{seen_word};
+ghost use Rattle.p416_syntax.specs.Tokens.{seen_word};
 ghost use Rattle.p416_tok.specs.Lexemes.{inner};
 ghost use Rattle.p416_reader.specs.Seen.{seen16, seen_at, back, ahead, is_touched, is_bit_type, ends_bit, ends_bool, is_past_type, follows_lookahead, begins_type, is_sized, ends_type, seen_mark, seen_greater, seen_less, is_less_kind, is_greater_kind, is_dot_kind, is_paren_kind, is_bracket_kind, is_bracket_end_kind, is_number_kind, is_of_kind, is_word_with, is_bits, is_free};
 ghost use Rattle.p416_reader.specs.internal.Classes.{mark_number, word_number, note_number, include_number, known_text, is_mark, is_quoted, is_note, is_include, is_id, is_number, is_string, is_opens, is_word, text_of, literal_of};
@@ -10,7 +10,7 @@ ghost use Rattle.p416_reader.specs.internal.Lexemes.{seen_of};
 use crate::symbols::Known;
 use crate::words::{is_reserved, reserved_word};
 use p4x_bits::OutOfMemory;
-use p416_lexemes::{Annotation16, Include16, Keyword16, Literal16, Mark16};
+use p416_syntax::{Annotation16, Include16, Keyword16, Literal16, Mark16};
 use p416_tok::{Token16, TokenKind16};
 use std::alloc::Global;
 

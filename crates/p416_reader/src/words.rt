@@ -1,11 +1,11 @@
 // The reserved word that a text is.
 ghost use Rattle.std.specs.Prelude.{◌≡◌};
 ghost use Rattle.std.specs.List.{filter};
-ghost use Rattle.p416_lexemes.specs.Keywords.{all_keywords16, is_reserved16};
-ghost use Rattle.p416_ast.specs.Tokens.{keyword_among};
+ghost use Rattle.p416_syntax.specs.Keywords.{all_keywords16, is_reserved16};
+ghost use Rattle.p416_syntax.specs.Tokens.{keyword_among};
 ghost use Rattle.p416_reader.specs.internal.Words.{begins_with};
 
-use p416_lexemes::Keyword16;
+use p416_syntax::Keyword16;
 use token_division::octets::octet_at;
 
 /// The reserved word that the octets are, if they are one.

@@ -2,28 +2,28 @@
 -- compute to.
 use Rattle.std.specs.Prelude.{◌≡◌, true, false, [], ◌∷◌, codes, Some, refl}
 use Rattle.std.specs.List.{list_any}
-use Rattle.p416_ast.specs.declared.parts.Type16.TheVariants.{Bit, Named}
-use Rattle.p416_ast.specs.declared.parts.Direction.TheVariants.{In}
-use Rattle.p416_ast.specs.declared.parsers.Target.TheVariants as target_of
-use Rattle.p416_ast.specs.declared.parsers.Transition.TheVariants as transition
-use Rattle.p416_ast.specs.declared.controls.ActionName.TheVariants as action_name
-use Rattle.p416_ast.specs.declared.controls.Property.TheVariants as property
-use Rattle.p416_ast.specs.declared.controls.Instance.TheVariants as instance
-use Rattle.p416_ast.specs.declared.controls.Local.TheVariants as local
-use Rattle.p416_ast.specs.declared.node.CastType.TheVariants as cast_to
-use Rattle.p416_ast.specs.declared.parsers.Keyset.TheVariants as keyset
-use Rattle.p416_ast.specs.declared.parsers.Simple.TheVariants as simple
-use Rattle.p416_ast.specs.declared.node.CaseLabel.TheVariants as case_label
-use Rattle.p416_ast.specs.declared.node.BinaryOperator.TheVariants.{Add, ShiftLeft, Equal, Concatenate}
-use Rattle.p416_ast.specs.declared.program.Decl16.TheVariants as decl
-use Rattle.p416_ast.specs.Tree.{literal, error, name, member, index, slice, call, cast, choice, truth, binary, no_arguments, argument, listed, no_statements, then, block, var, var_is, assign, expression, if_then, switch, no_cases, case_of}
-use Rattle.p416_rules.specs.Unknown.{declares_twice, struct_graph}
-use Rattle.p416_rules.specs.ParserStates.{idle_graph, has_no_start}
-use Rattle.p416_rules.specs.Applications.{call_graph}
-use Rattle.p416_rules.specs.Tables.{has_shared_names}
-use Rattle.p416_rules.specs.Main.{is_main}
-use Rattle.p416_rules.specs.Totals.{depth, is_too_deep, has_large_headers, has_bad_cells}
-use Rattle.p416_rules.specs.Breaks.{program_uses, is_no_block, scope_of}
+use Rattle.p416_syntax.specs.declared.parts.Type16.TheVariants.{Bit, Named}
+use Rattle.p416_syntax.specs.declared.parts.Direction.TheVariants.{In}
+use Rattle.p416_syntax.specs.declared.parsers.Target.TheVariants as target_of
+use Rattle.p416_syntax.specs.declared.parsers.Transition.TheVariants as transition
+use Rattle.p416_syntax.specs.declared.controls.ActionName.TheVariants as action_name
+use Rattle.p416_syntax.specs.declared.controls.Property.TheVariants as property
+use Rattle.p416_syntax.specs.declared.controls.Instance.TheVariants as instance
+use Rattle.p416_syntax.specs.declared.controls.Local.TheVariants as local
+use Rattle.p416_syntax.specs.declared.node.CastType.TheVariants as cast_to
+use Rattle.p416_syntax.specs.declared.parsers.Keyset.TheVariants as keyset
+use Rattle.p416_syntax.specs.declared.parsers.Simple.TheVariants as simple
+use Rattle.p416_syntax.specs.declared.node.CaseLabel.TheVariants as case_label
+use Rattle.p416_syntax.specs.declared.node.BinaryOperator.TheVariants.{Add, ShiftLeft, Equal, Concatenate}
+use Rattle.p416_syntax.specs.declared.program.Decl16.TheVariants as decl
+use Rattle.p416_syntax.specs.Tree.{literal, error, name, member, index, slice, call, cast, choice, truth, binary, no_arguments, argument, listed, no_statements, then, block, var, var_is, assign, expression, if_then, switch, no_cases, case_of}
+use Rattle.p416_syntax.specs.Unknown.{declares_twice, struct_graph}
+use Rattle.p416_syntax.specs.ParserStates.{idle_graph, has_no_start}
+use Rattle.p416_syntax.specs.Applications.{call_graph}
+use Rattle.p416_syntax.specs.Tables.{has_shared_names}
+use Rattle.p416_syntax.specs.Main.{is_main}
+use Rattle.p416_syntax.specs.Totals.{depth, is_too_deep, has_large_headers, has_bad_cells}
+use Rattle.p416_syntax.specs.Breaks.{program_uses, is_no_block, scope_of}
 use Rattle.p416_rules_examples.specs.Samples.{number, sized, bit_field, named, one, given, hdr, field, egress_spec, hs_param, parser_of, ingress_of, program, extract, none, sets, least, applies_t, action_of, table_of, lists_x, key_of, calls_x, direct_d, counts_d, in_ingress, two, condition, declares, with_stack, stack_s, with_table, with_action, value_v, selects, value_of, nots, with_table_and}
 
 pub q1_breaks_none : least none ≡ 0

@@ -3,9 +3,9 @@ use Rattle.std.proofs.Common.{◌≡◌, ℕ, zero, suc, ◌-◌, ◌<◌, ◌�
 use Rattle.std.proofs.lemmas.List.{take-append-le, take-append-drop, length-take, length-take-le}
 use Rattle.std.specs.Str.{bytes_eq}
 use Rattle.name_stack.specs.Newest.{newest, behind_first}
-use Rattle.p416_rules.specs.Names.{Name}
-use Rattle.p416_rules.specs.Scopes as rule
-use Rattle.p416_rules.specs.Scopes.{Known, known, sort_in}
+use Rattle.p416_syntax.specs.Names.{Name}
+use Rattle.p416_syntax.specs.Scopes as rule
+use Rattle.p416_syntax.specs.Scopes.{Known, known, sort_in}
 use Rattle.p416_names.specs.declared.sort.Sort.{Sort}
 use Rattle.p416_names.specs.Seen.{seen_sort}
 use Rattle.p416_scopes.specs.Seen.{own_names, sort_at}

@@ -1,11 +1,11 @@
 -- Which scope of the rules a scope of code is.
 use Rattle.std.specs.Prelude.{ℕ, List, [], ◌∷◌, slice_get}
 use Rattle.std.specs.Option.{option_map_or}
-use Rattle.p416_ast.specs.declared.program.Decl16.{Decl16}
-use Rattle.p416_rules.specs.Names.{Name}
-use Rattle.p416_rules.specs.Scopes as rule
-use Rattle.p416_rules.specs.Scopes.{Known, known, undeclared}
-use Rattle.p416_rules.specs.Declarations.{top_scope, top_names, layouts_of}
+use Rattle.p416_syntax.specs.declared.program.Decl16.{Decl16}
+use Rattle.p416_syntax.specs.Names.{Name}
+use Rattle.p416_syntax.specs.Scopes as rule
+use Rattle.p416_syntax.specs.Scopes.{Known, known, undeclared}
+use Rattle.p416_syntax.specs.Declarations.{top_scope, top_names, layouts_of}
 use Rattle.p416_names.specs.declared.sort.Sort.{Sort}
 use Rattle.p416_names.specs.Seen.{seen_sort}
 use Rattle.p416_scopes.specs.declared.scope.Part.{Part}

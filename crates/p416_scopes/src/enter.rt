@@ -1,13 +1,13 @@
 // The scopes of parsers, controls and actions (P4_16 1.2, "Name resolution").
 ghost use Rattle.std.specs.Prelude.{◌≡◌, ◌∷◌, [], map, length, take, OnOk, IfOk};
-ghost use Rattle.p416_rules.specs.Scopes.{is_written, known_parameter, inside};
-ghost use Rattle.p416_rules.specs.Declarations.{top_names, top_scope, known_var, known_state, known_local, parser_scope, control_scope, action_scope};
+ghost use Rattle.p416_syntax.specs.Scopes.{is_written, known_parameter, inside};
+ghost use Rattle.p416_syntax.specs.Declarations.{top_names, top_scope, known_var, known_state, known_local, parser_scope, control_scope, action_scope};
 ghost use Rattle.p416_scopes.specs.Seen.{seen_scope, seen_declared};
 
 use crate::scope::{Part, Scope};
 use p4x_bits::OutOfMemory;
-use p416_ast::{Action16, Control16, Direction, Local, Param, Parser16, State, Var};
 use p416_names::{Sort, Top, instance_name, instance_sort};
+use p416_syntax::{Action16, Control16, Direction, Local, Param, Parser16, State, Var};
 use std::alloc::Global;
 
 /// A name that is to be declared.

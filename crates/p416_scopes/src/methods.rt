@@ -1,17 +1,16 @@
 // Names are put into a scope, looked up and taken off again.
 ghost use Rattle.std.specs.Prelude.{◌≡◌, ◌-◌, [], ◌∷◌, ◌++◌, length, take, OnOk};
-ghost use Rattle.p416_rules.specs.Scopes.{known, sort_of, kind_of_type, inside};
-ghost use Rattle.p416_rules.specs.Declarations.{top_names};
-ghost use Rattle.p416_kinds.specs.Seen.{seen_kind};
+ghost use Rattle.p416_syntax.specs.Scopes.{known, sort_of, kind_of_type, inside};
+ghost use Rattle.p416_syntax.specs.Declarations.{top_names};
+ghost use Rattle.p416_names.specs.SeenKinds.{seen_kind};
 ghost use Rattle.p416_names.specs.Seen.{seen_sort};
 ghost use Rattle.p416_scopes.specs.Seen.{seen_part, seen_scope, outer_scope, sort_at};
 
 use crate::scope::{Part, Scope};
 use name_stack::NameStack;
 use p4x_bits::OutOfMemory;
-use p416_ast::Type16;
-use p416_kinds::Kind;
-use p416_names::{Sort, Top};
+use p416_names::{Kind, Sort, Top};
+use p416_syntax::Type16;
 use std::alloc::Global;
 
 impl<'t, 'a> Scope<'t, 'a> {

@@ -20,7 +20,6 @@ pub enum Part<'a> {
 }
 
 /// The names in scope, where the block stands in `main`, and in which part of it something stands.
-#[derive(Drop)]
 pub struct Scope<'t, 'a> {
     /// The names at the top.
     pub top: &'t Top<'a>,
@@ -33,4 +32,16 @@ pub struct Scope<'t, 'a> {
     /// The part.
     pub part: Part<'a>,
     ghost same: { length names ≡ length sorts.items },
+}
+
+impl Drop for Scope<'_, '_> {
+    fn drop(self) {
+        let Scope {
+            top: _top,
+            names: _names,
+            sorts: _sorts,
+            positions: _positions,
+            part: _part,
+        } = self;
+    }
 }

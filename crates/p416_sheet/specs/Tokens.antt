@@ -1,11 +1,11 @@
 -- What is put on a sheet at once: a token, or the two `>` of a shift (P4_16 1.2, "Lexical constructs").
 use Rattle.std.specs.Prelude.{ℕ, Bool, true, List, [], ◌∷◌}
 use Rattle.std.specs.List.{flat_map, list_all}
-use Rattle.p416_lexemes.specs.declared.mark.Mark16.TheVariants as mark_of
-use Rattle.p416_lexemes.specs.Spelt.{is_identifier16, is_spelt_literal16}
+use Rattle.p416_syntax.specs.declared.mark.Mark16.TheVariants as mark_of
+use Rattle.p416_syntax.specs.SpeltLexemes.{is_identifier16, is_spelt_literal16}
 use Rattle.p416_tok.specs.declared.kind.TokenKind16.{TokenKind16}
 use Rattle.p416_tok.specs.declared.kind.TokenKind16.TheVariants as kind
-use Rattle.p416_ast.specs.Tokens.{Seen16, quoted, number, mark, string, annotation, include_line, joined as joined_greater}
+use Rattle.p416_syntax.specs.Tokens.{Seen16, quoted, number, mark, string, annotation, include_line, joined as joined_greater}
 use Rattle.token_sheet.specs.Words.{Word, word}
 use Rattle.p416_sheet.specs.declared.sheet.Put16.{Put16}
 use Rattle.p416_sheet.specs.declared.sheet.Token16.{Token16}

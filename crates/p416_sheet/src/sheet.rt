@@ -1,15 +1,15 @@
 // P4_16 texts that are written a token at a time.
 ghost use Rattle.std.specs.Prelude.{◌≡◌, ◌++◌, ◌∷◌, [], true, OnOk, IfOk, IsTrue};
-ghost use Rattle.p416_lexemes.specs.Spelt.{is_identifier16, is_spelt_literal16};
-ghost use Rattle.p416_ast.specs.Tokens.{string, number as number_token};
+ghost use Rattle.p416_syntax.specs.SpeltLexemes.{is_identifier16, is_spelt_literal16};
+ghost use Rattle.p416_syntax.specs.Tokens.{string, number as number_token};
 ghost use Rattle.p416_spelling.specs.Words.{word16};
 ghost use Rattle.p416_sheet.specs.declared.sheet.Token16.TheVariants.{ShiftRight};
 ghost use Rattle.p416_sheet.specs.Tokens.{words_put, is_put, all_words_put, are_put};
 
 use crate::{P416, TextView};
 use p4x_bits::{Octets, OutOfMemory};
-use p416_lexemes::{Annotation16, Include16, Keyword16, Literal16, Mark16};
 use p416_spelling::number_text;
+use p416_syntax::{Annotation16, Include16, Keyword16, Literal16, Mark16};
 use p416_tok::TokenKind16;
 use std::alloc::Global;
 use token_sheet::{Gap, Sheet};

@@ -4,17 +4,17 @@ use Rattle.std.specs.Prelude.{filter_map, option_and_then}
 use Rattle.std.specs.Option.{option_map_or}
 use Rattle.std.specs.Str.{bytes_eq}
 use Rattle.match_core.specs.declared.signatures.ActionSig.{ActionSig}
-use Rattle.p416_ast.specs.declared.controls.ActionName.{ActionName}
-use Rattle.p416_ast.specs.declared.controls.ActionName.TheVariants.{Declared, NoAction}
-use Rattle.p416_ast.specs.declared.controls.Table16.{Table16}
-use Rattle.p416_ast.specs.Properties.{actions_of}
+use Rattle.p416_syntax.specs.declared.controls.ActionName.{ActionName}
+use Rattle.p416_syntax.specs.declared.controls.ActionName.TheVariants.{Declared, NoAction}
+use Rattle.p416_syntax.specs.declared.controls.Table16.{Table16}
+use Rattle.p416_syntax.specs.Properties.{actions_of}
 use Rattle.name_numbers.specs.Names.{find_name}
 use Rattle.p416_names.proofs.Found.{bytes_either, first_step}
-use Rattle.p416_rules.specs.Names.{Name}
-use Rattle.p416_rules.specs.Scopes.{Handed, Known, Scope}
-use Rattle.p416_rules.specs.Declarations.{parameters_of}
-use Rattle.p416_rules.specs.Tables.{action_plane}
-use Rattle.v1_sem.specs.Signatures.{in_order, action_with, action_sig, handed_width, listed_plane, planes_of}
+use Rattle.p416_syntax.specs.Names.{Name}
+use Rattle.p416_syntax.specs.Scopes.{Handed, Known, Scope}
+use Rattle.p416_syntax.specs.Declarations.{parameters_of}
+use Rattle.p416_syntax.specs.Tables.{action_plane}
+use Rattle.v1_core.specs.Signatures.{in_order, action_with, action_sig, handed_width, listed_plane, planes_of}
 use Rattle.p416_signature.specs.internal.Gathered.{Row, first_named, given_with, listed_row, row_given, row_named, row_plane, row_sig, sigs_in, sigs_of_rows}
 
 pub same_map : {X Y : Type 0} (f g : X → Y) → ((x : X) → f x ≡ g x) → (xs : List X) → map f xs ≡ map g xs

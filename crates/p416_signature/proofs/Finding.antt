@@ -7,8 +7,8 @@ use Rattle.state_store.specs.declared.shapes.Shape.{Shape}
 use Rattle.state_store.specs.declared.shapes.Shape.TheVariants as shape
 use Rattle.name_numbers.specs.Names.{find_name}
 use Rattle.p416_names.proofs.Found.{first_step}
-use Rattle.p416_rules.specs.Names.{Name}
-use Rattle.v1_sem.specs.Signatures.{Object, plane_among, shape_among, shape_of}
+use Rattle.p416_syntax.specs.Names.{Name}
+use Rattle.v1_core.specs.Signatures.{Object, plane_among, shape_among, shape_of}
 use Rattle.p416_signature.specs.internal.Seen.{own_name, plane_of}
 use Rattle.p416_signature.specs.internal.Gathered.{first_named, own_shape, shape_in}
 

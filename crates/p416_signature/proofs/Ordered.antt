@@ -6,8 +6,8 @@ use Rattle.std.specs.Cmp.Lexicographic.{slice_cmp}
 use Rattle.std.specs.Ordering.{nat_cmp, match_ordering}
 use Rattle.std.specs.declared.cmp.Ordering.{Ordering}
 use Rattle.std.specs.declared.cmp.Ordering.TheVariants.{Less, Equal, Greater}
-use Rattle.p416_rules.specs.Names.{Name}
-use Rattle.p416_kinds.specs.Seen.{referred}
+use Rattle.p416_syntax.specs.Names.{Name}
+use Rattle.p416_names.specs.SeenKinds.{referred}
 use Rattle.p416_signature.specs.internal.Gathered.{put_in_order, put_all}
 
 -- references are put in order as what they refer to

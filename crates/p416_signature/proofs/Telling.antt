@@ -1,11 +1,11 @@
 -- What an expression is: the first of its rows tells, and where it stands in `main` doesn't matter.
 use Rattle.std.proofs.Common.{◌≡◌, List, ◌∷◌, map, refl, ap, ◌∙◌}
-use Rattle.p416_ast.specs.Tree.{Exp16, literal, truth, error, name, member, index, slice, call, lookahead, cast, unary, binary, choice, parenthesized, no_arguments, argument, listed}
-use Rattle.p416_ast.specs.Subtrees.{subexpressions}
-use Rattle.p416_rules.specs.Kinds.{Kind}
-use Rattle.p416_rules.specs.Scopes.{Known, Layout, Scope, sort_in, kind_of_type}
-use Rattle.p416_rules.specs.Calls.{method_signature}
-use Rattle.p416_rules.specs.Expressions.{kind_of, sort_kind, known_kind, member_kind, element_kind, slice_kind, call_kind, sort_signature, lookahead_kind, unary_kind, binary_kind, same_choice}
+use Rattle.p416_syntax.specs.Tree.{Exp16, literal, truth, error, name, member, index, slice, call, lookahead, cast, unary, binary, choice, parenthesized, no_arguments, argument, listed}
+use Rattle.p416_syntax.specs.Subtrees.{subexpressions}
+use Rattle.p416_syntax.specs.Kinds.{Kind}
+use Rattle.p416_syntax.specs.Scopes.{Known, Layout, Scope, sort_in, kind_of_type}
+use Rattle.p416_syntax.specs.Calls.{method_signature}
+use Rattle.p416_syntax.specs.Expressions.{kind_of, sort_kind, known_kind, member_kind, element_kind, slice_kind, call_kind, sort_signature, lookahead_kind, unary_kind, binary_kind, same_choice}
 use Rattle.p416_typing.specs.Rows.{RowOf, row_of}
 use Rattle.p416_typing.specs.Seen.{seen_row}
 use Rattle.p416_typing.specs.declared.row.Row.{Row}

@@ -10,24 +10,24 @@ use Rattle.match_core.specs.declared.signatures.KeySpec.{KeySpec}
 use Rattle.match_core.specs.declared.signatures.ActionSig.{ActionSig}
 use Rattle.match_core.specs.declared.signatures.TableSig.{TableSig}
 use Rattle.match_core.specs.declared.signatures.ObjectSig.{ObjectSig}
-use Rattle.p416_ast.specs.declared.controls.TableKey.{TableKey}
-use Rattle.p416_ast.specs.declared.controls.Table16.{Table16}
-use Rattle.p416_ast.specs.declared.controls.Local.{Local}
-use Rattle.p416_ast.specs.declared.controls.Local.TheVariants as local
-use Rattle.p416_ast.specs.declared.controls.Control16.{Control16}
-use Rattle.p416_ast.specs.declared.program.Decl16.{Decl16}
-use Rattle.p416_ast.specs.declared.program.Decl16.TheVariants as decl
-use Rattle.p416_ast.specs.declared.program.Syntax16.{Syntax16}
-use Rattle.p416_ast.specs.Properties.{keys_of, actions_of, counters_of}
-use Rattle.p416_kinds.specs.Seen.{referred}
+use Rattle.p416_syntax.specs.declared.controls.TableKey.{TableKey}
+use Rattle.p416_syntax.specs.declared.controls.Table16.{Table16}
+use Rattle.p416_syntax.specs.declared.controls.Local.{Local}
+use Rattle.p416_syntax.specs.declared.controls.Local.TheVariants as local
+use Rattle.p416_syntax.specs.declared.controls.Control16.{Control16}
+use Rattle.p416_syntax.specs.declared.program.Decl16.{Decl16}
+use Rattle.p416_syntax.specs.declared.program.Decl16.TheVariants as decl
+use Rattle.p416_syntax.specs.declared.program.Syntax16.{Syntax16}
+use Rattle.p416_syntax.specs.Properties.{keys_of, actions_of, counters_of}
+use Rattle.p416_names.specs.SeenKinds.{referred}
 use Rattle.p416_names.proofs.Found.{first_step}
-use Rattle.p416_rules.specs.Names.{Name}
-use Rattle.p416_rules.specs.Kinds.{Kind}
-use Rattle.p416_rules.specs.Scopes.{Scope}
-use Rattle.p416_rules.specs.Breaks.{scope_of}
-use Rattle.p416_rules.specs.Declarations.{control_scope, tables_in, top_scope}
-use Rattle.p416_rules.specs.Tables.{local_object, objects_of, table_plane, tables_of}
-use Rattle.v1_sem.specs.Signatures.{Object, Placed, placed, placed_in, placed_sig, placed_tables, in_order, key_scope, key_spec, key_width, kind_named, direct_number, object_names, object_sig, objects_in, or_at_top, own_object, place_among, plane_among, table_names, table_sig, table_size, table_with, tables_in_order, top_object}
+use Rattle.p416_syntax.specs.Names.{Name}
+use Rattle.p416_syntax.specs.Kinds.{Kind}
+use Rattle.p416_syntax.specs.Scopes.{Scope}
+use Rattle.p416_syntax.specs.Breaks.{scope_of}
+use Rattle.p416_syntax.specs.Declarations.{control_scope, tables_in, top_scope}
+use Rattle.p416_syntax.specs.Tables.{local_object, objects_of, table_plane, tables_of}
+use Rattle.v1_core.specs.Signatures.{Object, Placed, placed, placed_in, placed_sig, placed_tables, in_order, key_scope, key_spec, key_width, kind_named, direct_number, object_names, object_sig, objects_in, or_at_top, own_object, place_among, plane_among, table_names, table_sig, table_size, table_with, tables_in_order, top_object}
 use Rattle.p416_signature.specs.declared.objects.Objects.{Objects}
 use Rattle.p416_signature.specs.internal.Seen.{plane_of}
 use Rattle.p416_signature.specs.internal.Gathered.{AreObjects, key_in, number_in, objects_seen, plane_in, sig_among, sig_at, sig_in, sig_name, sig_with, sigs_in, sigs_of}

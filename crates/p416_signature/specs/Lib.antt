@@ -1,2 +1,2 @@
--- What the signature of a program is stands in v1_sem.
+-- What the signature of a program is stands in v1_core.
 pub mod internal

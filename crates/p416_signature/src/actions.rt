@@ -2,11 +2,11 @@
 ghost use Rattle.std.specs.Prelude.{◌≡◌, List, [], map, filter_map, option_map, option_and_then, slice_get, IfOk};
 ghost use Rattle.std.specs.Option.{option_map_or};
 ghost use Rattle.name_numbers.specs.Names.{find_name};
-ghost use Rattle.p416_rules.specs.Scopes.{Known, handed};
-ghost use Rattle.p416_rules.specs.Declarations.{top_names};
+ghost use Rattle.p416_syntax.specs.Scopes.{Known, handed};
+ghost use Rattle.p416_syntax.specs.Declarations.{top_names};
 ghost use Rattle.p416_names.specs.Seen.{seen_sort};
 ghost use Rattle.p416_scopes.specs.Seen.{seen_scope};
-ghost use Rattle.v1_sem.specs.Signatures.{handed_width};
+ghost use Rattle.v1_core.specs.Signatures.{handed_width};
 ghost use Rattle.p416_signature.specs.internal.Gathered.{seen_listed, row_of, row_named, listed_row, row_plane, row_given, given_with, row_sig, sigs_in};
 
 use crate::keys::bits_in;
@@ -15,9 +15,9 @@ use crate::shapes::plane_name;
 use match_core::ActionSig;
 use name_numbers::{Numbering, number_names};
 use p4x_bits::{Numbers, OutOfMemory, Rows, Text};
-use p416_ast::{ActionName, Param};
 use p416_names::{Sort, Top};
 use p416_scopes::Scope;
+use p416_syntax::{ActionName, Param};
 use std::alloc::Global;
 
 /// An action that a table lists, by its control-plane name, with its parameters.

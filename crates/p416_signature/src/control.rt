@@ -1,8 +1,8 @@
 // The tables of the controls, in the order of the text.
 ghost use Rattle.std.specs.Prelude.{◌≡◌, ◌++◌, [], map, flat_map, filter_map, IfOk, OnOk};
-ghost use Rattle.p416_rules.specs.Declarations.{control_scope, table_in, tables_in, top_scope};
+ghost use Rattle.p416_syntax.specs.Declarations.{control_scope, table_in, tables_in, top_scope};
 ghost use Rattle.p416_scopes.specs.Seen.{seen_scope};
-ghost use Rattle.v1_sem.specs.Signatures.{own_object};
+ghost use Rattle.v1_core.specs.Signatures.{own_object};
 ghost use Rattle.p416_signature.specs.internal.Gathered.{objects_seen, sig_in, sigs_of};
 
 use crate::by_name::ByName;
@@ -10,9 +10,9 @@ use crate::objects::Objects;
 use crate::tables::table_sig;
 use match_core::TableSig;
 use p4x_bits::{OutOfMemory, Rows};
-use p416_ast::{Control16, Decl16, Local};
 use p416_names::Top;
 use p416_scopes::Scope;
+use p416_syntax::{Control16, Decl16, Local};
 use std::alloc::Global;
 
 /// Puts the tables among what a control declares last, where these are its scope and its objects.

@@ -1,21 +1,21 @@
 // The keys of a table.
 ghost use Rattle.std.specs.Prelude.{◌≡◌, List, map, IfOk};
-ghost use Rattle.p416_kinds.specs.Seen.{seen_kind};
-ghost use Rattle.p416_rules.specs.Scopes.{Known};
-ghost use Rattle.p416_rules.specs.Expressions.{kind_of};
-ghost use Rattle.p416_rules.specs.Totals.{bits_in};
+ghost use Rattle.p416_names.specs.SeenKinds.{seen_kind};
+ghost use Rattle.p416_syntax.specs.Scopes.{Known};
+ghost use Rattle.p416_syntax.specs.Expressions.{kind_of};
+ghost use Rattle.p416_syntax.specs.Totals.{bits_in};
 ghost use Rattle.p416_scopes.specs.Seen.{seen_scope};
 ghost use Rattle.p416_typing.specs.Seen.{seen_row};
-ghost use Rattle.v1_sem.specs.Signatures.{kind_named, key_width};
+ghost use Rattle.v1_core.specs.Signatures.{kind_named, key_width};
 ghost use Rattle.p416_signature.specs.internal.Firsts.{kind_first};
 ghost use Rattle.p416_signature.specs.internal.Gathered.{key_in};
 
 use crate::shapes::narrow_width;
 use match_core::{KeyKind, KeySpec};
 use p4x_bits::{OutOfMemory, Rows};
-use p416_ast::{Exp, TableKey};
-use p416_kinds::Kind;
+use p416_names::Kind;
 use p416_scopes::Scope;
+use p416_syntax::{Exp, TableKey};
 use p416_typing::{Row, typed_expression};
 use std::alloc::Global;
 use work_stack::Stack;

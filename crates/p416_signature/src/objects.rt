@@ -1,9 +1,9 @@
 // The stateful objects of a program, by their own names and by those that the control plane knows.
 ghost use Rattle.std.specs.Prelude.{◌≡◌, ◌++◌, map, flat_map, filter_map, option_map, slice_get, option_and_then, IfOk, OnOk};
 ghost use Rattle.name_numbers.specs.Names.{find_name};
-ghost use Rattle.p416_ast.specs.Properties.{counters_of};
-ghost use Rattle.p416_kinds.specs.Seen.{referred};
-ghost use Rattle.v1_sem.specs.Signatures.{in_order, own_object, objects_in, top_object, place_among, plane_among, shape_among};
+ghost use Rattle.p416_syntax.specs.Properties.{counters_of};
+ghost use Rattle.p416_names.specs.SeenKinds.{referred};
+ghost use Rattle.v1_core.specs.Signatures.{in_order, own_object, objects_in, top_object, place_among, plane_among, shape_among};
 ghost use Rattle.p416_signature.specs.internal.Seen.{seen_object, own_name, plane_of};
 ghost use Rattle.p416_signature.specs.internal.Gathered.{objects_seen, plane_in, number_in, shape_in, sig_among};
 
@@ -13,8 +13,8 @@ use crate::shapes::{plane_name, shape_of};
 use match_core::ObjectSig;
 use name_numbers::{Numbering, narrow, number_names};
 use p4x_bits::{OutOfMemory, Rows, Text};
-use p416_ast::{Decl16, Instance, Local, Table16};
 use p416_names::instance_name;
+use p416_syntax::{Decl16, Instance, Local, Table16};
 use state_store::Shape;
 use std::alloc::Global;
 
@@ -197,12 +197,20 @@ pub fn number_of(numbers: &Numbering<'_>, name: &[u8]) -> Result<u32, OutOfMemor
 }
 
 /// The numbers of all objects, by their control-plane names, and the objects at the top by their own.
-#[derive(Drop)]
 pub struct Objects<'a> {
     /// The control-plane names of all objects, in the order of their octets.
     pub numbers: Numbering<'a>,
     /// The objects at the top, by their own names.
     pub top: ByName<'a>,
+}
+
+impl Drop for Objects<'_> {
+    fn drop(self) {
+        let Objects {
+            numbers: _numbers,
+            top: _top,
+        } = self;
+    }
 }
 
 impl<'a> Objects<'a> {

@@ -1,6 +1,6 @@
 // Names in the order of their octets.
 ghost use Rattle.std.specs.Prelude.{◌≡◌, map, IfOk, OnOk};
-ghost use Rattle.v1_sem.specs.Signatures.{in_order};
+ghost use Rattle.v1_core.specs.Signatures.{in_order};
 ghost use Rattle.p416_signature.specs.internal.Gathered.{put_in_order};
 
 use p4x_bits::OutOfMemory;

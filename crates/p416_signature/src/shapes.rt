@@ -1,11 +1,11 @@
 // What a stateful object is to a control plane (`v1model.p4`).
 ghost use Rattle.std.specs.Prelude.{◌≡◌, IfOk};
-ghost use Rattle.p416_rules.specs.Scopes.{plane_name};
-ghost use Rattle.p416_rules.specs.Totals.{size_value};
-ghost use Rattle.v1_sem.specs.Signatures.{counted_by, shape_of};
+ghost use Rattle.p416_syntax.specs.Scopes.{plane_name};
+ghost use Rattle.p416_syntax.specs.Totals.{size_value};
+ghost use Rattle.v1_core.specs.Signatures.{counted_by, shape_of};
 
 use p4x_bits::{OutOfMemory, Text};
-use p416_ast::{CounterType, Exp, ExpHead, Instance, Member, Note, name_note};
+use p416_syntax::{CounterType, Exp, ExpHead, Instance, Member, Note, name_note};
 use state_store::{Kind, Shape};
 
 /// The name by which the control plane knows what has these annotations: that of `@name`, else its own.

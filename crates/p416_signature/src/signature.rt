@@ -1,6 +1,6 @@
 // The signature of a program.
 ghost use Rattle.std.specs.Prelude.{◌≡◌, map, flat_map, IfOk};
-ghost use Rattle.v1_sem.specs.Signatures.{placed_sig, signature16, tables_in_order};
+ghost use Rattle.v1_core.specs.Signatures.{placed_sig, signature16, tables_in_order};
 ghost use Rattle.p416_signature.specs.internal.Gathered.{AreObjects, sigs_of};
 
 use crate::control::all_tables;
@@ -8,8 +8,8 @@ use crate::objects::{Objects, all_objects, object_names, object_sigs};
 use crate::tables::by_names;
 use match_core::{Signature, TableSig};
 use p4x_bits::{OutOfMemory, Rows};
-use p416_ast::Syntax16;
 use p416_names::Top;
+use p416_syntax::Syntax16;
 use std::alloc::Global;
 
 /// The tables in the order of the text, where these are objects of the program.
@@ -45,7 +45,7 @@ fn tables_of<'a>(
 /// and the size of a table that gives none are this project's own). Time and memory are linear in the program, but for the
 /// look-up of each name and the order. The one error is want of memory, which numbers count as that are too large to keep,
 /// such as no program has that keeps the rules.
-#[tactic(auto, unfolding(v1_sem::specs::Signatures::signature16), using(crate::proofs::Whole::objects_are, crate::proofs::Whole::numbered))]
+#[tactic(auto, unfolding(v1_core::specs::Signatures::signature16), using(crate::proofs::Whole::objects_are, crate::proofs::Whole::numbered))]
 pub fn signature16(alloc: Global, syntax: &Syntax16) -> Result<Signature, OutOfMemory>
     ensures { IfOk result (λ signature. signature ≡ signature16 syntax.now) }
 {

@@ -1,9 +1,9 @@
 // A table, and tables by their names.
 ghost use Rattle.std.specs.Prelude.{◌≡◌, ◌^◌, ◌-◌, ◌++◌, min, map, filter_map, option_copied, option_to_list, IfOk, OnOk};
-ghost use Rattle.p416_ast.specs.Properties.{actions_of, keys_of};
-ghost use Rattle.p416_rules.specs.Tables.{table_plane};
+ghost use Rattle.p416_syntax.specs.Properties.{actions_of, keys_of};
+ghost use Rattle.p416_syntax.specs.Tables.{table_plane};
 ghost use Rattle.p416_scopes.specs.Seen.{seen_scope};
-ghost use Rattle.v1_sem.specs.Signatures.{in_order, table_size};
+ghost use Rattle.v1_core.specs.Signatures.{in_order, table_size};
 ghost use Rattle.p416_signature.specs.internal.Gathered.{key_in, objects_seen, sig_at, sig_in, sig_name, sig_with, sigs_in};
 
 use crate::actions::action_sigs;
@@ -15,8 +15,8 @@ use crate::shapes::plane_name;
 use match_core::{ActionSig, KeySpec, TableSig};
 use name_numbers::{Numbering, number_names};
 use p4x_bits::{Numbers, OutOfMemory, Rows, Text};
-use p416_ast::Table16;
 use p416_scopes::Scope;
+use p416_syntax::Table16;
 use std::alloc::Global;
 
 /// How many entries a table may have that gives no size.

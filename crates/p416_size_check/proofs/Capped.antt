@@ -3,14 +3,14 @@ use Rattle.std.proofs.Common.{◌≡◌, ℕ, suc, ◌+◌, ◌-◌, ◌<◌, Bo
 use Rattle.std.specs.Prelude.{nat_lt}
 use Rattle.std.proofs.lemmas.Bool.Decides.{nat_tests}
 use Rattle.std.proofs.lemmas.List.Sums.{sum_by-cons}
-use Rattle.p416_ast.specs.declared.program.Decl16.{Decl16}
-use Rattle.p416_ast.specs.declared.program.Syntax16.{Syntax16}
-use Rattle.p416_rules.specs.Kinds.{Kind}
-use Rattle.p416_rules.specs.Scopes.{Layout}
-use Rattle.p416_rules.specs.Uses.{Use}
-use Rattle.p416_rules.specs.Declarations.{layouts_of}
-use Rattle.p416_rules.specs.Main.{headers_kind, metadata_kind}
-use Rattle.p416_rules.specs.Totals.{fields_of_kind, octets_of_kind, has_large_headers, held_kinds, has_large_variables}
+use Rattle.p416_syntax.specs.declared.program.Decl16.{Decl16}
+use Rattle.p416_syntax.specs.declared.program.Syntax16.{Syntax16}
+use Rattle.p416_syntax.specs.Kinds.{Kind}
+use Rattle.p416_syntax.specs.Scopes.{Layout}
+use Rattle.p416_syntax.specs.Uses.{Use}
+use Rattle.p416_syntax.specs.Declarations.{layouts_of}
+use Rattle.p416_syntax.specs.Main.{headers_kind, metadata_kind}
+use Rattle.p416_syntax.specs.Totals.{fields_of_kind, octets_of_kind, has_large_headers, held_kinds, has_large_variables}
 
 sum_of : (a b : ℕ) → nat_lt 131072 (min 1048576 a + min 1048576 b) ≡ nat_lt 131072 (a + b)
 sum_of a b = grind (arith, nat_tests)

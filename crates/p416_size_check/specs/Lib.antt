@@ -1,1 +1,1 @@
--- The contracts are the definitions of `p416_rules`.
+-- The contracts are the definitions of `p416_syntax`.

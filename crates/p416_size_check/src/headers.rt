@@ -1,12 +1,12 @@
 // The size of headers and metadata (the limits are this project's own).
 ghost use Rattle.std.specs.Prelude.{◌≡◌, ◌+◌, ◌||◌, nat_lt};
-ghost use Rattle.p416_ast.specs.declared.program.Syntax16.{Syntax16};
-ghost use Rattle.p416_rules.specs.Declarations.{layouts_of};
-ghost use Rattle.p416_rules.specs.Main.{headers_kind, metadata_kind};
-ghost use Rattle.p416_rules.specs.Totals.{fields_of_kind, octets_of_kind, has_large_headers};
-ghost use Rattle.p416_kinds.specs.Seen.{seen_kind};
+ghost use Rattle.p416_syntax.specs.declared.program.Syntax16.{Syntax16};
+ghost use Rattle.p416_syntax.specs.Declarations.{layouts_of};
+ghost use Rattle.p416_syntax.specs.Main.{headers_kind, metadata_kind};
+ghost use Rattle.p416_syntax.specs.Totals.{fields_of_kind, octets_of_kind, has_large_headers};
+ghost use Rattle.p416_names.specs.SeenKinds.{seen_kind};
 
-use p416_kinds::Kind;
+use p416_names::Kind;
 use p416_type_totals::TypeTotals;
 
 /// How many fields headers and metadata may have together.

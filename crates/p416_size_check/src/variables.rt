@@ -1,11 +1,11 @@
 // The size of what variables and action parameters hold (the limits are this project's own).
 ghost use Rattle.std.specs.Prelude.{◌≡◌, ◌||◌, List, map, flat_map, nat_lt, sum_by};
-ghost use Rattle.p416_rules.specs.Uses.{Use};
-ghost use Rattle.p416_rules.specs.Declarations.{layouts_of};
-ghost use Rattle.p416_rules.specs.Totals.{fields_of_kind, octets_of_kind, held_kinds, has_large_variables};
-ghost use Rattle.p416_kinds.specs.Seen.{seen_kind};
+ghost use Rattle.p416_syntax.specs.Uses.{Use};
+ghost use Rattle.p416_syntax.specs.Declarations.{layouts_of};
+ghost use Rattle.p416_syntax.specs.Totals.{fields_of_kind, octets_of_kind, held_kinds, has_large_variables};
+ghost use Rattle.p416_names.specs.SeenKinds.{seen_kind};
 
-use p416_kinds::Kind;
+use p416_names::Kind;
 use p416_type_totals::TypeTotals;
 
 /// How many fields variables and action parameters may hold together.

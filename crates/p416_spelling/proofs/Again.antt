@@ -12,13 +12,13 @@ use Rattle.token_division.specs.declared.division.What.TheVariants as what
 use Rattle.token_division.specs.Octets.{is_blank, is_letter, is_decimal, is_word, is_on_line}
 use Rattle.token_division.specs.Pieces.{begins}
 use Rattle.token_division.specs.Literals.{value_of, literal_size, largest}
-use Rattle.p416_lexemes.specs.declared.lexeme.Annotation16.{Annotation16}
-use Rattle.p416_lexemes.specs.declared.lexeme.Annotation16.TheVariants as annotated
-use Rattle.p416_lexemes.specs.declared.lexeme.Include16.{Include16}
-use Rattle.p416_lexemes.specs.declared.lexeme.Include16.TheVariants as included
-use Rattle.p416_lexemes.specs.Marks.{mark_text16, all_marks16}
-use Rattle.p416_lexemes.specs.Lines.{annotation_text16, include_text16}
-use Rattle.p416_lexemes.specs.Spelt.{is_identifier16, is_width16}
+use Rattle.p416_syntax.specs.declared.lexeme.Annotation16.{Annotation16}
+use Rattle.p416_syntax.specs.declared.lexeme.Annotation16.TheVariants as annotated
+use Rattle.p416_syntax.specs.declared.lexeme.Include16.{Include16}
+use Rattle.p416_syntax.specs.declared.lexeme.Include16.TheVariants as included
+use Rattle.p416_syntax.specs.Marks.{mark_text16, all_marks16}
+use Rattle.p416_syntax.specs.Lines.{annotation_text16, include_text16}
+use Rattle.p416_syntax.specs.SpeltLexemes.{is_identifier16, is_width16}
 use Rattle.p416_tok.specs.declared.kind.TokenKind16.{TokenKind16}
 use Rattle.p416_tok.specs.declared.kind.TokenKind16.TheVariants as kind
 use Rattle.p416_tok.specs.declared.front.Head.{Head}

@@ -3,12 +3,12 @@ use Rattle.std.proofs.Common.{◌≡◌, ℕ, Bool, true, false, List, [], ◌�
 use Rattle.std.specs.Str.{bytes_eq}
 use Rattle.std.specs.Cmp.Lexicographic.{same_text}
 use Rattle.std.proofs.lemmas.Bool.{and_parts}
-use Rattle.p416_lexemes.specs.declared.keyword.Keyword16.{Keyword16}
-use Rattle.p416_lexemes.specs.declared.keyword.Keyword16.TheVariants as word_of
-use Rattle.p416_lexemes.specs.Keywords.{keyword_text16, all_keywords16}
-use Rattle.p416_lexemes.specs.Spelt.{is_identifier16}
+use Rattle.p416_syntax.specs.declared.keyword.Keyword16.{Keyword16}
+use Rattle.p416_syntax.specs.declared.keyword.Keyword16.TheVariants as word_of
+use Rattle.p416_syntax.specs.Keywords.{keyword_text16, all_keywords16}
+use Rattle.p416_syntax.specs.SpeltLexemes.{is_identifier16}
 use Rattle.p416_tok.specs.declared.kind.TokenKind16.TheVariants as kind
-use Rattle.p416_ast.specs.Tokens.{keyword_among, seen_as, seen_word, is_spelt_seen, dot}
+use Rattle.p416_syntax.specs.Tokens.{keyword_among, seen_as, seen_word, is_spelt_seen, dot}
 use Rattle.token_sheet.specs.Words.{word}
 use Rattle.p416_spelling.specs.Words.{word16, words16}
 

@@ -5,11 +5,11 @@ use Rattle.std.specs.List.{list_any}
 use Rattle.std.specs.Fmt.{decimal}
 use Rattle.token_division.specs.Octets.{is_word}
 use Rattle.token_division.specs.Pieces.{begins}
-use Rattle.p416_lexemes.specs.declared.lexeme.Literal16.{Literal16}
-use Rattle.p416_lexemes.specs.declared.mark.Mark16.TheVariants as mark_of
-use Rattle.p416_lexemes.specs.Marks.{mark_text16, all_marks16}
-use Rattle.p416_lexemes.specs.Lines.{annotation_text16, include_text16}
-use Rattle.p416_lexemes.specs.Spelt.{is_identifier16, is_spelt_literal16}
+use Rattle.p416_syntax.specs.declared.lexeme.Literal16.{Literal16}
+use Rattle.p416_syntax.specs.declared.mark.Mark16.TheVariants as mark_of
+use Rattle.p416_syntax.specs.Marks.{mark_text16, all_marks16}
+use Rattle.p416_syntax.specs.Lines.{annotation_text16, include_text16}
+use Rattle.p416_syntax.specs.SpeltLexemes.{is_identifier16, is_spelt_literal16}
 use Rattle.p416_tok.specs.declared.kind.TokenKind16.{TokenKind16}
 use Rattle.p416_tok.specs.declared.kind.TokenKind16.TheVariants as kind
 use Rattle.token_sheet.specs.Spelling.{Spells, Parts}

@@ -1,12 +1,12 @@
 -- The words that the tokens of the grammar are written with (P4_16 1.2, "Lexical constructs").
 use Rattle.std.specs.Prelude.{List, map}
-use Rattle.p416_lexemes.specs.declared.mark.Mark16.TheVariants as mark_of
-use Rattle.p416_lexemes.specs.Keywords.{keyword_text16}
-use Rattle.p416_lexemes.specs.Marks.{mark_text16}
-use Rattle.p416_lexemes.specs.Lines.{annotation_text16, include_text16}
+use Rattle.p416_syntax.specs.declared.mark.Mark16.TheVariants as mark_of
+use Rattle.p416_syntax.specs.Keywords.{keyword_text16}
+use Rattle.p416_syntax.specs.Marks.{mark_text16}
+use Rattle.p416_syntax.specs.Lines.{annotation_text16, include_text16}
 use Rattle.p416_tok.specs.declared.kind.TokenKind16.{TokenKind16}
 use Rattle.p416_tok.specs.declared.kind.TokenKind16.TheVariants as kind
-use Rattle.p416_ast.specs.Tokens.{Seen16, id, quoted, number, mark, string, annotation, include_line, joined as joined_greater, opens}
+use Rattle.p416_syntax.specs.Tokens.{Seen16, id, quoted, number, mark, string, annotation, include_line, joined as joined_greater, opens}
 use Rattle.token_sheet.specs.Words.{Word, word, joined}
 use Rattle.p416_spelling.specs.Spelled.{number_text16, string_text16}
 

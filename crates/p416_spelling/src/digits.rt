@@ -5,7 +5,7 @@ ghost use Rattle.p416_spelling.specs.Spelled.{number_text16};
 
 use itoa::Buffer;
 use p4x_bits::{Octets, OutOfMemory};
-use p416_lexemes::Literal16;
+use p416_syntax::Literal16;
 use std::alloc::Global;
 
 /// Puts a number in decimal digits at the end.

@@ -2,10 +2,10 @@
 ghost use Rattle.std.specs.Prelude.{◌≡◌, ◌++◌, ◌∷◌, []};
 ghost use Rattle.std.specs.List.{list_any};
 ghost use Rattle.token_division.specs.Pieces.{begins};
-ghost use Rattle.p416_lexemes.specs.Marks.{mark_text16};
+ghost use Rattle.p416_syntax.specs.Marks.{mark_text16};
 ghost use Rattle.p416_spelling.specs.Spelled.{parts16, meets16, is_greater16, begins_line16};
 
-use p416_lexemes::Mark16;
+use p416_syntax::Mark16;
 use p416_tok::TokenKind16;
 use token_division::octets::is_word;
 

@@ -6,16 +6,16 @@ use Rattle.std.proofs.lemmas.Bool.{false≢true}
 use Rattle.digraph.specs.Expansions.{HasCycle}
 use Rattle.name_numbers.specs.Names.{find_name}
 use Rattle.name_cycles.specs.Named.{NamedNode, called_of, next_of, named_graph}
-use Rattle.p416_ast.specs.declared.parsers.State.{State}
-use Rattle.p416_ast.specs.declared.parsers.Parser16.{Parser16}
-use Rattle.p416_ast.specs.declared.program.Decl16.{Decl16}
-use Rattle.p416_ast.specs.declared.program.Syntax16.{Syntax16}
-use Rattle.p416_rules.specs.declared.rule.ProgramRule.TheVariants.{T7}
-use Rattle.p416_rules.specs.Exact.{IsExact}
-use Rattle.p416_rules.specs.Names.{Name, has_name}
-use Rattle.p416_rules.specs.Declarations.{state_name}
-use Rattle.p416_rules.specs.ParserStates.{extracts, targets_of, idle_next, idle_graph, has_no_start, StatesBreak}
-use Rattle.p416_rules.specs.Breaks.{SomeDeclaration, ParserBreaks, IsBroken}
+use Rattle.p416_syntax.specs.declared.parsers.State.{State}
+use Rattle.p416_syntax.specs.declared.parsers.Parser16.{Parser16}
+use Rattle.p416_syntax.specs.declared.program.Decl16.{Decl16}
+use Rattle.p416_syntax.specs.declared.program.Syntax16.{Syntax16}
+use Rattle.p416_syntax.specs.declared.rule.ProgramRule.TheVariants.{T7}
+use Rattle.p416_syntax.specs.Exact.{IsExact}
+use Rattle.p416_syntax.specs.Names.{Name, has_name}
+use Rattle.p416_syntax.specs.Declarations.{state_name}
+use Rattle.p416_syntax.specs.ParserStates.{extracts, targets_of, idle_next, idle_graph, has_no_start, StatesBreak}
+use Rattle.p416_syntax.specs.Breaks.{SomeDeclaration, ParserBreaks, IsBroken}
 use Rattle.p416_state_check.specs.internal.Outside.{state_node}
 
 -- the graph by the names of states is that of the states that don't extract

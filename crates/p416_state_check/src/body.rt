@@ -1,10 +1,10 @@
 // Whether statements extract, whatever an `if` in them chooses (P4_16 1.2, "Data extraction").
 ghost use Rattle.std.specs.Prelude.{◌≡◌, ◌++◌, OnOk, IfOk};
-ghost use Rattle.p416_rules.specs.ParserStates.{is_extract, is_extract_method, extracts};
+ghost use Rattle.p416_syntax.specs.ParserStates.{is_extract, is_extract_method, extracts};
 ghost use Rattle.p416_state_check.specs.internal.Outside.{outside_if, extracts_itself};
 
 use p4x_bits::OutOfMemory;
-use p416_ast::{ExpHead, ExpView, StmtHead, StmtView};
+use p416_syntax::{ExpHead, ExpView, StmtHead, StmtView};
 use std::alloc::Global;
 use work_stack::Stack;
 

@@ -1,13 +1,13 @@
 // The states of a parser with the states that they lead to (P4_16 1.2, "Transition statements").
 ghost use Rattle.std.specs.Prelude.{◌≡◌, ◌++◌, map, filter_map, option_to_list, IfOk, OnOk};
-ghost use Rattle.p416_rules.specs.Declarations.{target_name};
-ghost use Rattle.p416_rules.specs.ParserStates.{case_target, targets_of};
+ghost use Rattle.p416_syntax.specs.Declarations.{target_name};
+ghost use Rattle.p416_syntax.specs.ParserStates.{case_target, targets_of};
 ghost use Rattle.p416_state_check.specs.internal.Outside.{state_node, leading_on};
 
 use crate::body::extracts;
 use name_cycles::NameNode;
 use p4x_bits::OutOfMemory;
-use p416_ast::{SelectCase, State, Target, Transition};
+use p416_syntax::{SelectCase, State, Target, Transition};
 use std::alloc::Global;
 
 /// Leads a node to the state that a target names, where it names one.

@@ -1,16 +1,16 @@
 // Whether the states of parsers keep T7 (P4_16 1.2, "Packet parsing"; that each cycle extracts is this project's own).
 ghost use Rattle.std.specs.Prelude.{◌≡◌, map, codes, IfOk};
-ghost use Rattle.p416_rules.specs.declared.rule.ProgramRule.TheVariants.{T7};
-ghost use Rattle.p416_rules.specs.Exact.{IsExact};
-ghost use Rattle.p416_rules.specs.Names.{has_name};
-ghost use Rattle.p416_rules.specs.Declarations.{state_name};
-ghost use Rattle.p416_rules.specs.ParserStates.{StatesBreak};
-ghost use Rattle.p416_rules.specs.Breaks.{SomeDeclaration, ParserBreaks, IsBroken};
+ghost use Rattle.p416_syntax.specs.declared.rule.ProgramRule.TheVariants.{T7};
+ghost use Rattle.p416_syntax.specs.Exact.{IsExact};
+ghost use Rattle.p416_syntax.specs.Names.{has_name};
+ghost use Rattle.p416_syntax.specs.Declarations.{state_name};
+ghost use Rattle.p416_syntax.specs.ParserStates.{StatesBreak};
+ghost use Rattle.p416_syntax.specs.Breaks.{SomeDeclaration, ParserBreaks, IsBroken};
 
 use crate::graph::state_nodes;
 use name_cycles::lead_back;
 use p4x_bits::OutOfMemory;
-use p416_ast::{Decl16, Parser16, State, Syntax16};
+use p416_syntax::{Decl16, Parser16, State, Syntax16};
 use std::alloc::Global;
 
 /// The name of the state that a parser begins in.

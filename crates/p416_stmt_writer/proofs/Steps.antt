@@ -3,8 +3,8 @@ use Rattle.std.proofs.Common.{◌≡◌, ◌+◌, ◌<◌, true, List, [], ◌�
 use Rattle.std.proofs.lemmas.List.Concat.{flat_map-append}
 use Rattle.std.proofs.lemmas.List.Folds.{list_all-append}
 use Rattle.std.proofs.lemmas.Bool.{and_from}
-use Rattle.p416_ast.specs.Tree.{Stmt16}
-use Rattle.p416_ast.specs.Written.{written_stmt}
+use Rattle.p416_syntax.specs.Tree.{Stmt16}
+use Rattle.p416_syntax.specs.Written.{written_stmt}
 use Rattle.p416_parentheses.specs.Syntax.{full_stmt}
 use Rattle.p416_spelling.specs.Words.{words16}
 use Rattle.p416_stmt_writer.specs.declared.work.Work.{Work}

@@ -4,13 +4,13 @@ use Rattle.std.specs.Prelude.{◌&&◌}
 use Rattle.std.proofs.lemmas.List.{map-append}
 use Rattle.std.proofs.lemmas.List.Folds.{list_all-append}
 use Rattle.std.proofs.lemmas.Bool.{and_from, and_parts}
-use Rattle.p416_lexemes.specs.declared.keyword.Keyword16.TheVariants as key
-use Rattle.p416_lexemes.specs.Spelt.{is_identifier16}
-use Rattle.p416_ast.specs.declared.views.StmtHead.{StmtHead}
-use Rattle.p416_ast.specs.declared.views.StmtHead.TheVariants as head
-use Rattle.p416_ast.specs.Heads.{of_head}
-use Rattle.p416_ast.specs.Tokens.{Seen16, id, quoted, semicolon, equals, paren_open, paren_close, brace_open, brace_close, colon, dot, in_parens, in_braces, is_spelt_seen}
-use Rattle.p416_ast.specs.Written.{written_exp, written_type, written_stmt, written_label, written_run}
+use Rattle.p416_syntax.specs.declared.keyword.Keyword16.TheVariants as key
+use Rattle.p416_syntax.specs.SpeltLexemes.{is_identifier16}
+use Rattle.p416_syntax.specs.declared.views.StmtHead.{StmtHead}
+use Rattle.p416_syntax.specs.declared.views.StmtHead.TheVariants as head
+use Rattle.p416_syntax.specs.Heads.{of_head}
+use Rattle.p416_syntax.specs.Tokens.{Seen16, id, quoted, semicolon, equals, paren_open, paren_close, brace_open, brace_close, colon, dot, in_parens, in_braces, is_spelt_seen}
+use Rattle.p416_syntax.specs.Written.{written_exp, written_type, written_stmt, written_label, written_run}
 use Rattle.p416_parentheses.specs.Expressions.{within, full}
 use Rattle.p416_parentheses.specs.Syntax.{full_stmt}
 use Rattle.p416_spelling.specs.Words.{word16, words16}

@@ -2,18 +2,18 @@
 -- between two tokens is no part of it.
 use Rattle.std.specs.Prelude.{◌≡◌, ℕ, ◌+◌, Bool, List, [], ◌∷◌, ◌++◌, map}
 use Rattle.std.specs.List.{flat_map, list_all}
-use Rattle.p416_lexemes.specs.declared.keyword.Keyword16.TheVariants as key
-use Rattle.p416_lexemes.specs.declared.mark.Mark16.{Mark16}
-use Rattle.p416_lexemes.specs.declared.mark.Mark16.TheVariants as mark_of
+use Rattle.p416_syntax.specs.declared.keyword.Keyword16.TheVariants as key
+use Rattle.p416_syntax.specs.declared.mark.Mark16.{Mark16}
+use Rattle.p416_syntax.specs.declared.mark.Mark16.TheVariants as mark_of
 use Rattle.p416_tok.specs.declared.kind.TokenKind16.{TokenKind16}
-use Rattle.p416_ast.specs.declared.parts.Type16.{Type16}
-use Rattle.p416_ast.specs.declared.node.CaseLabel.{CaseLabel}
-use Rattle.p416_ast.specs.declared.views.StmtHead.{StmtHead}
-use Rattle.p416_ast.specs.declared.views.StmtHead.TheVariants as head
-use Rattle.p416_ast.specs.Tree.{Exp16, Stmt16, no_statements, then, block, empty, var, var_is, assign, expression, if_then, if_else, switch, no_cases, case_of}
-use Rattle.p416_ast.specs.Heads.{of_head}
-use Rattle.p416_ast.specs.Tokens.{Seen16, id, quoted, brace_open, colon, in_parens, is_spelt_seen}
-use Rattle.p416_ast.specs.Written.{written_exp, written_type, written_stmt, written_label, written_run}
+use Rattle.p416_syntax.specs.declared.parts.Type16.{Type16}
+use Rattle.p416_syntax.specs.declared.node.CaseLabel.{CaseLabel}
+use Rattle.p416_syntax.specs.declared.views.StmtHead.{StmtHead}
+use Rattle.p416_syntax.specs.declared.views.StmtHead.TheVariants as head
+use Rattle.p416_syntax.specs.Tree.{Exp16, Stmt16, no_statements, then, block, empty, var, var_is, assign, expression, if_then, if_else, switch, no_cases, case_of}
+use Rattle.p416_syntax.specs.Heads.{of_head}
+use Rattle.p416_syntax.specs.Tokens.{Seen16, id, quoted, brace_open, colon, in_parens, is_spelt_seen}
+use Rattle.p416_syntax.specs.Written.{written_exp, written_type, written_stmt, written_label, written_run}
 use Rattle.token_sheet.specs.Words.{Word}
 use Rattle.p416_parentheses.specs.Syntax.{full_stmt}
 use Rattle.p416_spelling.specs.Words.{words16}

@@ -1,14 +1,13 @@
 // The parts that a statement is written with, in order.
 ghost use Rattle.std.specs.Prelude.{◌≡◌, ◌++◌, OnOk};
-ghost use Rattle.p416_ast.specs.declared.views.StmtHead.TheVariants.{Block, VarIs, Assign, If, IfElse, Switch, Case};
+ghost use Rattle.p416_syntax.specs.declared.views.StmtHead.TheVariants.{Block, VarIs, Assign, If, IfElse, Switch, Case};
 ghost use Rattle.p416_stmt_writer.specs.Layouts.{layout, part, step_of, steps, IsPushed};
 
 use crate::work::Work;
 use p4x_bits::{OutOfMemory, Text};
-use p416_ast::{CaseLabel, ExpView, StmtHead, StmtView, Type16};
 use p416_exp_writer::{Form, push_five, push_four};
-use p416_lexemes::{Keyword16, Mark16};
 use p416_sheet::{Gap, TextView, Token16};
+use p416_syntax::{CaseLabel, ExpView, Keyword16, Mark16, StmtHead, StmtView, Type16};
 use work_stack::Stack;
 
 /// The deepest level of lines. What stands deeper isn't indented further, so that a text stays proportional to its tokens.

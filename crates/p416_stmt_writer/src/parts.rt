@@ -1,15 +1,14 @@
 // Parts of statements.
 ghost use Rattle.std.specs.Prelude.{◌≡◌, ◌++◌, ◌∷◌, [], OnOk, IsTrue};
-ghost use Rattle.p416_lexemes.specs.declared.keyword.Keyword16.TheVariants.{Switch};
-ghost use Rattle.p416_ast.specs.Tokens.{id, quoted, brace_open, colon, in_parens, is_spelt_seen};
-ghost use Rattle.p416_ast.specs.Written.{written_label, written_run};
+ghost use Rattle.p416_syntax.specs.declared.keyword.Keyword16.TheVariants.{Switch};
+ghost use Rattle.p416_syntax.specs.Tokens.{id, quoted, brace_open, colon, in_parens, is_spelt_seen};
+ghost use Rattle.p416_syntax.specs.Written.{written_label, written_run};
 ghost use Rattle.p416_spelling.specs.Words.{words16};
 ghost use Rattle.p416_stmt_writer.specs.Layouts.{are_spelt};
 
 use p4x_bits::OutOfMemory;
-use p416_ast::CaseLabel;
-use p416_lexemes::{Keyword16, Mark16};
 use p416_sheet::{Gap, Put16, Sheet16, TextView, Token16, put_tokens};
+use p416_syntax::{CaseLabel, Keyword16, Mark16};
 use std::alloc::Global;
 
 macro_rules! mark {

@@ -1,7 +1,7 @@
 // What is left to be written of a statement.
-use p416_ast::{CaseLabel, ExpView, StmtView, Type16};
 use p416_exp_writer::Form;
 use p416_sheet::{Gap, TextView, Token16};
+use p416_syntax::{CaseLabel, ExpView, StmtView, Type16};
 
 /// A step of what is left, with what stands in front of it.
 #[derive(Drop)]

@@ -1,6 +1,6 @@
 // Statements, lists of statements and lists of cases.
 ghost use Rattle.std.specs.Prelude.{◌≡◌, ◌++◌, ◌∷◌, ◌<◌, ◌+◌, OnOk, IsTrue};
-ghost use Rattle.p416_ast.specs.Written.{written_stmt};
+ghost use Rattle.p416_syntax.specs.Written.{written_stmt};
 ghost use Rattle.p416_parentheses.specs.Syntax.{full_stmt};
 ghost use Rattle.p416_spelling.specs.Words.{words16};
 ghost use Rattle.p416_stmt_writer.specs.Layouts.{step_of, steps, said, all_said, are_spelt, is_spelt_step, are_spelt_steps, weight, all_weight};
@@ -9,9 +9,9 @@ use crate::layout::push_statement;
 use crate::parts::{write_label, write_run};
 use crate::work::Work;
 use p4x_bits::OutOfMemory;
-use p416_ast::StmtView;
 use p416_exp_writer::{write_expression, write_type};
 use p416_sheet::{Gap, Sheet16, put_token};
+use p416_syntax::StmtView;
 use std::alloc::Global;
 use work_stack::Stack;
 

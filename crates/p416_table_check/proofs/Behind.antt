@@ -2,8 +2,8 @@
 use Rattle.std.proofs.Common.{◌≡◌, ℕ, ◌+◌, ◌<◌, Bool, true, false, not, ◌||◌, ◌&&◌, List, ◌∷◌, length, get_or, drop, refl, sym, ap, ◌∙◌, add-one, drop-cons}
 use Rattle.std.specs.List.{list_any}
 use Rattle.std.proofs.lemmas.Bool.{false≢true}
-use Rattle.p416_ast.specs.declared.parts.Param.{Param}
-use Rattle.p416_rules.specs.Tables.{is_directed_parameter, is_behind}
+use Rattle.p416_syntax.specs.declared.parts.Param.{Param}
+use Rattle.p416_syntax.specs.Tables.{is_directed_parameter, is_behind}
 
 -- what is left to be asked, where one without a direction was seen or wasn't
 abbrev left : Bool → List Param → Bool

@@ -1,10 +1,10 @@
 // The keys of tables (P4_16 1.2, "Tables"; `v1model.p4`; how many there may be is this project's own).
 ghost use Rattle.std.specs.Prelude.{◌≡◌, map, count_by};
 ghost use Rattle.std.specs.List.{list_any};
-ghost use Rattle.p416_rules.specs.Names.{has_name};
-ghost use Rattle.p416_rules.specs.Tables.{is_bad_key, is_prefix_key, has_bad_keys};
+ghost use Rattle.p416_syntax.specs.Names.{has_name};
+ghost use Rattle.p416_syntax.specs.Tables.{is_bad_key, is_prefix_key, has_bad_keys};
 
-use p416_ast::TableKey;
+use p416_syntax::TableKey;
 
 const EXACT: &[u8] = b"exact";
 

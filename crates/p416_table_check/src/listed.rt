@@ -1,10 +1,10 @@
 // The actions that tables list (P4_16 1.2, "Tables").
 ghost use Rattle.std.specs.Prelude.{◌≡◌, false, not, option_copied};
 ghost use Rattle.std.specs.Option.{option_map_or};
-ghost use Rattle.p416_ast.specs.Properties.{actions_of, default_action_of};
-ghost use Rattle.p416_rules.specs.Tables.{is_same_action, is_outside_actions};
+ghost use Rattle.p416_syntax.specs.Properties.{actions_of, default_action_of};
+ghost use Rattle.p416_syntax.specs.Tables.{is_same_action, is_outside_actions};
 
-use p416_ast::{ActionName, Table16};
+use p416_syntax::{ActionName, Table16};
 
 /// Whether two names mean one action.
 fn is_same_action(first: &ActionName, second: &ActionName) -> bool

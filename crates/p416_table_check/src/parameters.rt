@@ -1,8 +1,8 @@
 // The parameters of actions: those with a direction come first (P4_16 1.2, "Actions").
 ghost use Rattle.std.specs.Prelude.{◌≡◌, ◌&&◌};
-ghost use Rattle.p416_rules.specs.Tables.{is_directed_parameter, is_behind};
+ghost use Rattle.p416_syntax.specs.Tables.{is_directed_parameter, is_behind};
 
-use p416_ast::Param;
+use p416_syntax::Param;
 
 /// Whether a parameter has a direction.
 fn is_directed(parameter: &Param) -> bool

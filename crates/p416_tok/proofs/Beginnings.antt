@@ -1,8 +1,8 @@
 -- A text is held against the marks that begin with its first octet alone.
 use Rattle.std.proofs.Common.{◌≡◌, ℕ, Bool, true, false, true≢false, ◌&&◌, List, [], ◌∷◌, Option, take, length, nat_eq, slice_index, filter, find, refl, sym, ◌∙◌}
 use Rattle.token_division.specs.Pieces.{begins, mark_at}
-use Rattle.p416_lexemes.specs.declared.mark.Mark16.{Mark16}
-use Rattle.p416_lexemes.specs.Marks.{mark_text16}
+use Rattle.p416_syntax.specs.declared.mark.Mark16.{Mark16}
+use Rattle.p416_syntax.specs.Marks.{mark_text16}
 use Rattle.p416_tok.specs.Beginnings.{may_begin, mark_begins_with}
 
 first_of_both : (a b : Bool) → a && b ≡ true → a ≡ true

@@ -14,10 +14,10 @@ use Rattle.token_division.specs.Literals.{value_of, literal_value, literal_size,
 use Rattle.token_division.specs.Division.{first_after}
 use Rattle.token_division.proofs.LineStarts.{opens, opens_blank, opens_not, opens_not_behind_comment}
 use Rattle.token_division.proofs.Comments.{IsComment, comment_taken}
-use Rattle.p416_lexemes.specs.declared.mark.Mark16.{Mark16}
-use Rattle.p416_lexemes.specs.declared.lexeme.Annotation16.{Annotation16}
-use Rattle.p416_lexemes.specs.declared.lexeme.Include16.{Include16}
-use Rattle.p416_lexemes.specs.Marks.{mark_text16, all_marks16}
+use Rattle.p416_syntax.specs.declared.mark.Mark16.{Mark16}
+use Rattle.p416_syntax.specs.declared.lexeme.Annotation16.{Annotation16}
+use Rattle.p416_syntax.specs.declared.lexeme.Include16.{Include16}
+use Rattle.p416_syntax.specs.Marks.{mark_text16, all_marks16}
 use Rattle.p416_tok.specs.declared.kind.TokenKind16.{TokenKind16}
 use Rattle.p416_tok.specs.declared.kind.TokenKind16.TheVariants as kind
 use Rattle.p416_tok.specs.declared.front.Head.{Head}

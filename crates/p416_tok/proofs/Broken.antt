@@ -17,14 +17,14 @@ use Rattle.token_division.specs.Trivia.{IsFirstOnLine}
 use Rattle.token_division.proofs.Numbers.{is_literal, prefix_some}
 use Rattle.token_division.proofs.LineStarts.{opens, is_first_on_line, not_first_on_line}
 use Rattle.token_division.proofs.Comments.{begins_as, IsNoComment, comment_refused}
-use Rattle.p416_lexemes.specs.declared.mark.Mark16.{Mark16}
-use Rattle.p416_lexemes.specs.declared.lexeme.Annotation16.{Annotation16}
-use Rattle.p416_lexemes.specs.declared.lexeme.Annotation16.TheVariants as annotated
-use Rattle.p416_lexemes.specs.declared.lexeme.Include16.{Include16}
-use Rattle.p416_lexemes.specs.declared.lexeme.Include16.TheVariants as included
-use Rattle.p416_lexemes.specs.Marks.{mark_text16, all_marks16}
-use Rattle.p416_lexemes.specs.Lines.{annotation_text16, include_text16}
-use Rattle.p416_lexemes.proofs.AllMarks.{of_all_marks}
+use Rattle.p416_syntax.specs.declared.mark.Mark16.{Mark16}
+use Rattle.p416_syntax.specs.declared.lexeme.Annotation16.{Annotation16}
+use Rattle.p416_syntax.specs.declared.lexeme.Annotation16.TheVariants as annotated
+use Rattle.p416_syntax.specs.declared.lexeme.Include16.{Include16}
+use Rattle.p416_syntax.specs.declared.lexeme.Include16.TheVariants as included
+use Rattle.p416_syntax.specs.Marks.{mark_text16, all_marks16}
+use Rattle.p416_syntax.specs.Lines.{annotation_text16, include_text16}
+use Rattle.p416_syntax.proofs.AllMarks.{of_all_marks}
 use Rattle.p416_tok.specs.declared.front.Head.{Head}
 use Rattle.p416_tok.specs.declared.front.Head.TheVariants as head
 use Rattle.p416_tok.specs.declared.kind.TokenKind16.TheVariants as kind

@@ -10,14 +10,14 @@ use Rattle.token_division.specs.declared.literals.Base.{Base}
 use Rattle.token_division.specs.declared.literals.Base.TheVariants.{Binary, Decimal, Hexadecimal}
 use Rattle.token_division.specs.Octets.{is_blank, is_letter, is_decimal, is_word, is_line_feed, is_on_line}
 use Rattle.token_division.specs.Literals.{IsBasePrefix, IsLiteral, is_digit_or_gap}
-use Rattle.p416_lexemes.specs.declared.mark.Mark16.{Mark16}
-use Rattle.p416_lexemes.specs.declared.lexeme.Annotation16.{Annotation16}
-use Rattle.p416_lexemes.specs.declared.lexeme.Annotation16.TheVariants as annotated
-use Rattle.p416_lexemes.specs.declared.lexeme.Include16.{Include16}
-use Rattle.p416_lexemes.specs.declared.lexeme.Include16.TheVariants as included
-use Rattle.p416_lexemes.specs.Marks.{mark_text16, all_marks16}
-use Rattle.p416_lexemes.specs.Lines.{annotation_text16, include_text16}
-use Rattle.p416_lexemes.proofs.AllMarks.{of_all_marks}
+use Rattle.p416_syntax.specs.declared.mark.Mark16.{Mark16}
+use Rattle.p416_syntax.specs.declared.lexeme.Annotation16.{Annotation16}
+use Rattle.p416_syntax.specs.declared.lexeme.Annotation16.TheVariants as annotated
+use Rattle.p416_syntax.specs.declared.lexeme.Include16.{Include16}
+use Rattle.p416_syntax.specs.declared.lexeme.Include16.TheVariants as included
+use Rattle.p416_syntax.specs.Marks.{mark_text16, all_marks16}
+use Rattle.p416_syntax.specs.Lines.{annotation_text16, include_text16}
+use Rattle.p416_syntax.proofs.AllMarks.{of_all_marks}
 use Rattle.p416_tok.specs.declared.kind.TokenKind16.{TokenKind16}
 use Rattle.p416_tok.specs.declared.kind.TokenKind16.TheVariants as kind
 use Rattle.p416_tok.specs.declared.front.Head.{Head}

@@ -22,15 +22,15 @@ use Rattle.token_division.proofs.Places.{take-add}
 use Rattle.token_division.proofs.Numbers.{is_literal}
 use Rattle.token_division.proofs.Marks.{mark_begins, mark_longest}
 use Rattle.token_division.proofs.Comments.{begins_as}
-use Rattle.p416_lexemes.specs.declared.mark.Mark16.{Mark16}
-use Rattle.p416_lexemes.specs.declared.lexeme.Annotation16.{Annotation16}
-use Rattle.p416_lexemes.specs.declared.lexeme.Annotation16.TheVariants as annotated
-use Rattle.p416_lexemes.specs.declared.lexeme.Include16.{Include16}
-use Rattle.p416_lexemes.specs.declared.lexeme.Include16.TheVariants as included
-use Rattle.p416_lexemes.specs.Marks.{mark_text16, all_marks16}
-use Rattle.p416_lexemes.specs.Lines.{annotation_text16, include_text16}
-use Rattle.p416_lexemes.specs.Spelt.{is_identifier16}
-use Rattle.p416_lexemes.proofs.AllMarks.{of_all_marks}
+use Rattle.p416_syntax.specs.declared.mark.Mark16.{Mark16}
+use Rattle.p416_syntax.specs.declared.lexeme.Annotation16.{Annotation16}
+use Rattle.p416_syntax.specs.declared.lexeme.Annotation16.TheVariants as annotated
+use Rattle.p416_syntax.specs.declared.lexeme.Include16.{Include16}
+use Rattle.p416_syntax.specs.declared.lexeme.Include16.TheVariants as included
+use Rattle.p416_syntax.specs.Marks.{mark_text16, all_marks16}
+use Rattle.p416_syntax.specs.Lines.{annotation_text16, include_text16}
+use Rattle.p416_syntax.specs.SpeltLexemes.{is_identifier16}
+use Rattle.p416_syntax.proofs.AllMarks.{of_all_marks}
 use Rattle.p416_tok.specs.declared.kind.TokenKind16.{TokenKind16}
 use Rattle.p416_tok.specs.declared.kind.TokenKind16.TheVariants as kind
 use Rattle.p416_tok.specs.declared.front.Head.{Head}

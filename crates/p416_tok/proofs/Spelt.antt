@@ -6,7 +6,7 @@ use Rattle.std.proofs.lemmas.List.{take_at, length-append}
 use Rattle.std.proofs.lemmas.Bool.{and_from}
 use Rattle.std.proofs.lemmas.Bool.Decides.{nat_tests}
 use Rattle.token_division.specs.declared.division.Token.{Token}
-use Rattle.p416_lexemes.specs.Spelt.{is_identifier16, is_width16, is_spelt_lexeme16}
+use Rattle.p416_syntax.specs.SpeltLexemes.{is_identifier16, is_width16, is_spelt_lexeme16}
 use Rattle.p416_tok.specs.declared.kind.TokenKind16.{TokenKind16}
 use Rattle.p416_tok.specs.declared.kind.TokenKind16.TheVariants as kind
 use Rattle.p416_tok.specs.Spelled.{IsNumber, IsString, IsSpelled}

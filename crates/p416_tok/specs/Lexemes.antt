@@ -1,7 +1,7 @@
 -- The tokens of a text without their places, each read where it lies.
 use Rattle.std.specs.Prelude.{ℕ, ◌-◌, List, map, length, take, drop}
-use Rattle.p416_lexemes.specs.declared.lexeme.Lexeme16.{Lexeme16}
-use Rattle.p416_lexemes.specs.declared.lexeme.Lexeme16.TheVariants as lexeme
+use Rattle.p416_syntax.specs.declared.lexeme.Lexeme16.{Lexeme16}
+use Rattle.p416_syntax.specs.declared.lexeme.Lexeme16.TheVariants as lexeme
 use Rattle.token_division.specs.declared.division.Token.{Token}
 use Rattle.p416_tok.specs.declared.kind.TokenKind16.{TokenKind16}
 use Rattle.p416_tok.specs.declared.kind.TokenKind16.TheVariants as kind

@@ -13,12 +13,12 @@ use Rattle.token_division.specs.Pieces.{begins}
 use Rattle.token_division.specs.Literals.{IsLiteral, value_of, largest}
 use Rattle.token_division.specs.Division.{place_after}
 use Rattle.token_division.specs.Trivia.{IsFirstOnLine, BeginsOpenComment, HasTriviaBetween}
-use Rattle.p416_lexemes.specs.declared.mark.Mark16.{Mark16}
-use Rattle.p416_lexemes.specs.declared.lexeme.Annotation16.{Annotation16}
-use Rattle.p416_lexemes.specs.declared.lexeme.Include16.{Include16}
-use Rattle.p416_lexemes.specs.Marks.{mark_text16}
-use Rattle.p416_lexemes.specs.Lines.{annotation_text16}
-use Rattle.p416_lexemes.specs.Spelt.{is_identifier16}
+use Rattle.p416_syntax.specs.declared.mark.Mark16.{Mark16}
+use Rattle.p416_syntax.specs.declared.lexeme.Annotation16.{Annotation16}
+use Rattle.p416_syntax.specs.declared.lexeme.Include16.{Include16}
+use Rattle.p416_syntax.specs.Marks.{mark_text16}
+use Rattle.p416_syntax.specs.Lines.{annotation_text16}
+use Rattle.p416_syntax.specs.SpeltLexemes.{is_identifier16}
 use Rattle.p416_tok.specs.declared.kind.TokenKind16.{TokenKind16}
 use Rattle.p416_tok.specs.Front.{first_line}
 use Rattle.p416_tok.specs.Spelled.{IsIncludeLine}

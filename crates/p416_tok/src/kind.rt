@@ -1,9 +1,9 @@
 // The token classes.
-use p416_lexemes::{Annotation16, Include16, Literal16, Mark16};
+use p416_syntax::{Annotation16, Include16, Literal16, Mark16};
 use token_division::Token;
 
 /// The token class of a P4_16 token. The octets of its span tell a name from another, and a string from another.
-#[derive(Clone, Copy, Debug, PartialEq, Eq)]
+#[derive(Clone, Copy, PartialEq, Eq)]
 pub enum TokenKind16 {
     /// A letter or `_`, and letters, digits and `_` behind it. A reserved word is one too.
     Name,

@@ -4,7 +4,7 @@ ghost use Rattle.std.specs.List.{list_all};
 ghost use Rattle.token_division.specs.Division.{IsDivision};
 ghost use Rattle.token_division.specs.Layout.{IsLaidOut};
 ghost use Rattle.token_division.specs.Trivia.{IsTokensAndTrivia};
-ghost use Rattle.p416_lexemes.specs.Spelt.{is_spelt_lexeme16};
+ghost use Rattle.p416_syntax.specs.SpeltLexemes.{is_spelt_lexeme16};
 ghost use Rattle.p416_tok.specs.Front as pieces;
 ghost use Rattle.p416_tok.specs.Lexemes.{lexemes16};
 ghost use Rattle.p416_tok.specs.Spelled.{IsSpelled};
@@ -38,7 +38,7 @@ impl Lexicon for P416 {
 /// The text is divided from the left into trivia (blanks and comments) and tokens, the longest mark first:
 /// it is its tokens, and before, between and behind them trivia and nothing else. Each name, and what stands
 /// in each string, is an identifier; each number has a width of 1 to 128 or none, and its value as it is
-/// written (`is_spelt_lexeme16` of p416_lexemes). `>>` is two marks, whose spans tell that they touch. Where
+/// written (`is_spelt_lexeme16` of p416_syntax). `>>` is two marks, whose spans tell that they touch. Where
 /// no piece can follow, the text is refused with the rule that it breaks and the place where the piece would
 /// begin: L1 for an octet that begins none, or a number in the form of signed ones, L2 for a comment that
 /// isn't closed, L3 for a number over 2^128 - 1 or a width outside 1 to 128, L4 for a line that begins with

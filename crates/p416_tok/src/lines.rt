@@ -2,12 +2,12 @@
 ghost use Rattle.std.specs.Prelude.{◌≡◌, ◌<◌, ◌≤◌, length, true, IfOk, IfSome};
 ghost use Rattle.std.specs.List.{list_all};
 ghost use Rattle.token_division.specs.Octets as octets;
-ghost use Rattle.p416_lexemes.specs.Lines.{include_text16};
+ghost use Rattle.p416_syntax.specs.Lines.{include_text16};
 ghost use Rattle.p416_tok.specs.Front as front;
 
 use crate::TokenKind16;
 use p4x_fault::Rule;
-use p416_lexemes::Include16;
+use p416_syntax::Include16;
 use token_division::octets::{is_blank, line_size};
 use token_division::{Piece, What};
 

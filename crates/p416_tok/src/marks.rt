@@ -2,10 +2,10 @@
 ghost use Rattle.std.specs.Prelude.{◌≡◌, ◌≤◌, length, IfSome};
 ghost use Rattle.std.specs.List.{filter};
 ghost use Rattle.token_division.specs.Pieces as pieces;
-ghost use Rattle.p416_lexemes.specs.Marks.{mark_text16, all_marks16};
+ghost use Rattle.p416_syntax.specs.Marks.{mark_text16, all_marks16};
 ghost use Rattle.p416_tok.specs.Beginnings.{mark_begins_with};
 
-use p416_lexemes::Mark16;
+use p416_syntax::Mark16;
 use token_division::mark_at;
 use token_division::octets::octet_at;
 

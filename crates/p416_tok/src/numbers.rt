@@ -6,7 +6,7 @@ ghost use Rattle.p416_tok.specs.Front as front;
 
 use crate::TokenKind16;
 use p4x_fault::Rule;
-use p416_lexemes::Literal16;
+use p416_syntax::Literal16;
 use token_division::octets::{decimal_size, is_decimal};
 use token_division::{Piece, What};
 

@@ -1,11 +1,11 @@
 // Strings, and the names of annotations.
 ghost use Rattle.std.specs.Prelude.{◌≡◌, ◌<◌, ◌≤◌, length, true, IfOk, IfSome};
-ghost use Rattle.p416_lexemes.specs.Lines.{annotation_text16};
+ghost use Rattle.p416_syntax.specs.Lines.{annotation_text16};
 ghost use Rattle.p416_tok.specs.Front as front;
 
 use crate::TokenKind16;
 use p4x_fault::Rule;
-use p416_lexemes::Annotation16;
+use p416_syntax::Annotation16;
 use token_division::octets::{is_letter, is_word, octet_at, word_size};
 use token_division::{Piece, What};
 

@@ -1,14 +1,14 @@
 -- The names at the top in one list, and the rule's own words for a name of no block.
 use Rattle.std.proofs.Common.{◌≡◌, Bool, List, [], ◌∷◌, ◌++◌, map, refl, sym, ap, ◌∙◌}
 use Rattle.std.specs.List.{list_any}
-use Rattle.p416_ast.specs.declared.program.Decl16.{Decl16}
-use Rattle.p416_ast.specs.declared.program.Syntax16.{Syntax16}
-use Rattle.p416_rules.specs.Names.{Name, repeats}
-use Rattle.p416_rules.specs.BuiltIn.{built_in}
-use Rattle.p416_rules.specs.Scopes.{Known, called_of}
-use Rattle.p416_rules.specs.Declarations.{top_name}
-use Rattle.p416_rules.specs.Unknown.{declared_name, declares_twice}
-use Rattle.p416_rules.specs.Breaks.{is_no_block}
+use Rattle.p416_syntax.specs.declared.program.Decl16.{Decl16}
+use Rattle.p416_syntax.specs.declared.program.Syntax16.{Syntax16}
+use Rattle.p416_syntax.specs.Names.{Name, repeats}
+use Rattle.p416_syntax.specs.BuiltIn.{built_in}
+use Rattle.p416_syntax.specs.Scopes.{Known, called_of}
+use Rattle.p416_syntax.specs.Declarations.{top_name}
+use Rattle.p416_syntax.specs.Unknown.{declared_name, declares_twice}
+use Rattle.p416_syntax.specs.Breaks.{is_no_block}
 use Rattle.p416_top_check.specs.internal.Blocks.{is_other}
 
 names_are : (ds : List Decl16) (rest : List Known) → map called_of (map top_name ds ++ rest) ≡ map declared_name ds ++ map called_of rest

@@ -1,8 +1,8 @@
 // Whether names are those of blocks (P4_16 1.2, "Name resolution"; `v1model.p4`).
 ghost use Rattle.std.specs.Prelude.{◌≡◌, [], not};
 ghost use Rattle.std.specs.List.{list_any};
-ghost use Rattle.p416_ast.specs.declared.program.Syntax16.{Syntax16};
-ghost use Rattle.p416_rules.specs.Breaks.{is_no_block};
+ghost use Rattle.p416_syntax.specs.declared.program.Syntax16.{Syntax16};
+ghost use Rattle.p416_syntax.specs.Breaks.{is_no_block};
 ghost use Rattle.p416_top_check.specs.internal.Blocks.{is_other};
 
 use p4x_bits::Text;

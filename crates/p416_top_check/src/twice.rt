@@ -1,13 +1,13 @@
 // Whether a name is declared twice at the top (P4_16 1.2, "Name resolution").
 ghost use Rattle.std.specs.Prelude.{◌≡◌, ◌++◌, map, IfOk, OnOk};
-ghost use Rattle.p416_rules.specs.BuiltIn.{built_in};
-ghost use Rattle.p416_rules.specs.Scopes.{called_of};
-ghost use Rattle.p416_rules.specs.Unknown.{declared_name, declares_twice};
+ghost use Rattle.p416_syntax.specs.BuiltIn.{built_in};
+ghost use Rattle.p416_syntax.specs.Scopes.{called_of};
+ghost use Rattle.p416_syntax.specs.Unknown.{declared_name, declares_twice};
 
 use p4x_bits::OutOfMemory;
-use p416_ast::Decl16;
 use p416_name_set::is_repeated;
 use p416_names::decl_name;
+use p416_syntax::Decl16;
 use std::alloc::Global;
 
 /// The names that `core.p4` and `v1model.p4` declare.

@@ -4,21 +4,21 @@ use Rattle.std.specs.List.{cons_option, list_all}
 use Rattle.std.specs.Str.{bytes_eq}
 use Rattle.std.proofs.lemmas.List.Sums.{sum_by-cons}
 use Rattle.digraph.specs.Graphs.{Among}
-use Rattle.p416_ast.specs.declared.parts.Type16.{Type16}
-use Rattle.p416_ast.specs.declared.parts.Type16.TheVariants.{Bit, Bool as BoolType, Named}
-use Rattle.p416_ast.specs.declared.parts.BitField.{BitField}
-use Rattle.p416_ast.specs.declared.parts.StructField.{StructField}
-use Rattle.p416_ast.specs.declared.parts.Struct16.{Struct16}
-use Rattle.p416_ast.specs.declared.controls.Instance.{Instance}
-use Rattle.p416_ast.specs.declared.controls.Instance.TheVariants as instance
-use Rattle.p416_ast.specs.declared.program.Decl16.{Decl16}
-use Rattle.p416_ast.specs.declared.program.Decl16.TheVariants as decl
-use Rattle.p416_rules.specs.Names.{Name}
-use Rattle.p416_rules.specs.Kinds.{Kind, bits, unsized, boolean, error_code, header, stack, struct, packet_in, packet_out, errors, enumeration, one_of, table, applied, object, items, nothing, unknown, is_struct}
-use Rattle.p416_rules.specs.BuiltIn.{standard, built_in, functions}
-use Rattle.p416_rules.specs.Scopes.{a_function, Known, known, FieldKind, sort_in, type_sort, stack_kind, kind_of_type}
-use Rattle.p416_rules.specs.Declarations.{top_name, top_names, instance_sort, bit_field, struct_field}
-use Rattle.p416_rules.specs.Unknown.{declared_name, declaration_number, type_name, field_type_name, held_by}
+use Rattle.p416_syntax.specs.declared.parts.Type16.{Type16}
+use Rattle.p416_syntax.specs.declared.parts.Type16.TheVariants.{Bit, Bool as BoolType, Named}
+use Rattle.p416_syntax.specs.declared.parts.BitField.{BitField}
+use Rattle.p416_syntax.specs.declared.parts.StructField.{StructField}
+use Rattle.p416_syntax.specs.declared.parts.Struct16.{Struct16}
+use Rattle.p416_syntax.specs.declared.controls.Instance.{Instance}
+use Rattle.p416_syntax.specs.declared.controls.Instance.TheVariants as instance
+use Rattle.p416_syntax.specs.declared.program.Decl16.{Decl16}
+use Rattle.p416_syntax.specs.declared.program.Decl16.TheVariants as decl
+use Rattle.p416_syntax.specs.Names.{Name}
+use Rattle.p416_syntax.specs.Kinds.{Kind, bits, unsized, boolean, error_code, header, stack, struct, packet_in, packet_out, errors, enumeration, one_of, table, applied, object, items, nothing, unknown, is_struct}
+use Rattle.p416_syntax.specs.BuiltIn.{standard, built_in, functions}
+use Rattle.p416_syntax.specs.Scopes.{a_function, Known, known, FieldKind, sort_in, type_sort, stack_kind, kind_of_type}
+use Rattle.p416_syntax.specs.Declarations.{top_name, top_names, instance_sort, bit_field, struct_field}
+use Rattle.p416_syntax.specs.Unknown.{declared_name, declaration_number, type_name, field_type_name, held_by}
 use Rattle.p416_names.specs.internal.Tables.{fields_of}
 use Rattle.p416_type_totals.proofs.Finding.{IsDeclared, IsUndeclared, finds, same_name}
 

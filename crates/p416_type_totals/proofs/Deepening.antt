@@ -6,15 +6,15 @@ use Rattle.std.proofs.lemmas.Bool.{lt-ltb, ltb-true}
 use Rattle.std.proofs.lemmas.Bool.Decides.{nat_tests}
 use Rattle.std.proofs.lemmas.List.{length-append}
 use Rattle.digraph.specs.Graphs.{Among, IsEdge}
-use Rattle.p416_ast.specs.declared.parts.Struct16.{Struct16}
-use Rattle.p416_ast.specs.declared.program.Decl16.{Decl16}
-use Rattle.p416_ast.specs.declared.program.Decl16.TheVariants as decl
-use Rattle.p416_rules.specs.Names.{Name, has_name}
-use Rattle.p416_rules.specs.Kinds.{Kind, struct, is_struct}
-use Rattle.p416_rules.specs.BuiltIn.{standard, standard_name, standard_layout, built_in}
-use Rattle.p416_rules.specs.Scopes.{called_of, fields_in}
-use Rattle.p416_rules.specs.Declarations.{top_names, layouts_of, layout_in}
-use Rattle.p416_rules.specs.Unknown.{declared_name, declares_twice, held_by, struct_graph}
+use Rattle.p416_syntax.specs.declared.parts.Struct16.{Struct16}
+use Rattle.p416_syntax.specs.declared.program.Decl16.{Decl16}
+use Rattle.p416_syntax.specs.declared.program.Decl16.TheVariants as decl
+use Rattle.p416_syntax.specs.Names.{Name, has_name}
+use Rattle.p416_syntax.specs.Kinds.{Kind, struct, is_struct}
+use Rattle.p416_syntax.specs.BuiltIn.{standard, standard_name, standard_layout, built_in}
+use Rattle.p416_syntax.specs.Scopes.{called_of, fields_in}
+use Rattle.p416_syntax.specs.Declarations.{top_names, layouts_of, layout_in}
+use Rattle.p416_syntax.specs.Unknown.{declared_name, declares_twice, held_by, struct_graph}
 use Rattle.p416_names.specs.internal.Tables.{fields_of}
 use Rattle.p416_type_totals.proofs.Finding.{IsDeclared, IsUndeclared, finds, same_name, own_fields, not_built_in}
 use Rattle.p416_type_totals.proofs.Agreeing.{are_plain, plain_agree, bits_agree, decl_agrees}

@@ -6,13 +6,13 @@ use Rattle.std.specs.List.{position_or_len}
 use Rattle.std.specs.Str.{bytes_eq}
 use Rattle.std.proofs.lemmas.Bool.{lt-ltb, ltb-true}
 use Rattle.std.proofs.lemmas.Slice.Eq.{bytes_eq-Decides}
-use Rattle.p416_ast.specs.declared.program.Decl16.{Decl16}
-use Rattle.p416_ast.specs.declared.program.Decl16.TheVariants as decl
-use Rattle.p416_rules.specs.Names.{Name, has_name, repeats}
-use Rattle.p416_rules.specs.BuiltIn.{built_in, standard_layout, standard_name}
-use Rattle.p416_rules.specs.Scopes.{Known, called_of, Layout, sort_in, fields_in}
-use Rattle.p416_rules.specs.Declarations.{top_name, top_names, layouts_of, layout_in, bit_field, struct_field}
-use Rattle.p416_rules.specs.Unknown.{declared_name, declaration_number, declares_twice}
+use Rattle.p416_syntax.specs.declared.program.Decl16.{Decl16}
+use Rattle.p416_syntax.specs.declared.program.Decl16.TheVariants as decl
+use Rattle.p416_syntax.specs.Names.{Name, has_name, repeats}
+use Rattle.p416_syntax.specs.BuiltIn.{built_in, standard_layout, standard_name}
+use Rattle.p416_syntax.specs.Scopes.{Known, called_of, Layout, sort_in, fields_in}
+use Rattle.p416_syntax.specs.Declarations.{top_name, top_names, layouts_of, layout_in, bit_field, struct_field}
+use Rattle.p416_syntax.specs.Unknown.{declared_name, declaration_number, declares_twice}
 use Rattle.p416_names.specs.internal.Tables.{fields_of}
 use Rattle.p416_names.proofs.Found.{bytes_either}
 

@@ -5,15 +5,15 @@ use Rattle.std.specs.Option.{option_map_or}
 use Rattle.std.specs.Str.{bytes_eq}
 use Rattle.std.proofs.lemmas.List.{length-append}
 use Rattle.std.proofs.lemmas.List.Sums.{sum_by-cons}
-use Rattle.p416_ast.specs.declared.parts.BitField.{BitField}
-use Rattle.p416_ast.specs.declared.program.Decl16.{Decl16}
-use Rattle.p416_rules.specs.Names.{Name}
-use Rattle.p416_rules.specs.Kinds.{Kind, bits, unsized, boolean, error_code, header, stack, struct, packet_in, packet_out, errors, enumeration, one_of, table, applied, object, items, nothing, unknown, is_struct}
-use Rattle.p416_rules.specs.BuiltIn.{standard_name, standard_layout, built_in}
-use Rattle.p416_rules.specs.Scopes.{Layout, fields_in}
-use Rattle.p416_rules.specs.Declarations.{top_names, layouts_of, layout_in, bit_field}
-use Rattle.p416_rules.specs.Unknown.{declared_name, declaration_number}
-use Rattle.p416_rules.specs.Totals.{fields_within, octets_within}
+use Rattle.p416_syntax.specs.declared.parts.BitField.{BitField}
+use Rattle.p416_syntax.specs.declared.program.Decl16.{Decl16}
+use Rattle.p416_syntax.specs.Names.{Name}
+use Rattle.p416_syntax.specs.Kinds.{Kind, bits, unsized, boolean, error_code, header, stack, struct, packet_in, packet_out, errors, enumeration, one_of, table, applied, object, items, nothing, unknown, is_struct}
+use Rattle.p416_syntax.specs.BuiltIn.{standard_name, standard_layout, built_in}
+use Rattle.p416_syntax.specs.Scopes.{Layout, fields_in}
+use Rattle.p416_syntax.specs.Declarations.{top_names, layouts_of, layout_in, bit_field}
+use Rattle.p416_syntax.specs.Unknown.{declared_name, declaration_number}
+use Rattle.p416_syntax.specs.Totals.{fields_within, octets_within}
 use Rattle.p416_type_totals.specs.declared.measure.Measure.{Measure}
 use Rattle.p416_type_totals.specs.declared.measure.Measure.TheVariants as measure
 use Rattle.p416_type_totals.specs.Limit.{up_to}

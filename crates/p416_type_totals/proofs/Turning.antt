@@ -15,15 +15,15 @@ use Rattle.digraph.proofs.Members.{among_place}
 use Rattle.digraph.proofs.Listing.{among_append}
 use Rattle.digraph.proofs.Cycles.{on_cycle}
 use Rattle.digraph.proofs.Sizing.{comes_before}
-use Rattle.p416_ast.specs.declared.parts.Struct16.{Struct16}
-use Rattle.p416_ast.specs.declared.program.Decl16.{Decl16}
-use Rattle.p416_ast.specs.declared.program.Decl16.TheVariants as decl
-use Rattle.p416_rules.specs.Names.{Name}
-use Rattle.p416_rules.specs.Kinds.{struct}
-use Rattle.p416_rules.specs.BuiltIn.{standard, standard_name}
-use Rattle.p416_rules.specs.Scopes.{fields_in}
-use Rattle.p416_rules.specs.Declarations.{top_names, layouts_of}
-use Rattle.p416_rules.specs.Unknown.{declared_name, declaration_number, declares_twice, held_names, held_by, struct_graph}
+use Rattle.p416_syntax.specs.declared.parts.Struct16.{Struct16}
+use Rattle.p416_syntax.specs.declared.program.Decl16.{Decl16}
+use Rattle.p416_syntax.specs.declared.program.Decl16.TheVariants as decl
+use Rattle.p416_syntax.specs.Names.{Name}
+use Rattle.p416_syntax.specs.Kinds.{struct}
+use Rattle.p416_syntax.specs.BuiltIn.{standard, standard_name}
+use Rattle.p416_syntax.specs.Scopes.{fields_in}
+use Rattle.p416_syntax.specs.Declarations.{top_names, layouts_of}
+use Rattle.p416_syntax.specs.Unknown.{declared_name, declaration_number, declares_twice, held_names, held_by, struct_graph}
 use Rattle.p416_names.specs.internal.Tables.{fields_of}
 use Rattle.p416_type_totals.specs.declared.measure.Measure.{Measure}
 use Rattle.p416_type_totals.specs.Limit.{limit, up_to}

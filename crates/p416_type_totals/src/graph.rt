@@ -1,12 +1,12 @@
 // What structs hold, as a graph (P4_16 1.2, "Struct types").
 ghost use Rattle.std.specs.Prelude.{◌≡◌, ◌++◌, ◌∷◌, [], map, filter_map, option_to_list, IfOk, OnOk};
 ghost use Rattle.std.specs.Option.{option_map};
-ghost use Rattle.p416_rules.specs.Unknown.{declaration_number, type_name, field_type_name, held_names, held_by, struct_graph};
+ghost use Rattle.p416_syntax.specs.Unknown.{declaration_number, type_name, field_type_name, held_names, held_by, struct_graph};
 
 use crate::types::Types;
 use digraph::Digraph;
 use p4x_bits::OutOfMemory;
-use p416_ast::{Decl16, StructField, Type16};
+use p416_syntax::{Decl16, StructField, Type16};
 use std::alloc::Global;
 
 /// The name of a type that has one.

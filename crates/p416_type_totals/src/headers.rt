@@ -1,10 +1,10 @@
 // What headers count (P4_16 1.2, "Header types").
 ghost use Rattle.std.specs.Prelude.{◌≡◌, List, map, min, length, sum_by, slice_index, IfOk};
-ghost use Rattle.p416_rules.specs.Kinds.{Kind};
-ghost use Rattle.p416_rules.specs.Scopes.{Known, kind_of_type};
-ghost use Rattle.p416_rules.specs.Declarations.{top_names, bit_field, struct_field};
-ghost use Rattle.p416_rules.specs.Totals.{bits_in, field_bits};
-ghost use Rattle.p416_kinds.specs.Seen.{seen_kind};
+ghost use Rattle.p416_syntax.specs.Kinds.{Kind};
+ghost use Rattle.p416_syntax.specs.Scopes.{Known, kind_of_type};
+ghost use Rattle.p416_syntax.specs.Declarations.{top_names, bit_field, struct_field};
+ghost use Rattle.p416_syntax.specs.Totals.{bits_in, field_bits};
+ghost use Rattle.p416_names.specs.SeenKinds.{seen_kind};
 ghost use Rattle.p416_names.specs.Seen.{seen_fields};
 ghost use Rattle.p416_type_totals.specs.Limit.{up_to};
 ghost use Rattle.p416_type_totals.specs.internal.Sized.{bit_limit, as_header, header_of, headers_of};
@@ -13,9 +13,8 @@ ghost use Rattle.p416_type_totals.specs.internal.Written.{HasHeaders};
 use crate::measure::{LIMIT, Measure, capped};
 use crate::types::Types;
 use p4x_bits::OutOfMemory;
-use p416_ast::{BitField, StructField, Type16};
-use p416_kinds::Kind;
-use p416_names::{Fields, decl_name};
+use p416_names::{Fields, Kind, decl_name};
+use p416_syntax::{BitField, StructField, Type16};
 use std::alloc::Global;
 
 /// How far bits are counted.

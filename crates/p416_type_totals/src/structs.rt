@@ -3,9 +3,9 @@ ghost use Rattle.std.specs.Prelude.{◌≡◌, ◌*◌, false, map, slice_index,
 ghost use Rattle.std.specs.Option.{option_map_or};
 ghost use Rattle.digraph.specs.Components.{AreComponents};
 ghost use Rattle.digraph.specs.Expansions.{HasCycle};
-ghost use Rattle.p416_rules.specs.Declarations.{top_names, struct_field};
-ghost use Rattle.p416_rules.specs.Unknown.{declares_twice, declaration_number, struct_graph};
-ghost use Rattle.p416_kinds.specs.Seen.{seen_kind};
+ghost use Rattle.p416_syntax.specs.Declarations.{top_names, struct_field};
+ghost use Rattle.p416_syntax.specs.Unknown.{declares_twice, declaration_number, struct_graph};
+ghost use Rattle.p416_names.specs.SeenKinds.{seen_kind};
 ghost use Rattle.p416_names.specs.Seen.{seen_fields};
 ghost use Rattle.p416_type_totals.specs.Limit.{up_to};
 ghost use Rattle.p416_type_totals.specs.internal.Sized.{header_of, standard_size, structs_of, looked, looked_fields, looked_at};
@@ -16,9 +16,8 @@ use crate::measure::{LIMIT, capped, other_size, standard_size, times};
 use crate::types::Types;
 use digraph::Components;
 use p4x_bits::OutOfMemory;
-use p416_ast::StructField;
-use p416_kinds::Kind;
-use p416_names::{Fields, decl_name};
+use p416_names::{Fields, Kind, decl_name};
+use p416_syntax::StructField;
 use std::alloc::Global;
 
 /// What a struct of the type of this name counts, where this is known of the declared ones.

@@ -2,10 +2,10 @@
 ghost use Rattle.std.specs.Prelude.{◌≡◌, false, IfOk, MatchOption};
 ghost use Rattle.digraph.specs.Components.{AreComponents};
 ghost use Rattle.digraph.specs.Expansions.{HasCycle};
-ghost use Rattle.p416_rules.specs.Declarations.{layouts_of};
-ghost use Rattle.p416_rules.specs.Totals.{fields_of_kind, octets_of_kind};
-ghost use Rattle.p416_rules.specs.Unknown.{declares_twice, struct_graph};
-ghost use Rattle.p416_kinds.specs.Seen.{seen_kind};
+ghost use Rattle.p416_syntax.specs.Declarations.{layouts_of};
+ghost use Rattle.p416_syntax.specs.Totals.{fields_of_kind, octets_of_kind};
+ghost use Rattle.p416_syntax.specs.Unknown.{declares_twice, struct_graph};
+ghost use Rattle.p416_names.specs.SeenKinds.{seen_kind};
 ghost use Rattle.p416_type_totals.specs.Limit.{up_to};
 ghost use Rattle.p416_type_totals.specs.internal.Sized.{of_kind};
 ghost use Rattle.p416_type_totals.specs.internal.Written.{IsTable};
@@ -17,32 +17,48 @@ use crate::structs::{size_of_kind, structs_of};
 use crate::types::Types;
 use digraph::Components;
 use p4x_bits::OutOfMemory;
-use p416_kinds::Kind;
-use p416_names::Top;
+use p416_names::{Kind, Top};
 use std::alloc::Global;
 use std::marker::Model;
 
 /// What the values of the declared types count by a measure.
-#[derive(Drop)]
 struct Table {
     headers: Headers,
     structs: Vec<u128>,
 }
 
+impl Drop for Table {
+    fn drop(self) {
+        let Table {
+            headers: _headers,
+            structs: _structs,
+        } = self;
+    }
+}
+
 /// How many fields and how many octets of headers a value of each type of a program has. Contracts see the declarations of
 /// the program.
-#[derive(Drop)]
 pub struct TypeTotals<'t, 'a> {
     types: Types<'t, 'a>,
     fields: Table,
     octets: Table,
 }
 
+impl Drop for TypeTotals<'_, '_> {
+    fn drop(self) {
+        let TypeTotals {
+            types: _types,
+            fields: _fields,
+            octets: _octets,
+        } = self;
+    }
+}
+
 impl<'t, 'a> Model for TypeTotals<'t, 'a> {
     ghost use Rattle.std.specs.Prelude.{◌≡◌, List};
     ghost use Rattle.std.specs.Coded.{codes};
-    ghost use Rattle.p416_ast.specs.contracts.program.Decl16 as declaration;
-    ghost use Rattle.p416_ast.specs.declared.program.Decl16.{Decl16};
+    ghost use Rattle.p416_syntax.specs.contracts.program.Decl16 as declaration;
+    ghost use Rattle.p416_syntax.specs.declared.program.Decl16.{Decl16};
     ghost use Rattle.p416_type_totals.specs.declared.measure.Measure.TheVariants as measure;
     ghost use Rattle.p416_type_totals.specs.internal.Written.{IsTable};
 

@@ -1,16 +1,15 @@
 // The types of a program by the numbers of their declarations.
 ghost use Rattle.std.specs.Prelude.{◌≡◌, map, IfOk};
-ghost use Rattle.p416_rules.specs.Declarations.{top_names, layouts_of};
-ghost use Rattle.p416_rules.specs.Scopes.{kind_of_type, fields_in};
-ghost use Rattle.p416_rules.specs.Unknown.{declared_name, declaration_number};
-ghost use Rattle.p416_kinds.specs.Seen.{seen_kind};
+ghost use Rattle.p416_syntax.specs.Declarations.{top_names, layouts_of};
+ghost use Rattle.p416_syntax.specs.Scopes.{kind_of_type, fields_in};
+ghost use Rattle.p416_syntax.specs.Unknown.{declared_name, declaration_number};
+ghost use Rattle.p416_names.specs.SeenKinds.{seen_kind};
 ghost use Rattle.p416_names.specs.Seen.{seen_fields};
 
 use name_numbers::{Numbering, number_names};
 use p4x_bits::OutOfMemory;
-use p416_ast::{Decl16, Type16};
-use p416_kinds::Kind;
-use p416_names::{Fields, Top, decl_name};
+use p416_names::{Fields, Kind, Top, decl_name};
+use p416_syntax::{Decl16, Type16};
 use std::alloc::Global;
 use std::marker::Model;
 
@@ -24,9 +23,9 @@ pub(crate) struct Types<'t, 'a> {
 impl<'t, 'a> Model for Types<'t, 'a> {
     ghost use Rattle.std.specs.Prelude.{◌≡◌, List, map};
     ghost use Rattle.std.specs.Coded.{codes};
-    ghost use Rattle.p416_ast.specs.contracts.program.Decl16 as declaration;
-    ghost use Rattle.p416_ast.specs.declared.program.Decl16.{Decl16};
-    ghost use Rattle.p416_rules.specs.Unknown.{declared_name};
+    ghost use Rattle.p416_syntax.specs.contracts.program.Decl16 as declaration;
+    ghost use Rattle.p416_syntax.specs.declared.program.Decl16.{Decl16};
+    ghost use Rattle.p416_syntax.specs.Unknown.{declared_name};
 
     ghost Value = { List Decl16 };
 

@@ -3,27 +3,27 @@ use Rattle.std.proofs.Common.{◌≡◌, ◌⊎◌, inl, inr, ℕ, Bool, true, f
 use Rattle.std.specs.List.{list_any}
 use Rattle.std.proofs.lemmas.Bool.{false≢true}
 use Rattle.digraph.specs.Expansions.{HasCycle}
-use Rattle.p416_ast.specs.declared.program.Decl16.{Decl16}
-use Rattle.p416_ast.specs.declared.program.Syntax16.{Syntax16}
-use Rattle.p416_rules.specs.declared.rule.ProgramRule.{ProgramRule}
-use Rattle.p416_rules.specs.declared.rule.ProgramRule.TheVariants.{T1, T2, T3, T4, T5, T6, T7, T8, T9, T10, T11, T12}
-use Rattle.p416_rules.specs.Exact.{IsExact}
-use Rattle.p416_rules.specs.Names.{Name}
-use Rattle.p416_rules.specs.Kinds.{Kind}
-use Rattle.p416_rules.specs.Uses.{Use, an_expression, a_type, a_name, names_of_scope, a_width, a_size, a_number, a_header, a_member, a_keyset, a_count, a_switch, some_parameters, some_counters, a_table_of, a_body}
-use Rattle.p416_rules.specs.Declarations.{layouts_of}
-use Rattle.p416_rules.specs.Unknown.{is_misnamed, struct_graph}
-use Rattle.p416_rules.specs.Sizes.{leaves_size}
-use Rattle.p416_rules.specs.Types.{is_mistyped}
-use Rattle.p416_rules.specs.Literals.{overflows}
-use Rattle.p416_rules.specs.Writes.{writes_constant}
-use Rattle.p416_rules.specs.Arguments.{is_miscounted}
-use Rattle.p416_rules.specs.Applications.{applies_wrongly}
-use Rattle.p416_rules.specs.Tables.{is_bad_in_table, has_shared_names}
-use Rattle.p416_rules.specs.Externs.{is_outside_block}
-use Rattle.p416_rules.specs.Main.{is_main}
-use Rattle.p416_rules.specs.Totals.{has_large_headers, has_large_variables, has_bad_cells, held_kinds}
-use Rattle.p416_rules.specs.Breaks.{has_use, scope_of, HasCallCycle, SomeDeclaration, SomeBreaks, program_uses, IsBroken, BreaksNone}
+use Rattle.p416_syntax.specs.declared.program.Decl16.{Decl16}
+use Rattle.p416_syntax.specs.declared.program.Syntax16.{Syntax16}
+use Rattle.p416_syntax.specs.declared.rule.ProgramRule.{ProgramRule}
+use Rattle.p416_syntax.specs.declared.rule.ProgramRule.TheVariants.{T1, T2, T3, T4, T5, T6, T7, T8, T9, T10, T11, T12}
+use Rattle.p416_syntax.specs.Exact.{IsExact}
+use Rattle.p416_syntax.specs.Names.{Name}
+use Rattle.p416_syntax.specs.Kinds.{Kind}
+use Rattle.p416_syntax.specs.Uses.{Use, an_expression, a_type, a_name, names_of_scope, a_width, a_size, a_number, a_header, a_member, a_keyset, a_count, a_switch, some_parameters, some_counters, a_table_of, a_body}
+use Rattle.p416_syntax.specs.Declarations.{layouts_of}
+use Rattle.p416_syntax.specs.Unknown.{is_misnamed, struct_graph}
+use Rattle.p416_syntax.specs.Sizes.{leaves_size}
+use Rattle.p416_syntax.specs.Types.{is_mistyped}
+use Rattle.p416_syntax.specs.Literals.{overflows}
+use Rattle.p416_syntax.specs.Writes.{writes_constant}
+use Rattle.p416_syntax.specs.Arguments.{is_miscounted}
+use Rattle.p416_syntax.specs.Applications.{applies_wrongly}
+use Rattle.p416_syntax.specs.Tables.{is_bad_in_table, has_shared_names}
+use Rattle.p416_syntax.specs.Externs.{is_outside_block}
+use Rattle.p416_syntax.specs.Main.{is_main}
+use Rattle.p416_syntax.specs.Totals.{has_large_headers, has_large_variables, has_bad_cells, held_kinds}
+use Rattle.p416_syntax.specs.Breaks.{has_use, scope_of, HasCallCycle, SomeDeclaration, SomeBreaks, program_uses, IsBroken, BreaksNone}
 use Rattle.p416_counter_check.specs.Counting.{is_counted_use}
 use Rattle.p416_action_check.specs.Cycles.{CallsItself, SomeCallsItself}
 use Rattle.p416_expression_uses.specs.First.{UseRule, use_rule, first_by, use_rules, is_bad_elsewhere}

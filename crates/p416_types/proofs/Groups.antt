@@ -1,10 +1,10 @@
 -- Three rules that are tests of uses, one after another.
 use Rattle.std.proofs.Common.{◌≡◌, Bool, true, false, List, [], ◌∷◌, Err, refl, sym, ◌∙◌}
 use Rattle.std.specs.List.{list_any}
-use Rattle.p416_ast.specs.declared.program.Syntax16.{Syntax16}
-use Rattle.p416_rules.specs.declared.rule.ProgramRule.{ProgramRule}
-use Rattle.p416_rules.specs.Exact.{IsExact}
-use Rattle.p416_rules.specs.Breaks.{program_uses, IsBroken, BreaksNone, rule_fault}
+use Rattle.p416_syntax.specs.declared.program.Syntax16.{Syntax16}
+use Rattle.p416_syntax.specs.declared.rule.ProgramRule.{ProgramRule}
+use Rattle.p416_syntax.specs.Exact.{IsExact}
+use Rattle.p416_syntax.specs.Breaks.{program_uses, IsBroken, BreaksNone, rule_fault}
 use Rattle.p416_expression_uses.specs.First.{UseRule}
 use Rattle.p416_expression_uses.specs.Found.{Found}
 use Rattle.p416_types.specs.declared.fault.Check16.{Check16}

@@ -5,22 +5,22 @@ use Rattle.std.specs.List.{list_any}
 use Rattle.std.proofs.lemmas.List.{length-map}
 use Rattle.std.proofs.lemmas.List.Folds.{list_any-append}
 use Rattle.digraph.specs.Expansions.{HasCycle}
-use Rattle.p416_ast.specs.declared.program.Decl16.{Decl16}
-use Rattle.p416_ast.specs.declared.program.Syntax16.{Syntax16}
-use Rattle.p416_rules.specs.declared.rule.ProgramRule.{ProgramRule}
-use Rattle.p416_rules.specs.declared.rule.ProgramRule.TheVariants.{T1, T2, T3, T4, T5, T6, T7, T8, T9, T10, T11, T12}
-use Rattle.p416_rules.specs.Names.{Name}
-use Rattle.p416_rules.specs.Uses.{Use}
-use Rattle.p416_rules.specs.Unknown.{is_misnamed, declares_twice, declared_name, struct_graph}
-use Rattle.p416_rules.specs.Declarations.{top_scope, declaration_uses}
-use Rattle.p416_rules.specs.Main.{positions_from}
-use Rattle.p416_rules.specs.Sizes.{leaves_size}
-use Rattle.p416_rules.specs.Types.{is_mistyped}
-use Rattle.p416_rules.specs.Literals.{overflows}
-use Rattle.p416_rules.specs.Writes.{writes_constant}
-use Rattle.p416_rules.specs.Arguments.{is_miscounted}
-use Rattle.p416_rules.specs.Applications.{applies_wrongly}
-use Rattle.p416_rules.specs.Breaks.{is_no_block, IsBroken, BreaksNone, uses_in, program_uses, program_rules, rule_fault}
+use Rattle.p416_syntax.specs.declared.program.Decl16.{Decl16}
+use Rattle.p416_syntax.specs.declared.program.Syntax16.{Syntax16}
+use Rattle.p416_syntax.specs.declared.rule.ProgramRule.{ProgramRule}
+use Rattle.p416_syntax.specs.declared.rule.ProgramRule.TheVariants.{T1, T2, T3, T4, T5, T6, T7, T8, T9, T10, T11, T12}
+use Rattle.p416_syntax.specs.Names.{Name}
+use Rattle.p416_syntax.specs.Uses.{Use}
+use Rattle.p416_syntax.specs.Unknown.{is_misnamed, declares_twice, declared_name, struct_graph}
+use Rattle.p416_syntax.specs.Declarations.{top_scope, declaration_uses}
+use Rattle.p416_syntax.specs.Main.{positions_from}
+use Rattle.p416_syntax.specs.Sizes.{leaves_size}
+use Rattle.p416_syntax.specs.Types.{is_mistyped}
+use Rattle.p416_syntax.specs.Literals.{overflows}
+use Rattle.p416_syntax.specs.Writes.{writes_constant}
+use Rattle.p416_syntax.specs.Arguments.{is_miscounted}
+use Rattle.p416_syntax.specs.Applications.{applies_wrongly}
+use Rattle.p416_syntax.specs.Breaks.{is_no_block, IsBroken, BreaksNone, uses_in, program_uses, program_rules, rule_fault}
 use Rattle.p416_counter_check.specs.Counting.{is_counted_use}
 use Rattle.p416_expression_uses.specs.First.{UseRule, use_rule, first_by, first_in, use_rules, lower, is_bad_elsewhere}
 use Rattle.p416_expression_uses.specs.Found.{Found, CountedIn, nothing_found, after_all, counted_of}

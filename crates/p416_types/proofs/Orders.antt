@@ -1,9 +1,9 @@
 -- Rules one after another: which is the first that is broken.
 use Rattle.std.proofs.Common.{◌≡◌, Bool, true, false, List, [], ◌∷◌, ◌++◌, Ok, Err, Result, inl, inr, refl, sym, subst}
-use Rattle.p416_ast.specs.declared.program.Syntax16.{Syntax16}
-use Rattle.p416_rules.specs.declared.rule.ProgramRule.{ProgramRule}
-use Rattle.p416_rules.specs.Breaks.{IsBroken, IsFirstBroken, BreaksNone, rule_fault}
-use Rattle.p416_rules.specs.Exact.{IsExact}
+use Rattle.p416_syntax.specs.declared.program.Syntax16.{Syntax16}
+use Rattle.p416_syntax.specs.declared.rule.ProgramRule.{ProgramRule}
+use Rattle.p416_syntax.specs.Breaks.{IsBroken, IsFirstBroken, BreaksNone, rule_fault}
+use Rattle.p416_syntax.specs.Exact.{IsExact}
 use Rattle.p416_types.specs.declared.fault.Check16.{Check16}
 use Rattle.p416_types.specs.declared.fault.Check16.TheVariants.{Memory, Refused}
 use Rattle.p416_types.specs.internal.Steps.{Keeps}

@@ -1,7 +1,7 @@
 -- The first rule that is broken, of all rules, is the least.
 use Rattle.std.proofs.Common.{Err, refl}
-use Rattle.p416_ast.specs.declared.program.Syntax16.{Syntax16}
-use Rattle.p416_rules.specs.Breaks.{Breaks16, program_rules}
+use Rattle.p416_syntax.specs.declared.program.Syntax16.{Syntax16}
+use Rattle.p416_syntax.specs.Breaks.{Breaks16, program_rules}
 use Rattle.p416_types.specs.declared.fault.Check16.{Check16}
 use Rattle.p416_types.specs.declared.fault.Check16.TheVariants.{Memory, Refused}
 use Rattle.p416_types.specs.Answers.{IsJudged}

@@ -3,12 +3,12 @@ use Rattle.std.proofs.Common.{◌≡◌, ◌⊎◌, inl, inr, ℕ, Bool, true, f
 use Rattle.std.specs.List.{list_any}
 use Rattle.std.proofs.lemmas.Bool.{false≢true}
 use Rattle.std.proofs.lemmas.List.Folds.{list_any-append}
-use Rattle.p416_ast.specs.declared.program.Decl16.{Decl16}
-use Rattle.p416_ast.specs.declared.program.Syntax16.{Syntax16}
-use Rattle.p416_rules.specs.declared.rule.ProgramRule.{ProgramRule}
-use Rattle.p416_rules.specs.Exact.{IsExact}
-use Rattle.p416_rules.specs.Uses.{Use}
-use Rattle.p416_rules.specs.Breaks.{has_use, scope_of, SomeDeclaration, uses_in, program_uses, rule_number}
+use Rattle.p416_syntax.specs.declared.program.Decl16.{Decl16}
+use Rattle.p416_syntax.specs.declared.program.Syntax16.{Syntax16}
+use Rattle.p416_syntax.specs.declared.rule.ProgramRule.{ProgramRule}
+use Rattle.p416_syntax.specs.Exact.{IsExact}
+use Rattle.p416_syntax.specs.Uses.{Use}
+use Rattle.p416_syntax.specs.Breaks.{has_use, scope_of, SomeDeclaration, uses_in, program_uses, rule_number}
 use Rattle.p416_expression_uses.specs.First.{UseRule, first_by}
 use Rattle.p416_expression_uses.specs.Found.{Found}
 use Rattle.p416_types.specs.internal.Seen.{is_found, IsFirstOf}

@@ -1,8 +1,8 @@
 -- What a check of a program answers.
 use Rattle.std.specs.Prelude.{◌≡◌, Result, Ok, Err}
-use Rattle.p416_ast.specs.declared.program.Syntax16.{Syntax16}
-use Rattle.p416_rules.specs.declared.rule.ProgramRule.{ProgramRule}
-use Rattle.p416_rules.specs.Breaks.{BreaksNone, Breaks16, program_rules, rule_number, rule_fault}
+use Rattle.p416_syntax.specs.declared.program.Syntax16.{Syntax16}
+use Rattle.p416_syntax.specs.declared.rule.ProgramRule.{ProgramRule}
+use Rattle.p416_syntax.specs.Breaks.{BreaksNone, Breaks16, program_rules, rule_number, rule_fault}
 use Rattle.p416_types.specs.declared.fault.Check16.{Check16}
 use Rattle.p416_types.specs.declared.fault.Check16.TheVariants.{Memory, Refused}
 

@@ -1,25 +1,24 @@
 // Rules by themselves: whether each is broken.
 ghost use Rattle.std.specs.Prelude.{◌≡◌, ◌||◌, IfOk};
-ghost use Rattle.p416_rules.specs.declared.rule.ProgramRule.TheVariants.{T8, T9, T11, T12};
-ghost use Rattle.p416_rules.specs.Breaks.{IsBroken, program_uses};
-ghost use Rattle.p416_rules.specs.Exact.{IsExact};
-ghost use Rattle.p416_rules.specs.Totals.{has_large_headers, has_large_variables, has_bad_cells};
-ghost use Rattle.p416_rules.specs.Declarations.{layouts_of};
+ghost use Rattle.p416_syntax.specs.declared.rule.ProgramRule.TheVariants.{T8, T9, T11, T12};
+ghost use Rattle.p416_syntax.specs.Breaks.{IsBroken, program_uses};
+ghost use Rattle.p416_syntax.specs.Exact.{IsExact};
+ghost use Rattle.p416_syntax.specs.Totals.{has_large_headers, has_large_variables, has_bad_cells};
+ghost use Rattle.p416_syntax.specs.Declarations.{layouts_of};
 ghost use Rattle.p416_expression_uses.specs.Found.{nothing_found, after_all};
 ghost use Rattle.p416_types.specs.internal.Seen.{counts_wrongly, is_found, IsFirstOf, is_misnamed_at_top};
 ghost use Rattle.p416_types.specs.internal.Steps.{uses_from_t7, uses_from_t9};
 
 use p4x_bits::OutOfMemory;
 use p416_action_check::some_call_cycle;
-use p416_ast::Syntax16;
 use p416_cell_check::has_bad_cells;
 use p416_depth_check::some_too_deep;
 use p416_expression_uses::Findings;
 use p416_main_check::{MainPlaces, is_main, main_kinds};
 use p416_names::Top;
 use p416_plane_check::has_shared_names;
-use p416_rules::ProgramRule;
 use p416_size_check::{has_large_headers, has_large_variables};
+use p416_syntax::{ProgramRule, Syntax16};
 use p416_top_check::{declares_twice, names_no_block};
 use p416_type_totals::TypeTotals;
 use std::alloc::Global;

@@ -1,11 +1,11 @@
 // Why a program isn't taken.
 ghost use Rattle.std.specs.Prelude.{◌≡◌};
-ghost use Rattle.p416_rules.specs.Breaks.{rule_fault};
+ghost use Rattle.p416_syntax.specs.Breaks.{rule_fault};
 ghost use Rattle.p416_types.specs.declared.fault.Check16.TheVariants.{Memory, Refused};
 
 use p4x_bits::OutOfMemory;
 use p4x_fault::Fault;
-use p416_rules::ProgramRule;
+use p416_syntax::ProgramRule;
 use thiserror::Error;
 
 /// Why a program isn't taken.

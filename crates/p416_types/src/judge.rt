@@ -1,6 +1,6 @@
 // All rules, one after another.
 ghost use Rattle.std.specs.Prelude.{◌≡◌, ◌++◌, false};
-ghost use Rattle.p416_rules.specs.Breaks.{program_rules, program_uses};
+ghost use Rattle.p416_syntax.specs.Breaks.{program_rules, program_uses};
 ghost use Rattle.p416_expression_uses.specs.Found.{nothing_found, after_all};
 ghost use Rattle.p416_types.specs.internal.Seen.{counts_wrongly, IsFirstOf, AreNamed, is_misnamed_at_top};
 ghost use Rattle.p416_types.specs.internal.Steps.{Keeps, rules_from_t4, rules_from_t7, rules_from_t10, uses_from_t4, uses_from_t7};
@@ -9,11 +9,10 @@ use crate::each::is_misnamed_at_top;
 use crate::fault::{Check16, refusal};
 use crate::seen::see_all;
 use crate::steps::{judge_from_t1, judge_from_t4, judge_from_t7, judge_from_t10};
-use p416_ast::Syntax16;
 use p416_expression_uses::Findings;
 use p416_main_check::MainPlaces;
 use p416_names::Top;
-use p416_rules::ProgramRule;
+use p416_syntax::{ProgramRule, Syntax16};
 use p416_type_totals::TypeTotals;
 use std::alloc::Global;
 

@@ -1,12 +1,12 @@
 // The check of a program.
 ghost use Rattle.std.specs.Prelude.{IsTrue};
-ghost use Rattle.p416_ast.specs.Spelt.{is_spelt16};
+ghost use Rattle.p416_syntax.specs.Spelt.{is_spelt16};
 ghost use Rattle.p416_types.specs.Answers.{IsJudged};
 
 use crate::fault::Check16;
 use crate::judge::judge;
-use p416_ast::Syntax16;
 use p416_program::Program16;
+use p416_syntax::Syntax16;
 use std::alloc::Global;
 
 /// The program of a syntax that some text spells and that breaks none of the rules T1 to T12 (P4_16 1.2, "Name resolution",

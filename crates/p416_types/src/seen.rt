@@ -5,11 +5,11 @@ ghost use Rattle.p416_expression_uses.specs.Seen.{seen_counted};
 ghost use Rattle.p416_types.specs.internal.Seen.{uses_at_top, uses_of_all, counts_wrongly};
 
 use p4x_bits::OutOfMemory;
-use p416_ast::Decl16;
 use p416_counter_check::counts_outside;
 use p416_expression_uses::{Counted, Findings};
 use p416_main_check::MainPlaces;
 use p416_names::{Top, decl_name};
+use p416_syntax::Decl16;
 use p416_uses::see_declaration;
 use std::alloc::Global;
 

@@ -1,7 +1,7 @@
 // The rules, some at a time.
 ghost use Rattle.std.specs.Prelude.{◌≡◌};
-ghost use Rattle.p416_ast.specs.declared.program.Syntax16.{Syntax16};
-ghost use Rattle.p416_rules.specs.Breaks.{program_uses};
+ghost use Rattle.p416_syntax.specs.declared.program.Syntax16.{Syntax16};
+ghost use Rattle.p416_syntax.specs.Breaks.{program_uses};
 ghost use Rattle.p416_expression_uses.specs.First.{use_rules};
 ghost use Rattle.p416_expression_uses.specs.Found.{nothing_found, after_all};
 ghost use Rattle.p416_types.specs.internal.Seen.{counts_wrongly, IsFirstOf, AreNamed};
@@ -9,12 +9,11 @@ ghost use Rattle.p416_types.specs.internal.Steps.{Keeps, rules_from_t1, rules_fr
 
 use crate::each::{breaks_t8, breaks_t9, breaks_t11, breaks_t12, is_found};
 use crate::fault::{Check16, refusal};
-use p416_ast::Syntax16;
 use p416_expression_uses::Findings;
 use p416_main_check::MainPlaces;
 use p416_names::Top;
-use p416_rules::ProgramRule;
 use p416_state_check::has_bad_states;
+use p416_syntax::{ProgramRule, Syntax16};
 use p416_type_totals::TypeTotals;
 use std::alloc::Global;
 

@@ -2,18 +2,18 @@
 use Rattle.std.proofs.Common.{◌≡◌, ℕ, ◌+◌, Bool, true, false, cond, nat_eq, if◌then◌else◌, List, [], ◌∷◌, ◌++◌, map, refl, sym, ap, ◌∙◌, arith}
 use Rattle.std.proofs.lemmas.Bool.Decides.{nat_tests}
 use Rattle.std.proofs.lemmas.List.{append_assoc, append-nil, map-append}
-use Rattle.p416_ast.specs.Tree.{Exp16, literal, truth, error, name, member, index, slice, call, lookahead, cast, unary, binary, choice, parenthesized, no_arguments, argument, listed}
-use Rattle.p416_ast.specs.Subtrees.{subexpressions}
+use Rattle.p416_syntax.specs.Tree.{Exp16, literal, truth, error, name, member, index, slice, call, lookahead, cast, unary, binary, choice, parenthesized, no_arguments, argument, listed}
+use Rattle.p416_syntax.specs.Subtrees.{subexpressions}
 use Rattle.std.specs.Prelude.{codes}
 use Rattle.std.specs.Str.{bytes_eq}
-use Rattle.p416_rules.specs.Names.{Name}
+use Rattle.p416_syntax.specs.Names.{Name}
 use Rattle.std.specs.Prelude.{Option}
-use Rattle.p416_rules.specs.Kinds.{Kind}
-use Rattle.p416_rules.specs.Calls.{Signature}
-use Rattle.p416_rules.specs.Scopes.{Scope, sort_of}
-use Rattle.p416_rules.specs.Expressions.{kind_of, signature_of, call_kind, argument_count, sort_kind, sort_signature, can_write}
-use Rattle.p416_rules.specs.Uses.{arguments_of}
-use Rattle.p416_rules.specs.Externs.{clone_positions, first_clone_positions}
+use Rattle.p416_syntax.specs.Kinds.{Kind}
+use Rattle.p416_syntax.specs.Calls.{Signature}
+use Rattle.p416_syntax.specs.Scopes.{Scope, sort_of}
+use Rattle.p416_syntax.specs.Expressions.{kind_of, signature_of, call_kind, argument_count, sort_kind, sort_signature, can_write}
+use Rattle.p416_syntax.specs.Uses.{arguments_of}
+use Rattle.p416_syntax.specs.Externs.{clone_positions, first_clone_positions}
 use Rattle.p416_typing.specs.Rows.{RowOf, row_of}
 use Rattle.p416_typing.specs.internal.Steps.{no_row, word_positions, member_row, argument_row, call_row, pushed, values_of, rows_of, top_of}
 

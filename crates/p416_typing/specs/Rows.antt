@@ -1,13 +1,13 @@
 -- What is known of an expression: what it is, what its parts are, what it calls, and whether it can be written (P4_16 1.2,
 -- "Expressions").
 use Rattle.std.specs.Prelude.{ℕ, Bool, List, Option, None}
-use Rattle.p416_ast.specs.Tree.{Exp16, member, index, slice, call, lookahead, unary, binary, choice, no_arguments}
-use Rattle.p416_rules.specs.Kinds.{Kind, unknown}
-use Rattle.p416_rules.specs.Scopes.{Scope}
-use Rattle.p416_rules.specs.Calls.{Signature}
-use Rattle.p416_rules.specs.Expressions.{kind_of, signature_of, can_write, argument_count}
-use Rattle.p416_rules.specs.Uses.{arguments_of}
-use Rattle.p416_rules.specs.Externs.{clone_positions, first_clone_positions}
+use Rattle.p416_syntax.specs.Tree.{Exp16, member, index, slice, call, lookahead, unary, binary, choice, no_arguments}
+use Rattle.p416_syntax.specs.Kinds.{Kind, unknown}
+use Rattle.p416_syntax.specs.Scopes.{Scope}
+use Rattle.p416_syntax.specs.Calls.{Signature}
+use Rattle.p416_syntax.specs.Expressions.{kind_of, signature_of, can_write, argument_count}
+use Rattle.p416_syntax.specs.Uses.{arguments_of}
+use Rattle.p416_syntax.specs.Externs.{clone_positions, first_clone_positions}
 
 pub record RowOf : Type 0 where
   pub kind : Kind

@@ -1,7 +1,7 @@
 -- What a row of code says.
 use Rattle.std.specs.Prelude.{List, option_to_list}
-use Rattle.p416_rules.specs.Scopes.{Known}
-use Rattle.p416_kinds.specs.Seen.{seen_kind}
+use Rattle.p416_syntax.specs.Scopes.{Known}
+use Rattle.p416_names.specs.SeenKinds.{seen_kind}
 use Rattle.p416_calls.specs.Seen.{seen_callee}
 use Rattle.p416_typing.specs.Rows.{RowOf}
 use Rattle.p416_typing.specs.declared.row.Row.{Row}

@@ -1,12 +1,12 @@
 // What is known of an expression by what is known of its parts.
 ghost use Rattle.std.specs.Prelude.{◌≡◌, ◌+◌, ℕ, List, [], ◌∷◌, map, option_to_list, IfOk};
 ghost use Rattle.std.specs.Option.{option_map};
-ghost use Rattle.p416_ast.specs.Tree.{literal, name};
-ghost use Rattle.p416_rules.specs.Scopes.{Known, Scope as RuleScope, sort_of};
-ghost use Rattle.p416_rules.specs.Calls.{method_signature};
-ghost use Rattle.p416_rules.specs.Declarations.{top_names, layouts_of};
-ghost use Rattle.p416_rules.specs.Expressions as rules;
-ghost use Rattle.p416_kinds.specs.Seen.{seen_kind};
+ghost use Rattle.p416_syntax.specs.Tree.{literal, name};
+ghost use Rattle.p416_syntax.specs.Scopes.{Known, Scope as RuleScope, sort_of};
+ghost use Rattle.p416_syntax.specs.Calls.{method_signature};
+ghost use Rattle.p416_syntax.specs.Declarations.{top_names, layouts_of};
+ghost use Rattle.p416_syntax.specs.Expressions as rules;
+ghost use Rattle.p416_names.specs.SeenKinds.{seen_kind};
 ghost use Rattle.p416_names.specs.Seen.{seen_sort};
 ghost use Rattle.p416_calls.specs.Seen.{seen_callee};
 ghost use Rattle.p416_scopes.specs.Seen.{seen_scope};
@@ -16,11 +16,10 @@ ghost use Rattle.p416_typing.specs.internal.Steps as steps;
 
 use crate::row::Row;
 use p4x_bits::OutOfMemory;
-use p416_ast::Literal16;
 use p416_calls::{Callee, function_named, method_named};
-use p416_kinds::{Kind, has_member, is_among, is_error_name};
-use p416_names::{Sort, Top};
+use p416_names::{Kind, Sort, Top, has_member, is_among, is_error_name};
 use p416_scopes::Scope;
+use p416_syntax::Literal16;
 use work_stack::Stack;
 
 const PLACES: [&[u8]; 2] = [b"next", b"last"];

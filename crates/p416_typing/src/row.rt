@@ -1,6 +1,6 @@
 // What is known of an expression.
 use p416_calls::Callee;
-use p416_kinds::Kind;
+use p416_names::Kind;
 
 /// What is known of an expression or an argument list.
 #[derive(Clone, Copy, Drop)]

@@ -1,9 +1,9 @@
 // Each expression takes the rows of its parts off the stack.
 ghost use Rattle.std.specs.Prelude.{◌≡◌, ◌∷◌, List, map, IfOk};
-ghost use Rattle.p416_ast.specs.declared.parts.Type16.{Type16 as TypeTree};
-ghost use Rattle.p416_ast.specs.Tree.{Exp16, member, index, slice, call, lookahead, cast, unary, binary, choice, argument, listed};
-ghost use Rattle.p416_rules.specs.Scopes.{Known, Scope as RuleScope};
-ghost use Rattle.p416_rules.specs.Declarations.{top_names};
+ghost use Rattle.p416_syntax.specs.declared.parts.Type16.{Type16 as TypeTree};
+ghost use Rattle.p416_syntax.specs.Tree.{Exp16, member, index, slice, call, lookahead, cast, unary, binary, choice, argument, listed};
+ghost use Rattle.p416_syntax.specs.Scopes.{Known, Scope as RuleScope};
+ghost use Rattle.p416_syntax.specs.Declarations.{top_names};
 ghost use Rattle.p416_scopes.specs.Seen.{seen_scope};
 ghost use Rattle.p416_typing.specs.Seen.{seen_row};
 ghost use Rattle.p416_typing.specs.internal.Steps.{pushed};
@@ -13,9 +13,9 @@ use crate::parts::{
 };
 use crate::row::Row;
 use p4x_bits::OutOfMemory;
-use p416_ast::{BinaryOperator, CastType, Literal16, Type16, UnaryOperator};
-use p416_kinds::{Kind, binary_kind, cast_kind, choice_kind, element_kind, slice_kind, unary_kind};
+use p416_names::{Kind, binary_kind, cast_kind, choice_kind, element_kind, slice_kind, unary_kind};
 use p416_scopes::Scope;
+use p416_syntax::{BinaryOperator, CastType, Literal16, Type16, UnaryOperator};
 use work_stack::Stack;
 
 /// A member by its word.

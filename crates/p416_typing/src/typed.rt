@@ -1,8 +1,8 @@
 // The rows of an expression, from the innermost expression outwards.
 ghost use Rattle.std.specs.Prelude.{◌≡◌, ◌∷◌, map, IfOk};
-ghost use Rattle.p416_ast.specs.Heads.{of_exp_head};
-ghost use Rattle.p416_ast.specs.Subtrees.{subexpressions};
-ghost use Rattle.p416_rules.specs.Declarations.{top_names};
+ghost use Rattle.p416_syntax.specs.Heads.{of_exp_head};
+ghost use Rattle.p416_syntax.specs.Subtrees.{subexpressions};
+ghost use Rattle.p416_syntax.specs.Declarations.{top_names};
 ghost use Rattle.p416_scopes.specs.Seen.{seen_scope};
 ghost use Rattle.p416_typing.specs.Rows.{row_of};
 ghost use Rattle.p416_typing.specs.Seen.{seen_row};
@@ -15,9 +15,9 @@ use crate::steps::{
     lookahead_step, member_step, slice_step, unary_step,
 };
 use p4x_bits::OutOfMemory;
-use p416_ast::{ExpHead, ExpView, all_expressions};
-use p416_kinds::Kind;
+use p416_names::Kind;
 use p416_scopes::Scope;
+use p416_syntax::{ExpHead, ExpView, all_expressions};
 use std::alloc::Global;
 use work_stack::Stack;
 

@@ -1,14 +1,14 @@
 -- The variables of a list of statements, its names together, and the scope behind it.
 use Rattle.std.proofs.Common.{◌≡◌, ℕ, ◌+◌, ◌<◌, List, [], ◌∷◌, ◌++◌, length, map, refl, sym, ap, ◌∙◌}
 use Rattle.std.proofs.lemmas.List.{map-append}
-use Rattle.p416_ast.specs.declared.program.Decl16.{Decl16}
-use Rattle.p416_ast.specs.declared.parsers.Transition.{Transition}
-use Rattle.p416_ast.specs.Tree.{Stmt16, no_statements, then, block, empty, var, var_is, assign, expression, if_then, if_else, switch, no_cases, case_of}
-use Rattle.p416_rules.specs.Names.{Name}
-use Rattle.p416_rules.specs.Scopes.{Scope}
-use Rattle.p416_rules.specs.Uses.{Use, names_of_scope, a_body}
-use Rattle.p416_rules.specs.Statements.{behind, declared_in, with_variable}
-use Rattle.p416_rules.specs.Declarations.{transition_uses}
+use Rattle.p416_syntax.specs.declared.program.Decl16.{Decl16}
+use Rattle.p416_syntax.specs.declared.parsers.Transition.{Transition}
+use Rattle.p416_syntax.specs.Tree.{Stmt16, no_statements, then, block, empty, var, var_is, assign, expression, if_then, if_else, switch, no_cases, case_of}
+use Rattle.p416_syntax.specs.Names.{Name}
+use Rattle.p416_syntax.specs.Scopes.{Scope}
+use Rattle.p416_syntax.specs.Uses.{Use, names_of_scope, a_body}
+use Rattle.p416_syntax.specs.Statements.{behind, declared_in, with_variable}
+use Rattle.p416_syntax.specs.Declarations.{transition_uses}
 use Rattle.p416_scopes.specs.declared.scope.Scope.{Scope as CodeScope}
 use Rattle.p416_scopes.specs.Seen.{seen_scope}
 use Rattle.p416_visits.specs.Left.{height, shortened}

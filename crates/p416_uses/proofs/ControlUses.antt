@@ -2,15 +2,15 @@
 use Rattle.std.proofs.Common.{◌≡◌, ℕ, ◌+◌, ◌-◌, Option, Some, None, List, [], ◌∷◌, ◌++◌, length, drop, map, flat_map, filter_map, option_to_list, Result, Ok, Err, OnOk, refl, sym, ap, ◌∙◌, subst, arith}
 use Rattle.std.proofs.Math.Seq.{drop-append_seam}
 use Rattle.std.proofs.lemmas.List.{append_assoc, map-append, length-append}
-use Rattle.p416_ast.specs.declared.program.Decl16.{Decl16}
-use Rattle.p416_ast.specs.declared.controls.Action16.{Action16}
-use Rattle.p416_ast.specs.declared.controls.Local.{Local}
-use Rattle.p416_ast.specs.declared.controls.Local.TheVariants as local
-use Rattle.p416_ast.specs.declared.controls.Control16.{Control16}
-use Rattle.p416_rules.specs.Names.{Name}
-use Rattle.p416_rules.specs.Scopes.{Scope, Known, called_of, known_parameter, in_apply}
-use Rattle.p416_rules.specs.Uses.{names_of_scope, some_parameters, some_counters, of_block_parameter, of_action_parameter}
-use Rattle.p416_rules.specs.Declarations.{known_local, parameter_name, control_names, control_scope, parameter_uses, note_uses, body_uses, action_scope, action_uses, local_uses, control_uses, counters_in, table_in, tables_in}
+use Rattle.p416_syntax.specs.declared.program.Decl16.{Decl16}
+use Rattle.p416_syntax.specs.declared.controls.Action16.{Action16}
+use Rattle.p416_syntax.specs.declared.controls.Local.{Local}
+use Rattle.p416_syntax.specs.declared.controls.Local.TheVariants as local
+use Rattle.p416_syntax.specs.declared.controls.Control16.{Control16}
+use Rattle.p416_syntax.specs.Names.{Name}
+use Rattle.p416_syntax.specs.Scopes.{Scope, Known, called_of, known_parameter, in_apply}
+use Rattle.p416_syntax.specs.Uses.{names_of_scope, some_parameters, some_counters, of_block_parameter, of_action_parameter}
+use Rattle.p416_syntax.specs.Declarations.{known_local, parameter_name, control_names, control_scope, parameter_uses, note_uses, body_uses, action_scope, action_uses, local_uses, control_uses, counters_in, table_in, tables_in}
 use Rattle.p416_listed_check.specs.Listings.{AreGiven}
 use Rattle.p416_scopes.specs.declared.scope.Scope.{Scope as CodeScope}
 use Rattle.p416_scopes.specs.Seen.{seen_scope, seen_part}

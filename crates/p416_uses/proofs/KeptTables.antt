@@ -1,8 +1,8 @@
 -- The scopes of all statements within a body have the tables of the scope of the body.
 use Rattle.std.proofs.Common.{◌≡◌, List, [], ◌∷◌, ◌++◌, Result, Ok, Err, OnOk, refl, sym, ◌∙◌, subst}
-use Rattle.p416_ast.specs.Tree.{Stmt16, no_statements, then, block, empty, var, var_is, assign, expression, if_then, if_else, switch, no_cases, case_of}
-use Rattle.p416_rules.specs.Scopes.{Scope, Known}
-use Rattle.p416_rules.specs.Statements.{Visit, visit, visits, behind}
+use Rattle.p416_syntax.specs.Tree.{Stmt16, no_statements, then, block, empty, var, var_is, assign, expression, if_then, if_else, switch, no_cases, case_of}
+use Rattle.p416_syntax.specs.Scopes.{Scope, Known}
+use Rattle.p416_syntax.specs.Statements.{Visit, visit, visits, behind}
 use Rattle.p416_listed_check.specs.Listings.{Listed, AreListed, ListsScope, tables_in}
 
 abbrev pub KeepTables : List Known → List Visit → Type 0

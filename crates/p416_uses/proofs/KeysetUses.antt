@@ -3,13 +3,13 @@ use Rattle.std.proofs.Common.{◌≡◌, ℕ, zero, suc, ◌+◌, ◌≤◌, Boo
 use Rattle.std.specs.List.{list_any}
 use Rattle.std.proofs.lemmas.Bool.Decides.{nat_tests}
 use Rattle.std.proofs.lemmas.List.{append-nil}
-use Rattle.p416_ast.specs.declared.parsers.Simple.{Simple}
-use Rattle.p416_rules.specs.Kinds.{Kind, unknown}
-use Rattle.p416_kinds.specs.declared.kind.Kind.{Kind as CodeKind}
-use Rattle.p416_kinds.specs.Seen.{seen_kind}
-use Rattle.p416_rules.specs.Scopes.{Scope}
-use Rattle.p416_rules.specs.Types.{compares_other, is_misfit}
-use Rattle.p416_rules.specs.Declarations.{compared_uses, simple_uses, with_keys}
+use Rattle.p416_syntax.specs.declared.parsers.Simple.{Simple}
+use Rattle.p416_syntax.specs.Kinds.{Kind, unknown}
+use Rattle.p416_names.specs.declared.kind.Kind.{Kind as CodeKind}
+use Rattle.p416_names.specs.SeenKinds.{seen_kind}
+use Rattle.p416_syntax.specs.Scopes.{Scope}
+use Rattle.p416_syntax.specs.Types.{compares_other, is_misfit}
+use Rattle.p416_syntax.specs.Declarations.{compared_uses, simple_uses, with_keys}
 use Rattle.p416_expression_uses.specs.Found.{Found, after_all}
 use Rattle.p416_uses.specs.Parts.{key_at, paired}
 

@@ -1,20 +1,20 @@
 -- Parsers and their states.
 use Rattle.std.proofs.Common.{◌≡◌, ℕ, List, [], ◌∷◌, ◌++◌, map, flat_map, refl, sym, ap, ◌∙◌}
 use Rattle.std.proofs.lemmas.List.{map-append}
-use Rattle.p416_ast.specs.declared.parts.Param.{Param}
-use Rattle.p416_ast.specs.declared.parsers.Var.{Var}
-use Rattle.p416_ast.specs.declared.parsers.SelectCase.{SelectCase}
-use Rattle.p416_ast.specs.declared.parsers.State.{State}
-use Rattle.p416_ast.specs.declared.parsers.Parser16.{Parser16}
-use Rattle.p416_ast.specs.Tree.{Exp16}
-use Rattle.p416_rules.specs.Names.{Name}
-use Rattle.p416_rules.specs.Kinds.{Kind}
-use Rattle.p416_rules.specs.Scopes.{Scope, Known, called_of, known_parameter}
-use Rattle.p416_rules.specs.Calls.{select_key}
-use Rattle.p416_rules.specs.Expressions.{kind_of}
-use Rattle.p416_rules.specs.Uses.{Use, names_of_scope, of_block_parameter, uses}
-use Rattle.p416_rules.specs.Statements.{behind}
-use Rattle.p416_rules.specs.Declarations.{known_var, known_state, parameter_name, state_name, parser_names, parser_scope, parameter_uses, var_uses, body_uses, transition_uses, case_uses, state_uses, parser_uses}
+use Rattle.p416_syntax.specs.declared.parts.Param.{Param}
+use Rattle.p416_syntax.specs.declared.parsers.Var.{Var}
+use Rattle.p416_syntax.specs.declared.parsers.SelectCase.{SelectCase}
+use Rattle.p416_syntax.specs.declared.parsers.State.{State}
+use Rattle.p416_syntax.specs.declared.parsers.Parser16.{Parser16}
+use Rattle.p416_syntax.specs.Tree.{Exp16}
+use Rattle.p416_syntax.specs.Names.{Name}
+use Rattle.p416_syntax.specs.Kinds.{Kind}
+use Rattle.p416_syntax.specs.Scopes.{Scope, Known, called_of, known_parameter}
+use Rattle.p416_syntax.specs.Calls.{select_key}
+use Rattle.p416_syntax.specs.Expressions.{kind_of}
+use Rattle.p416_syntax.specs.Uses.{Use, names_of_scope, of_block_parameter, uses}
+use Rattle.p416_syntax.specs.Statements.{behind}
+use Rattle.p416_syntax.specs.Declarations.{known_var, known_state, parameter_name, state_name, parser_names, parser_scope, parameter_uses, var_uses, body_uses, transition_uses, case_uses, state_uses, parser_uses}
 use Rattle.p416_expression_uses.specs.Found.{Found, after, after_all}
 use Rattle.p416_expression_uses.proofs.Finding.{after_then, after_turn}
 use Rattle.p416_uses.specs.Parts.{var_name}

@@ -1,14 +1,14 @@
 -- Tables.
 use Rattle.std.proofs.Common.{◌≡◌, ℕ, List, [], ◌∷◌, ◌++◌, length, map, flat_map, option_to_list, refl, sym, ap, ◌∙◌}
 use Rattle.std.proofs.lemmas.List.{append_assoc}
-use Rattle.p416_ast.specs.declared.controls.Table16.{Table16}
-use Rattle.p416_ast.specs.Properties.{keys_of, actions_of, size_of, counters_of, default_action_of, default_arguments_of}
-use Rattle.p416_ast.specs.Tree.{Exp16}
-use Rattle.p416_rules.specs.Scopes.{Scope, Handed}
-use Rattle.p416_rules.specs.Calls.{any_literal}
-use Rattle.p416_rules.specs.Expressions.{argument_count}
-use Rattle.p416_rules.specs.Uses.{Use, a_count, a_name, a_number, a_table_of, some_direct_counter, many, uses_at}
-use Rattle.p416_rules.specs.Declarations.{default_place, note_uses, key_uses, action_name_uses, given_uses, defaults_of, table_uses}
+use Rattle.p416_syntax.specs.declared.controls.Table16.{Table16}
+use Rattle.p416_syntax.specs.Properties.{keys_of, actions_of, size_of, counters_of, default_action_of, default_arguments_of}
+use Rattle.p416_syntax.specs.Tree.{Exp16}
+use Rattle.p416_syntax.specs.Scopes.{Scope, Handed}
+use Rattle.p416_syntax.specs.Calls.{any_literal}
+use Rattle.p416_syntax.specs.Expressions.{argument_count}
+use Rattle.p416_syntax.specs.Uses.{Use, a_count, a_name, a_number, a_table_of, some_direct_counter, many, uses_at}
+use Rattle.p416_syntax.specs.Declarations.{default_place, note_uses, key_uses, action_name_uses, given_uses, defaults_of, table_uses}
 use Rattle.p416_expression_uses.specs.Found.{Found, after, after_all}
 use Rattle.p416_expression_uses.proofs.Finding.{after_then}
 use Rattle.p416_uses.specs.Parts.{rest_uses}

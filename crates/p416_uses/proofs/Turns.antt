@@ -1,15 +1,15 @@
 -- Uses that are judged one behind another, and turns of loops.
 use Rattle.std.proofs.Common.{◌≡◌, List, [], ◌∷◌, ◌++◌, map, flat_map, refl, sym, ap, ◌∙◌}
 use Rattle.std.proofs.lemmas.List.{map-append}
-use Rattle.p416_lexemes.specs.declared.lexeme.Literal16.{Literal16}
-use Rattle.p416_ast.specs.declared.parts.Type16.{Type16}
-use Rattle.p416_ast.specs.Tree.{Exp16, Stmt16}
-use Rattle.p416_rules.specs.Kinds.{Kind}
-use Rattle.p416_rules.specs.Scopes.{Scope, kind_of_type}
-use Rattle.p416_rules.specs.Calls.{Place, value, target}
-use Rattle.p416_rules.specs.Expressions.{kind_of}
-use Rattle.p416_rules.specs.Uses.{Use, a_number, of_variable, type_uses, uses}
-use Rattle.p416_rules.specs.Statements.{Visit, visit, visit_uses, own_uses, assigned_place}
+use Rattle.p416_syntax.specs.declared.lexeme.Literal16.{Literal16}
+use Rattle.p416_syntax.specs.declared.parts.Type16.{Type16}
+use Rattle.p416_syntax.specs.Tree.{Exp16, Stmt16}
+use Rattle.p416_syntax.specs.Kinds.{Kind}
+use Rattle.p416_syntax.specs.Scopes.{Scope, kind_of_type}
+use Rattle.p416_syntax.specs.Calls.{Place, value, target}
+use Rattle.p416_syntax.specs.Expressions.{kind_of}
+use Rattle.p416_syntax.specs.Uses.{Use, a_number, of_variable, type_uses, uses}
+use Rattle.p416_syntax.specs.Statements.{Visit, visit, visit_uses, own_uses, assigned_place}
 use Rattle.p416_expression_uses.specs.Found.{Found, after, after_all}
 use Rattle.p416_expression_uses.proofs.Finding.{after_both, after_then, after_turn}
 

@@ -1,11 +1,11 @@
 -- The bits of a header.
 use Rattle.std.proofs.Common.{◌≡◌, ℕ, Bool, true, false, not, ◌&&◌, if◌then◌else◌, Option, Some, None, List, sum_by, refl, ap, ◌∙◌}
 use Rattle.std.specs.List.{list_any}
-use Rattle.p416_ast.specs.declared.parts.Header16.{Header16}
-use Rattle.p416_rules.specs.declared.rule.ProgramRule.{ProgramRule}
-use Rattle.p416_rules.specs.declared.rule.ProgramRule.TheVariants.{T2}
-use Rattle.p416_rules.specs.Sizes.{has_bad_width, bits_of_field, is_no_octets}
-use Rattle.p416_rules.specs.Uses.{a_header}
+use Rattle.p416_syntax.specs.declared.parts.Header16.{Header16}
+use Rattle.p416_syntax.specs.declared.rule.ProgramRule.{ProgramRule}
+use Rattle.p416_syntax.specs.declared.rule.ProgramRule.TheVariants.{T2}
+use Rattle.p416_syntax.specs.Sizes.{has_bad_width, bits_of_field, is_no_octets}
+use Rattle.p416_syntax.specs.Uses.{a_header}
 use Rattle.p416_expression_check.specs.Judged.{first_of, first_broken}
 use Rattle.p416_uses.specs.Parts.{bits_rule}
 

@@ -1,27 +1,27 @@
 -- Which sorts of declarations the names ask for, and the names of parsers and controls.
 use Rattle.std.specs.Prelude.{ℕ, ◌+◌, List, Option, Some, None, if◌then◌else◌, [], ◌∷◌, ◌++◌, map, flat_map, option_to_list, get_or}
 use Rattle.std.specs.List.{list_any}
-use Rattle.p416_ast.specs.declared.node.CaseLabel.{CaseLabel}
-use Rattle.p416_ast.specs.declared.parsers.Simple.{Simple}
-use Rattle.p416_ast.specs.declared.parsers.Var.{Var}
-use Rattle.p416_ast.specs.declared.controls.Action16.{Action16}
-use Rattle.p416_ast.specs.declared.controls.Local.{Local}
-use Rattle.p416_ast.specs.declared.controls.Local.TheVariants as local
-use Rattle.p416_ast.specs.declared.controls.TableKey.{TableKey}
-use Rattle.p416_ast.specs.declared.controls.Table16.{Table16}
-use Rattle.p416_ast.specs.Properties.{actions_of, size_of, counters_of, default_action_of, default_arguments_of}
-use Rattle.p416_rules.specs.declared.rule.ProgramRule.{ProgramRule}
-use Rattle.p416_rules.specs.declared.rule.ProgramRule.TheVariants.{T2, T8, T9}
-use Rattle.p416_rules.specs.Names.{Name}
-use Rattle.p416_rules.specs.Kinds.{Kind, unknown}
-use Rattle.p416_rules.specs.Scopes.{Scope, sort_of}
-use Rattle.p416_rules.specs.Applications.{applies_nothing}
-use Rattle.p416_rules.specs.Tables.{is_outside_label, listed_by}
-use Rattle.p416_rules.specs.Calls.{table_key}
-use Rattle.p416_rules.specs.Sizes.{is_no_octets}
-use Rattle.p416_rules.specs.Uses as rule
-use Rattle.p416_rules.specs.Uses.{Use, a_name, a_number, names_of_scope, some_parameters, some_direct_counter, of_action_parameter, uses}
-use Rattle.p416_rules.specs.Declarations.{instance_name, is_exact, note_uses, action_name_uses, defaults_of, parameter_name, parameter_uses}
+use Rattle.p416_syntax.specs.declared.node.CaseLabel.{CaseLabel}
+use Rattle.p416_syntax.specs.declared.parsers.Simple.{Simple}
+use Rattle.p416_syntax.specs.declared.parsers.Var.{Var}
+use Rattle.p416_syntax.specs.declared.controls.Action16.{Action16}
+use Rattle.p416_syntax.specs.declared.controls.Local.{Local}
+use Rattle.p416_syntax.specs.declared.controls.Local.TheVariants as local
+use Rattle.p416_syntax.specs.declared.controls.TableKey.{TableKey}
+use Rattle.p416_syntax.specs.declared.controls.Table16.{Table16}
+use Rattle.p416_syntax.specs.Properties.{actions_of, size_of, counters_of, default_action_of, default_arguments_of}
+use Rattle.p416_syntax.specs.declared.rule.ProgramRule.{ProgramRule}
+use Rattle.p416_syntax.specs.declared.rule.ProgramRule.TheVariants.{T2, T8, T9}
+use Rattle.p416_syntax.specs.Names.{Name}
+use Rattle.p416_syntax.specs.Kinds.{Kind, unknown}
+use Rattle.p416_syntax.specs.Scopes.{Scope, sort_of}
+use Rattle.p416_syntax.specs.Applications.{applies_nothing}
+use Rattle.p416_syntax.specs.Tables.{is_outside_label, listed_by}
+use Rattle.p416_syntax.specs.Calls.{table_key}
+use Rattle.p416_syntax.specs.Sizes.{is_no_octets}
+use Rattle.p416_syntax.specs.Uses as rule
+use Rattle.p416_syntax.specs.Uses.{Use, a_name, a_number, names_of_scope, some_parameters, some_direct_counter, of_action_parameter, uses}
+use Rattle.p416_syntax.specs.Declarations.{instance_name, is_exact, note_uses, action_name_uses, defaults_of, parameter_name, parameter_uses}
 use Rattle.p416_uses.specs.declared.names.Wanted.{Wanted}
 use Rattle.p416_uses.specs.declared.names.Wanted.TheVariants as wanted
 

@@ -1,10 +1,10 @@
 -- The variables that a list of statements declares, but for those within its statements.
 use Rattle.std.specs.Prelude.{ℕ, ◌+◌, List, [], ◌∷◌, ◌++◌}
-use Rattle.p416_ast.specs.declared.parts.Type16.{Type16}
-use Rattle.p416_ast.specs.Tree.{Stmt16, then, var, var_is}
-use Rattle.p416_rules.specs.Names.{Name}
-use Rattle.p416_rules.specs.Scopes.{Scope}
-use Rattle.p416_rules.specs.Statements.{with_variable}
+use Rattle.p416_syntax.specs.declared.parts.Type16.{Type16}
+use Rattle.p416_syntax.specs.Tree.{Stmt16, then, var, var_is}
+use Rattle.p416_syntax.specs.Names.{Name}
+use Rattle.p416_syntax.specs.Scopes.{Scope}
+use Rattle.p416_syntax.specs.Statements.{with_variable}
 use Rattle.p416_uses.specs.declared.variables.Variable.{Variable}
 
 pub record Declared : Type 0 where

@@ -1,20 +1,20 @@
 // Variables and bodies.
 ghost use Rattle.std.specs.Prelude.{◌≡◌, ℕ, [], flat_map, OnOk};
 ghost use Rattle.std.specs.Option.{option_map_or};
-ghost use Rattle.p416_rules.specs.Scopes.{kind_of_type};
-ghost use Rattle.p416_rules.specs.Calls.{value};
-ghost use Rattle.p416_rules.specs.Uses.{uses};
-ghost use Rattle.p416_rules.specs.Declarations.{var_uses, body_uses};
+ghost use Rattle.p416_syntax.specs.Scopes.{kind_of_type};
+ghost use Rattle.p416_syntax.specs.Calls.{value};
+ghost use Rattle.p416_syntax.specs.Uses.{uses};
+ghost use Rattle.p416_syntax.specs.Declarations.{var_uses, body_uses};
 ghost use Rattle.p416_scopes.specs.Seen.{seen_scope};
 ghost use Rattle.p416_expression_uses.specs.Found.{after_all};
 
 use crate::statements::{see_at, see_statements};
 use crate::variables::see_scope;
 use p4x_bits::OutOfMemory;
-use p416_ast::{StmtView, Var};
 use p416_calls::Place;
 use p416_expression_uses::{Findings, TypePlace, see_type};
 use p416_scopes::Scope;
+use p416_syntax::{StmtView, Var};
 use std::alloc::Global;
 
 /// Judges the initial value of a variable, where it has one.

@@ -1,6 +1,6 @@
 // Declarations at the top.
 ghost use Rattle.std.specs.Prelude.{◌≡◌, OnOk};
-ghost use Rattle.p416_rules.specs.Declarations.{declaration_uses, top_scope};
+ghost use Rattle.p416_syntax.specs.Declarations.{declaration_uses, top_scope};
 ghost use Rattle.p416_expression_uses.specs.Found.{after_all};
 
 use crate::controls::see_control;
@@ -8,10 +8,10 @@ use crate::objects::see_object;
 use crate::parsers::see_parser;
 use crate::types::{see_header, see_struct};
 use p4x_bits::OutOfMemory;
-use p416_ast::Decl16;
 use p416_expression_uses::Findings;
 use p416_names::Top;
 use p416_scopes::{Part, Scope};
+use p416_syntax::Decl16;
 use std::alloc::Global;
 
 /// Judges a declaration at the top with all within it, given the places of `main` where it stands, from 0. The time is

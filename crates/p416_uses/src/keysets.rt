@@ -1,25 +1,24 @@
 // What the keys of `select` are compared with (P4_16 1.2, "Select expressions").
 ghost use Rattle.std.specs.Prelude.{◌≡◌, ◌∷◌, ◌++◌, ◌||◌, [], not, nat_eq, length, map, flat_map, OnOk};
 ghost use Rattle.std.specs.List.{list_any};
-ghost use Rattle.p416_rules.specs.Calls.{literal_of};
-ghost use Rattle.p416_rules.specs.Types as rules;
-ghost use Rattle.p416_rules.specs.Uses.{a_keyset, uses};
-ghost use Rattle.p416_rules.specs.Declarations.{simple_uses, compared_uses, keyset_parts, with_keys};
-ghost use Rattle.p416_kinds.specs.Seen.{seen_kind};
+ghost use Rattle.p416_syntax.specs.Calls.{literal_of};
+ghost use Rattle.p416_syntax.specs.Types as rules;
+ghost use Rattle.p416_syntax.specs.Uses.{a_keyset, uses};
+ghost use Rattle.p416_syntax.specs.Declarations.{simple_uses, compared_uses, keyset_parts, with_keys};
+ghost use Rattle.p416_names.specs.SeenKinds.{seen_kind};
 ghost use Rattle.p416_scopes.specs.Seen.{seen_scope};
 ghost use Rattle.p416_expression_check.specs.Judged.{first_broken};
 ghost use Rattle.p416_expression_uses.specs.Found.{after, after_all};
-ghost use Rattle.p416_ast.specs.declared.parsers.Keyset.TheVariants.{One};
+ghost use Rattle.p416_syntax.specs.declared.parsers.Keyset.TheVariants.{One};
 ghost use Rattle.p416_uses.specs.Parts.{key_at, paired};
 
 use crate::statements::see_at;
 use p4x_bits::OutOfMemory;
-use p416_ast::{Exp, Keyset, Simple};
 use p416_calls::Place;
 use p416_expression_uses::Findings;
-use p416_kinds::Kind;
-use p416_rules::ProgramRule;
+use p416_names::Kind;
 use p416_scopes::Scope;
+use p416_syntax::{Exp, Keyset, ProgramRule, Simple};
 use std::alloc::Global;
 
 /// What the key with a number is; unknown, where there is none.

@@ -1,8 +1,8 @@
 // Names that ask for another sort than a value, and names that stand twice in a scope (P4_16 1.2, "Name resolution").
 ghost use Rattle.std.specs.Prelude.{◌≡◌, List, map, IfOk, OnOk};
-ghost use Rattle.p416_rules.specs.Scopes.{Known};
-ghost use Rattle.p416_rules.specs.Unknown.{is_wanted};
-ghost use Rattle.p416_rules.specs.Uses.{a_name, names_of_scope};
+ghost use Rattle.p416_syntax.specs.Scopes.{Known};
+ghost use Rattle.p416_syntax.specs.Unknown.{is_wanted};
+ghost use Rattle.p416_syntax.specs.Uses.{a_name, names_of_scope};
 ghost use Rattle.p416_names.specs.Seen.{seen_sort};
 ghost use Rattle.p416_scopes.specs.Seen.{seen_scope};
 ghost use Rattle.p416_expression_check.specs.Judged.{first_broken};
@@ -11,11 +11,10 @@ ghost use Rattle.p416_uses.specs.Parts.{seen_wanted};
 
 use p4x_bits::OutOfMemory;
 use p416_expression_uses::Findings;
-use p416_kinds::ObjectKind;
 use p416_name_set::is_repeated;
-use p416_names::Sort;
-use p416_rules::ProgramRule;
+use p416_names::{ObjectKind, Sort};
 use p416_scopes::Scope;
+use p416_syntax::ProgramRule;
 use std::alloc::Global;
 
 /// The sort of declaration that the place of a name asks for.

@@ -1,11 +1,11 @@
 // Numbers in annotations.
 ghost use Rattle.std.specs.Prelude.{◌≡◌, map};
-ghost use Rattle.p416_rules.specs.Declarations.{list_numbers, note_uses};
-ghost use Rattle.p416_rules.specs.Uses.{a_number};
+ghost use Rattle.p416_syntax.specs.Declarations.{list_numbers, note_uses};
+ghost use Rattle.p416_syntax.specs.Uses.{a_number};
 ghost use Rattle.p416_expression_uses.specs.Found.{after, after_all};
 
-use p416_ast::{Literal16, Note};
 use p416_expression_uses::{Findings, see_number};
+use p416_syntax::{Literal16, Note};
 
 /// Judges one of these numbers.
 fn see_one(number: &Literal16, found: &mut Findings<'_>)

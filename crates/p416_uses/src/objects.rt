@@ -1,11 +1,11 @@
 // Stateful objects (`v1model.p4`).
 ghost use Rattle.std.specs.Prelude.{◌≡◌, OnOk};
-ghost use Rattle.p416_rules.specs.Kinds.{bits};
-ghost use Rattle.p416_rules.specs.Calls.{literal_of};
-ghost use Rattle.p416_rules.specs.Types.{enumeration_of};
-ghost use Rattle.p416_rules.specs.Uses.{a_member, uses};
-ghost use Rattle.p416_rules.specs.Declarations.{instance_uses, object_uses};
-ghost use Rattle.p416_kinds.specs.Seen.{seen_enumeration};
+ghost use Rattle.p416_syntax.specs.Kinds.{bits};
+ghost use Rattle.p416_syntax.specs.Calls.{literal_of};
+ghost use Rattle.p416_syntax.specs.Types.{enumeration_of};
+ghost use Rattle.p416_syntax.specs.Uses.{a_member, uses};
+ghost use Rattle.p416_syntax.specs.Declarations.{instance_uses, object_uses};
+ghost use Rattle.p416_names.specs.SeenKinds.{seen_enumeration};
 ghost use Rattle.p416_scopes.specs.Seen.{seen_scope};
 ghost use Rattle.p416_expression_check.specs.Judged.{first_broken};
 ghost use Rattle.p416_expression_uses.specs.Found.{after, after_all};
@@ -13,12 +13,11 @@ ghost use Rattle.p416_expression_uses.specs.Found.{after, after_all};
 use crate::notes::see_notes;
 use crate::statements::see_at;
 use p4x_bits::OutOfMemory;
-use p416_ast::{Exp, Instance, Member, Note};
 use p416_calls::Place;
 use p416_expression_uses::{Findings, see_width};
-use p416_kinds::{Enumeration, Kind};
-use p416_rules::ProgramRule;
+use p416_names::{Enumeration, Kind};
 use p416_scopes::Scope;
+use p416_syntax::{Exp, Instance, Member, Note, ProgramRule};
 use std::alloc::Global;
 
 /// The enumeration of a member.

@@ -1,12 +1,12 @@
 // Parsers (P4_16 1.2, "Packet parsing").
 ghost use Rattle.std.specs.Prelude.{◌≡◌, ◌++◌, ◌∷◌, List, map, flat_map, IfOk, OnOk};
-ghost use Rattle.p416_rules.specs.Scopes.{called_of};
-ghost use Rattle.p416_rules.specs.Statements.{behind};
-ghost use Rattle.p416_rules.specs.Calls.{select_key};
-ghost use Rattle.p416_rules.specs.Expressions.{kind_of};
-ghost use Rattle.p416_rules.specs.Uses.{names_of_scope, of_block_parameter, uses};
-ghost use Rattle.p416_rules.specs.Declarations as rules;
-ghost use Rattle.p416_kinds.specs.Seen.{seen_kind};
+ghost use Rattle.p416_syntax.specs.Scopes.{called_of};
+ghost use Rattle.p416_syntax.specs.Statements.{behind};
+ghost use Rattle.p416_syntax.specs.Calls.{select_key};
+ghost use Rattle.p416_syntax.specs.Expressions.{kind_of};
+ghost use Rattle.p416_syntax.specs.Uses.{names_of_scope, of_block_parameter, uses};
+ghost use Rattle.p416_syntax.specs.Declarations as rules;
+ghost use Rattle.p416_names.specs.SeenKinds.{seen_kind};
 ghost use Rattle.p416_scopes.specs.Seen.{seen_scope};
 ghost use Rattle.p416_expression_uses.specs.Found.{after_all};
 ghost use Rattle.p416_uses.specs.Parts.{var_name};
@@ -17,12 +17,11 @@ use crate::names::{Wanted, see_name, see_names};
 use crate::types::{push_parameters, see_parameters};
 use crate::variables::declare_body;
 use p4x_bits::OutOfMemory;
-use p416_ast::{Exp, Parser16, SelectCase, State, Target, Transition, Var};
 use p416_calls::Place;
 use p416_expression_uses::{Findings, Places, TypePlace, see_expression};
-use p416_kinds::Kind;
-use p416_names::Top;
+use p416_names::{Kind, Top};
 use p416_scopes::{Part, Scope};
+use p416_syntax::{Exp, Parser16, SelectCase, State, Target, Transition, Var};
 use p416_visits::shorten;
 use std::alloc::Global;
 

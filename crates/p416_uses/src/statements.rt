@@ -1,11 +1,11 @@
 // Statements, each in its scope (P4_16 1.2, "Statements").
 ghost use Rattle.std.specs.Prelude.{◌≡◌, ◌∷◌, ◌++◌, [], IfOk, OnOk};
-ghost use Rattle.p416_rules.specs.Statements.{assigned_place, declared_in, label_uses, labels_of, own_uses, statement_uses};
-ghost use Rattle.p416_rules.specs.Scopes.{kind_of_type};
-ghost use Rattle.p416_rules.specs.Calls as place;
-ghost use Rattle.p416_rules.specs.Expressions.{kind_of};
-ghost use Rattle.p416_rules.specs.Uses.{a_name, a_switch, some_table, names_of_scope, of_variable, type_uses, uses};
-ghost use Rattle.p416_kinds.specs.Seen.{seen_kind};
+ghost use Rattle.p416_syntax.specs.Statements.{assigned_place, declared_in, label_uses, labels_of, own_uses, statement_uses};
+ghost use Rattle.p416_syntax.specs.Scopes.{kind_of_type};
+ghost use Rattle.p416_syntax.specs.Calls as place;
+ghost use Rattle.p416_syntax.specs.Expressions.{kind_of};
+ghost use Rattle.p416_syntax.specs.Uses.{a_name, a_switch, some_table, names_of_scope, of_variable, type_uses, uses};
+ghost use Rattle.p416_names.specs.SeenKinds.{seen_kind};
 ghost use Rattle.p416_calls.specs.Seen.{seen_place};
 ghost use Rattle.p416_scopes.specs.Seen.{seen_scope};
 ghost use Rattle.p416_listed_check.specs.Listings.{ListsScope};
@@ -15,14 +15,13 @@ ghost use Rattle.p416_uses.specs.Parts.{switch_rule};
 use crate::names::{Wanted, see_name};
 use crate::variables::see_scope;
 use p4x_bits::{OutOfMemory, Text};
-use p416_ast::{CaseLabel, ExpView, StmtHead, StmtView, Type16};
 use p416_calls::Place;
 use p416_expression_check::applies_nothing;
 use p416_expression_uses::{Findings, Places, TypePlace, see_expression, see_type};
-use p416_kinds::Kind;
 use p416_listed_check::{Listings, has_outside_label};
-use p416_rules::ProgramRule;
+use p416_names::Kind;
 use p416_scopes::Scope;
+use p416_syntax::{CaseLabel, ExpView, ProgramRule, StmtHead, StmtView, Type16};
 use p416_visits::Visits;
 use std::alloc::Global;
 

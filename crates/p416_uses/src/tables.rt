@@ -1,12 +1,12 @@
 // Tables (P4_16 1.2, "Tables"; `v1model.p4`).
 ghost use Rattle.std.specs.Prelude.{◌≡◌, ◌+◌, [], if◌then◌else◌, List, Some, None, MatchOption, map, flat_map, length, option_copied, option_to_list, IfOk, OnOk};
 ghost use Rattle.std.specs.Option.{option_map_or};
-ghost use Rattle.p416_rules.specs.Scopes.{Known};
-ghost use Rattle.p416_rules.specs.Expressions.{argument_count};
-ghost use Rattle.p416_rules.specs.Uses.{a_count, a_name, a_number, a_table_of, some_direct_counter};
-ghost use Rattle.p416_rules.specs.declared.rule.ProgramRule.TheVariants.{T9};
-ghost use Rattle.p416_rules.specs.Tables.{is_bad_table};
-ghost use Rattle.p416_rules.specs.Declarations as rules;
+ghost use Rattle.p416_syntax.specs.Scopes.{Known};
+ghost use Rattle.p416_syntax.specs.Expressions.{argument_count};
+ghost use Rattle.p416_syntax.specs.Uses.{a_count, a_name, a_number, a_table_of, some_direct_counter};
+ghost use Rattle.p416_syntax.specs.declared.rule.ProgramRule.TheVariants.{T9};
+ghost use Rattle.p416_syntax.specs.Tables.{is_bad_table};
+ghost use Rattle.p416_syntax.specs.Declarations as rules;
 ghost use Rattle.p416_names.specs.Seen.{seen_sort};
 ghost use Rattle.p416_scopes.specs.Seen.{seen_scope};
 ghost use Rattle.p416_expression_check.specs.Judged.{first_broken};
@@ -18,14 +18,13 @@ use crate::names::{Wanted, see_name};
 use crate::notes::see_notes;
 use crate::statements::see_at;
 use p4x_bits::{OutOfMemory, Text};
-use p416_ast::{ActionName, Exp, ExpHead, ExpView, Literal16, Table16, TableKey};
 use p416_calls::Place;
 use p416_expression_uses::{Arguments, Findings, Places, see_expression, see_number};
 use p416_listed_check::is_bad_table;
 use p416_name_set::NameSet;
 use p416_names::Sort;
-use p416_rules::ProgramRule;
 use p416_scopes::{Part, Scope};
+use p416_syntax::{ActionName, Exp, ExpHead, ExpView, Literal16, ProgramRule, Table16, TableKey};
 use std::alloc::Global;
 
 /// The kind of match for which a truth value may be a key.

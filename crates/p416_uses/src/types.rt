@@ -1,9 +1,9 @@
 // Header and struct types, and parameters (P4_16 1.2, "Header types", "Struct types", "Parameters").
 ghost use Rattle.std.specs.Prelude.{◌≡◌, ◌+◌, ◌≤◌, ◌*◌, ◌++◌, ◌∷◌, map, flat_map, sum_by, Option, Some, None, if◌then◌else◌, OnOk, IfOk};
 ghost use Rattle.std.specs.List.{list_any};
-ghost use Rattle.p416_rules.specs.Sizes as rules;
-ghost use Rattle.p416_rules.specs.Uses.{a_header, names_of_scope};
-ghost use Rattle.p416_rules.specs.Declarations.{field_name, field_width, header_uses, member_name, struct_field_uses, struct_uses, parameter_name, parameter_uses};
+ghost use Rattle.p416_syntax.specs.Sizes as rules;
+ghost use Rattle.p416_syntax.specs.Uses.{a_header, names_of_scope};
+ghost use Rattle.p416_syntax.specs.Declarations.{field_name, field_width, header_uses, member_name, struct_field_uses, struct_uses, parameter_name, parameter_uses};
 ghost use Rattle.p416_scopes.specs.Seen.{seen_scope};
 ghost use Rattle.p416_expression_check.specs.Judged.{first_broken};
 ghost use Rattle.p416_expression_uses.specs.Found.{after, after_all};
@@ -13,10 +13,9 @@ ghost use Rattle.p416_uses.specs.Parts.{bits_rule};
 use crate::names::see_names;
 use crate::notes::see_notes;
 use p4x_bits::OutOfMemory;
-use p416_ast::{BitField, Header16, Param, Struct16, StructField};
 use p416_expression_uses::{Findings, TypePlace, see_type, see_width};
-use p416_rules::ProgramRule;
 use p416_scopes::Scope;
+use p416_syntax::{BitField, Header16, Param, ProgramRule, Struct16, StructField};
 use std::alloc::Global;
 
 /// The most bits of a field.

@@ -1,17 +1,17 @@
 // The variables of a list of statements (P4_16 1.2, "Variable declarations").
 ghost use Rattle.std.specs.Prelude.{◌≡◌, ◌<◌, ◌+◌, ◌++◌, map, flat_map, IfOk, OnOk, sum_by};
-ghost use Rattle.p416_ast.specs.Heads.{of_head};
-ghost use Rattle.p416_rules.specs.Statements.{behind, declared_in};
-ghost use Rattle.p416_rules.specs.Uses.{names_of_scope};
+ghost use Rattle.p416_syntax.specs.Heads.{of_head};
+ghost use Rattle.p416_syntax.specs.Statements.{behind, declared_in};
+ghost use Rattle.p416_syntax.specs.Uses.{names_of_scope};
 ghost use Rattle.p416_scopes.specs.Seen.{seen_scope};
 ghost use Rattle.p416_expression_uses.specs.Found.{after};
 ghost use Rattle.p416_uses.specs.Variables.{declared_name, seen_variable, variables_in, with_all, listed};
 
 use crate::names::see_names;
 use p4x_bits::{OutOfMemory, Text};
-use p416_ast::{StmtHead, StmtView, Type16};
 use p416_expression_uses::Findings;
 use p416_scopes::Scope;
+use p416_syntax::{StmtHead, StmtView, Type16};
 use p416_visits::declare_variable;
 use std::alloc::Global;
 use work_stack::Stack;

@@ -2,14 +2,14 @@
 use Rattle.std.proofs.Common.{◌≡◌, ℕ, zero, suc, ◌+◌, ◌-◌, true, List, [], ◌∷◌, ◌++◌, length, take, drop, refl, sym, ap, ◌∙◌, arith}
 use Rattle.std.proofs.Math.Seq.{drop-append_seam}
 use Rattle.std.proofs.lemmas.List.{append_assoc, length-append}
-use Rattle.p416_ast.specs.declared.program.Decl16.{Decl16}
-use Rattle.p416_ast.specs.declared.node.CaseLabel.{CaseLabel}
-use Rattle.p416_ast.specs.Tree.{Exp16, Stmt16, no_statements, then, block, empty, var, var_is, assign, expression, if_then, if_else, switch, no_cases, case_of}
-use Rattle.p416_rules.specs.Names.{Name}
-use Rattle.p416_rules.specs.Scopes.{Scope, Known, known, a_value, inside, kind_of_type}
-use Rattle.p416_rules.specs.Scopes as rule
-use Rattle.p416_rules.specs.Declarations.{top_names, layouts_of}
-use Rattle.p416_rules.specs.Statements.{Visit, visit, visits, behind}
+use Rattle.p416_syntax.specs.declared.program.Decl16.{Decl16}
+use Rattle.p416_syntax.specs.declared.node.CaseLabel.{CaseLabel}
+use Rattle.p416_syntax.specs.Tree.{Exp16, Stmt16, no_statements, then, block, empty, var, var_is, assign, expression, if_then, if_else, switch, no_cases, case_of}
+use Rattle.p416_syntax.specs.Names.{Name}
+use Rattle.p416_syntax.specs.Scopes.{Scope, Known, known, a_value, inside, kind_of_type}
+use Rattle.p416_syntax.specs.Scopes as rule
+use Rattle.p416_syntax.specs.Declarations.{top_names, layouts_of}
+use Rattle.p416_syntax.specs.Statements.{Visit, visit, visits, behind}
 use Rattle.p416_names.specs.declared.sort.Sort.{Sort}
 use Rattle.p416_names.specs.Seen.{seen_sort}
 use Rattle.p416_scopes.specs.declared.scope.Scope.{Scope as CodeScope}

@@ -1,10 +1,10 @@
 -- The statements that are still to be visited, each in its scope, by what is left to be done.
 use Rattle.std.specs.Prelude.{ℕ, ◌+◌, ◌-◌, Bool, true, false, List, [], ◌∷◌, ◌++◌, length, drop}
-use Rattle.p416_ast.specs.declared.program.Decl16.{Decl16}
-use Rattle.p416_ast.specs.Tree.{Stmt16, no_statements, then, block, var, var_is, if_then, if_else, switch, no_cases, case_of}
-use Rattle.p416_rules.specs.Scopes.{Scope}
-use Rattle.p416_rules.specs.Declarations.{top_names}
-use Rattle.p416_rules.specs.Statements.{Visit, visit, visits, behind, with_variable}
+use Rattle.p416_syntax.specs.declared.program.Decl16.{Decl16}
+use Rattle.p416_syntax.specs.Tree.{Stmt16, no_statements, then, block, var, var_is, if_then, if_else, switch, no_cases, case_of}
+use Rattle.p416_syntax.specs.Scopes.{Scope}
+use Rattle.p416_syntax.specs.Declarations.{top_names}
+use Rattle.p416_syntax.specs.Statements.{Visit, visit, visits, behind, with_variable}
 use Rattle.p416_scopes.specs.declared.scope.Scope.{Scope as CodeScope}
 use Rattle.p416_scopes.specs.Seen.{seen_scope}
 use Rattle.p416_visits.specs.declared.visits.Work.{Work}

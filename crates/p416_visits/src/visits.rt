@@ -1,16 +1,16 @@
 // A stack holds what is still to be visited, and the changes of the scope between.
 ghost use Rattle.std.specs.Prelude.{◌≡◌, ◌<◌, ◌+◌, List, ◌∷◌, ◌++◌, [], length, IfOk, OnOk, MatchOption, option_to_list, map};
-ghost use Rattle.p416_ast.specs.declared.program.Decl16.{Decl16};
-ghost use Rattle.p416_rules.specs.Scopes.{Scope as RuleScope};
-ghost use Rattle.p416_rules.specs.Statements.{visit, visits, behind, with_variable};
+ghost use Rattle.p416_syntax.specs.declared.program.Decl16.{Decl16};
+ghost use Rattle.p416_syntax.specs.Scopes.{Scope as RuleScope};
+ghost use Rattle.p416_syntax.specs.Statements.{visit, visits, behind, with_variable};
 ghost use Rattle.p416_scopes.specs.Seen.{seen_scope};
 ghost use Rattle.p416_visits.specs.declared.visits.Work.TheVariants as work;
 ghost use Rattle.p416_visits.specs.Left.{left, behind_all, left_in, scope_behind, is_visited, if_visited, shortened, height, steps_of, steps};
 
 use p4x_bits::{OutOfMemory, Text};
-use p416_ast::{StmtHead, StmtView, Type16};
 use p416_names::Sort;
 use p416_scopes::Scope;
+use p416_syntax::{StmtHead, StmtView, Type16};
 use std::alloc::Global;
 use work_stack::Stack;
 

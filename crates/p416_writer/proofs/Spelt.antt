@@ -3,11 +3,11 @@ use Rattle.std.proofs.Common.{◌≡◌, true, sym, ◌∙◌}
 use Rattle.std.specs.List.{list_all, flat_map}
 use Rattle.std.proofs.lemmas.List.Folds.{list_all-append}
 use Rattle.std.proofs.lemmas.Bool.{and_parts}
-use Rattle.p416_ast.specs.declared.program.Syntax16.{Syntax16}
-use Rattle.p416_ast.specs.Tokens.{is_spelt_seen}
-use Rattle.p416_ast.specs.Written.{written_decl, written_main, written}
-use Rattle.p416_ast.specs.Conditions.{is_syntax, without_parentheses}
-use Rattle.p416_ast.specs.Spelt.{is_spelt16}
+use Rattle.p416_syntax.specs.declared.program.Syntax16.{Syntax16}
+use Rattle.p416_syntax.specs.Tokens.{is_spelt_seen}
+use Rattle.p416_syntax.specs.Written.{written_decl, written_main, written}
+use Rattle.p416_syntax.specs.Conditions.{is_syntax, without_parentheses}
+use Rattle.p416_syntax.specs.Spelt.{is_spelt16}
 
 pub all_spelt : (s : Syntax16) → is_spelt16 s ≡ true → list_all is_spelt_seen (written s) ≡ true
 all_spelt s h = (and_parts (is_syntax without_parentheses s) (list_all is_spelt_seen (written s)) h).1

@@ -1,2 +1,2 @@
--- Nothing is defined here: what is written is said by `written` of p416_ast and `full_syntax` of p416_parentheses, and that
+-- Nothing is defined here: what is written is said by `written` of p416_syntax and `full_syntax` of p416_parentheses, and that
 -- it reads as the syntax by `Reads16` of p416_reader.

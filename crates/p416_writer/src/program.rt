@@ -2,8 +2,8 @@
 ghost use Rattle.std.specs.Prelude.{◌≡◌, IfOk, Ok};
 ghost use Rattle.token_sheet.specs.Words.{IsDividedInto};
 ghost use Rattle.p416_tok.specs.Front.{front};
-ghost use Rattle.p416_ast.specs.declared.program.Syntax16.{Syntax16};
-ghost use Rattle.p416_ast.specs.Written.{written};
+ghost use Rattle.p416_syntax.specs.declared.program.Syntax16.{Syntax16};
+ghost use Rattle.p416_syntax.specs.Written.{written};
 ghost use Rattle.p416_parentheses.specs.Syntax.{full_syntax};
 ghost use Rattle.p416_spelling.specs.Spelled.{meets16};
 ghost use Rattle.p416_spelling.specs.Words.{words16};
@@ -12,9 +12,9 @@ ghost use Rattle.text_reading.specs.Reading.{Answers};
 
 use crate::write::write_syntax16;
 use p4x_bits::{Octets, OutOfMemory};
-use p416_ast::Syntax16;
 use p416_program::Program16;
 use p416_reader::read16;
+use p416_syntax::Syntax16;
 use std::alloc::Global;
 use text_reading::ReadError;
 

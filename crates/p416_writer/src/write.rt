@@ -3,10 +3,10 @@ ghost use Rattle.std.specs.Prelude.{◌≡◌, ◌++◌, IfOk, OnOk, IsTrue};
 ghost use Rattle.std.specs.List.{list_all};
 ghost use Rattle.token_sheet.specs.Words.{IsDividedInto};
 ghost use Rattle.p416_tok.specs.Front.{front};
-ghost use Rattle.p416_ast.specs.declared.program.Syntax16.{Syntax16};
-ghost use Rattle.p416_ast.specs.Tokens.{is_spelt_seen};
-ghost use Rattle.p416_ast.specs.Written.{written};
-ghost use Rattle.p416_ast.specs.Spelt.{is_spelt16};
+ghost use Rattle.p416_syntax.specs.declared.program.Syntax16.{Syntax16};
+ghost use Rattle.p416_syntax.specs.Tokens.{is_spelt_seen};
+ghost use Rattle.p416_syntax.specs.Written.{written};
+ghost use Rattle.p416_syntax.specs.Spelt.{is_spelt16};
 ghost use Rattle.p416_parentheses.specs.Syntax.{full_syntax};
 ghost use Rattle.p416_spelling.specs.Spelled.{meets16};
 ghost use Rattle.p416_spelling.specs.Words.{words16};
@@ -14,10 +14,9 @@ ghost use Rattle.p416_sheet.specs.declared.sheet.Token16.TheVariants.{Include};
 ghost use Rattle.p416_reader.specs.Reading.{Reads16};
 
 use p4x_bits::{Octets, OutOfMemory};
-use p416_ast::Syntax16;
 use p416_decl_writer::{write_declarations, write_main};
-use p416_lexemes::Include16;
 use p416_sheet::{Gap, Put16, Sheet16, Token16, put_tokens};
+use p416_syntax::{Include16, Syntax16};
 use std::alloc::Global;
 
 /// A text of a syntax that a text can have (P4_16 1.2, "P4 grammar"; where blanks and parentheses stand is this project's own).

@@ -8,7 +8,7 @@ use std::alloc::Global;
 use std::marker::Model;
 
 /// A list of bits of any length, in the order in which they stand in a packet. Contracts see the list of them.
-#[derive(Debug, Drop)]
+#[derive(Drop)]
 pub struct Bits {
     octets: Vec<u8>,
     len: usize,

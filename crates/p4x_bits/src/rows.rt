@@ -8,8 +8,8 @@ use std::alloc::Global;
 use std::marker::Model;
 
 /// A list of rows in order. Contracts see the list of them.
-#[derive(Debug, Drop)]
-pub struct Rows<T: Drop> {
+#[derive(Drop)]
+pub struct Rows<T> {
     items: Vec<T>,
 }
 
@@ -22,7 +22,7 @@ pub type Numbers = Rows<u128>;
 /// The octets of a name.
 pub type Text = Rows<u8>;
 
-impl<T: Drop> Model for Rows<T> {
+impl<T> Model for Rows<T> {
     ghost use Rattle.std.specs.Prelude.{List};
 
     ghost Value = { List T };
@@ -30,7 +30,7 @@ impl<T: Drop> Model for Rows<T> {
     ghost view = { λ rows. rows.items.items };
 }
 
-impl<T: Drop> Rows<T> {
+impl<T> Rows<T> {
     /// An empty list. It takes no memory until the first push.
     pub fn new(alloc: Global) -> Self
         ensures { result ≡ [] }
@@ -113,6 +113,36 @@ impl<T: Drop> Rows<T> {
         self.items.is_empty()
     }
 
+    /// Takes the last item away and gives it, or none of an empty list.
+    pub fn pop(&mut self) -> Option<T>
+        ensures items { self.old ≡ self.new ++ option_to_list result }
+        ensures some { IsSome result ↔ (0 < length self.old) }
+    {
+        self.items.pop()
+    }
+
+    /// Makes room for so many items more. The list stays as it was, for want of memory too.
+    pub fn reserve(&mut self, additional: usize) -> Result<(), OutOfMemory>
+        ensures { self.new ≡ self.old }
+    {
+        self.items.reserve(additional)?;
+        Ok(())
+    }
+
+    /// Moves the items of another list to the end, and leaves that list empty. For want of memory both stay as they were.
+    pub fn append(&mut self, more: &mut Rows<T>) -> Result<(), OutOfMemory>
+        ensures ok { OnOk result (self.new ≡ self.old ++ more.old) }
+        ensures emptied { OnOk result (more.new ≡ []) }
+        ensures err { OnErr result (self.new ≡ self.old) }
+        ensures kept { OnErr result (more.new ≡ more.old) }
+    {
+        self.items.append(&mut more.items)?;
+        Ok(())
+    }
+}
+
+// What lets go of items.
+impl<T: Drop> Rows<T> {
     /// Puts one item at the end. For want of memory the list stays as it was, and the item is let go.
     pub fn push(&mut self, item: T) -> Result<(), OutOfMemory>
         ensures ok { OnOk result (self.new ≡ self.old ++ item ∷ []) }
@@ -120,14 +150,6 @@ impl<T: Drop> Rows<T> {
     {
         self.items.push(item)?;
         Ok(())
-    }
-
-    /// Takes the last item away and gives it, or none of an empty list.
-    pub fn pop(&mut self) -> Option<T>
-        ensures items { self.old ≡ self.new ++ option_to_list result }
-        ensures some { IsSome result ↔ (0 < length self.old) }
-    {
-        self.items.pop()
     }
 
     /// Lets go of every item. The room for them stays.
@@ -144,14 +166,6 @@ impl<T: Drop> Rows<T> {
         self.items.truncate(len);
     }
 
-    /// Makes room for so many items more. The list stays as it was, for want of memory too.
-    pub fn reserve(&mut self, additional: usize) -> Result<(), OutOfMemory>
-        ensures { self.new ≡ self.old }
-    {
-        self.items.reserve(additional)?;
-        Ok(())
-    }
-
     /// Puts one item before the item at a place, or at the end where the place is the length of the list. For want of
     /// memory the list stays as it was, and the item is let go.
     pub fn insert(&mut self, index: usize, item: T) -> Result<(), OutOfMemory>
@@ -162,20 +176,9 @@ impl<T: Drop> Rows<T> {
         self.items.insert(index, item)?;
         Ok(())
     }
-
-    /// Moves the items of another list to the end, and leaves that list empty. For want of memory both stay as they were.
-    pub fn append(&mut self, more: &mut Rows<T>) -> Result<(), OutOfMemory>
-        ensures ok { OnOk result (self.new ≡ self.old ++ more.old) }
-        ensures emptied { OnOk result (more.new ≡ []) }
-        ensures err { OnErr result (self.new ≡ self.old) }
-        ensures kept { OnErr result (more.new ≡ more.old) }
-    {
-        self.items.append(&mut more.items)?;
-        Ok(())
-    }
 }
 
-impl<T: Copy + Drop> Rows<T> {
+impl<T: Copy> Rows<T> {
     /// A list of the items of a slice, or want of memory.
     pub fn from_slice(alloc: Global, items: &[T]) -> Result<Self, OutOfMemory>
         ensures { IfOk result (λ list. list ≡ items.now) }

@@ -1,6 +1,6 @@
 -- What an outcome says of each status.
 use Rattle.std.proofs.Common.{◌≡◌, ◌⊎◌, inl, inr, ℕ, All, OnOk, List, [], Option, Some, None, Result, Err, refl, sym, ◌∙◌, ap, subst, arith}
-use Rattle.p416_ast.specs.declared.program.Syntax16.{Syntax16}
+use Rattle.p416_syntax.specs.declared.program.Syntax16.{Syntax16}
 use Rattle.p4x_io.specs.Desk.{DeskView, SinkView, NoneIs, Rose, put, said}
 use Rattle.fabric.specs.Numbers.{IsArrival, IsBound}
 use Rattle.fabric.specs.declared.packets.Arrival.{Arrival}

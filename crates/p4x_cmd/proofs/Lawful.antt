@@ -6,7 +6,7 @@ use Rattle.std.specs.Str.{bytes_eq}
 use Rattle.std.proofs.lemmas.Bool.{and_parts, and_from}
 use Rattle.std.proofs.lemmas.List.{length-map}
 use Rattle.state_store.specs.Ports.{drop_port}
-use Rattle.p416_rules.specs.Breaks.{BreaksNone, program_rules}
+use Rattle.p416_syntax.specs.Breaks.{BreaksNone, program_rules}
 use Rattle.p414_one_table.specs.declared.program.Field.{Field}
 use Rattle.p414_one_table.specs.declared.program.OneTable14.{OneTable14}
 use Rattle.p414_one_table.specs.Programs.{is_one_table, are_fields, is_id, is_width, repeats}

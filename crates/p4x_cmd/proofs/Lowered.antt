@@ -6,8 +6,8 @@ use Rattle.std.proofs.lemmas.Bool.{and_parts, and_from, or_left, false≢true}
 use Rattle.std.proofs.lemmas.Bool.Decides.{nat_tests}
 use Rattle.state_store.specs.Ports.{drop_port}
 use Rattle.token_division.specs.Octets.{is_letter, is_decimal, is_word}
-use Rattle.p416_lexemes.specs.Keywords.{is_reserved16}
-use Rattle.p416_lexemes.specs.Spelt.{is_identifier16, is_name16}
+use Rattle.p416_syntax.specs.Keywords.{is_reserved16}
+use Rattle.p416_syntax.specs.SpeltLexemes.{is_identifier16, is_name16}
 use Rattle.p414_one_table.specs.Programs.{is_one_table, are_fields, is_id, is_width, repeats}
 use Rattle.p414_one_table.specs.declared.program.Field.{Field}
 use Rattle.p414_one_table.specs.declared.program.OneTable14.{OneTable14}

@@ -6,7 +6,7 @@ use Rattle.p4x_cmd.specs.Carries.{Carries}
 use Rattle.p4x_cmd.specs.Carry.{ProgramIs, Written}
 use Rattle.p4x_cmd.specs.FirstCut.{is_first_cut}
 use Rattle.p414_one_table.specs.Programs.{is_one_table}
-use Rattle.p416_rules.specs.Breaks.{BreaksNone, program_rules}
+use Rattle.p416_syntax.specs.Breaks.{BreaksNone, program_rules}
 use Rattle.p414_one_table.proofs.Forms.{form_is}
 use Rattle.one_table_text.specs.Programs.{program16}
 use Rattle.p4x_cmd.specs.internal.Lowering.{lowered}

@@ -1,7 +1,7 @@
 -- What the clauses of `p4x` say, by its words (this project's own).
 use Rattle.std.specs.Prelude.{◌≡◌, ◌⊎◌, ◌≤◌, ◌%◌, ◌^◌, ℕ, Bool, List, [], ◌∷◌, All, length, Option, Some, None, Result, Ok, Err, IfErr, OnOk}
 use Rattle.state_store.specs.State.{Contents}
-use Rattle.p416_ast.specs.declared.program.Syntax16.{Syntax16}
+use Rattle.p416_syntax.specs.declared.program.Syntax16.{Syntax16}
 use Rattle.p4x_fault.specs.declared.Fault.{Fault as Refusal}
 use Rattle.p4x_io.specs.Desk.{DeskView, SinkView, Rose, put, said}
 use Rattle.command_words.specs.Words.{CarryFiles, Command, carry, check, order, run14, run16, carry_inputs, carry_outputs, inputs_of, outputs_of}
@@ -18,7 +18,7 @@ use Rattle.run16_cmd.specs.Calls as ran16
 use Rattle.run16_cmd.specs.Calls.{Run16Statuses, Run16Kept, Run16Left, Run16Works}
 use Rattle.run16_cmd.specs.Run16 as due16
 use Rattle.run16_cmd.specs.Run16.{Run16Due}
-use Rattle.p414_ast.specs.declared.syntax.Syntax14.{Syntax14}
+use Rattle.p414_syntax.specs.declared.syntax.Syntax14.{Syntax14}
 use Rattle.p414_reader.specs.Reading.{Reads14}
 use Rattle.program_commands.specs.Programs.{IsProgramStop, ReadsOnce}
 use Rattle.program_commands.specs.Programs as programs

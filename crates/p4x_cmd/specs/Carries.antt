@@ -1,7 +1,7 @@
 -- That a program of P4_16 carries a program of P4_14: both do the same with every packet (this project's own).
 use Rattle.std.specs.Prelude.{◌≡◌, ℕ, List, All}
 use Rattle.state_store.specs.State.{Contents}
-use Rattle.p416_ast.specs.declared.program.Syntax16.{Syntax16}
+use Rattle.p416_syntax.specs.declared.program.Syntax16.{Syntax16}
 use Rattle.match_core.specs.declared.entries.Entries.{Entries}
 use Rattle.match_core.specs.Fits.{Fits}
 use Rattle.fabric.specs.Numbers.{IsArrival, IsBound}

@@ -1,13 +1,13 @@
 -- The command `carry`: what is due for what its input files hold (this project's own).
 use Rattle.std.specs.Prelude.{◌≡◌, ◌⊎◌, ℕ, true, List, [], ◌∷◌, codes, Option, Some, None, option_to_list, Result, Ok, Err, IfErr}
 use Rattle.state_store.specs.State.{Contents}
-use Rattle.p416_ast.specs.declared.program.Syntax16.{Syntax16}
+use Rattle.p416_syntax.specs.declared.program.Syntax16.{Syntax16}
 use Rattle.p416_reader.specs.Reading.{Reads16}
-use Rattle.p416_rules.specs.Breaks.{BreaksNone, program_rules}
+use Rattle.p416_syntax.specs.Breaks.{BreaksNone, program_rules}
 use Rattle.p4x_fault.specs.declared.Fault.{Fault as Refusal}
 use Rattle.p4x_fault.specs.declared.Rule.TheVariants.{E}
 use Rattle.p4x_io.specs.Desk.{DeskView}
-use Rattle.p414_ast.specs.declared.syntax.Syntax14.{Syntax14}
+use Rattle.p414_syntax.specs.declared.syntax.Syntax14.{Syntax14}
 use Rattle.p414_one_table.specs.declared.program.OneTable14.{OneTable14}
 use Rattle.p414_one_table.specs.Form.{one_table_of}
 use Rattle.program_commands.specs.Programs as programs

@@ -5,25 +5,25 @@
 use Rattle.std.specs.Prelude.{Bool, true, false, ◌==◌, ◌&&◌, ◌||◌, if◌then◌else◌, List, [], ◌∷◌, length, codes, None}
 use Rattle.std.specs.List.{list_all}
 use Rattle.std.specs.Str.{bytes_eq}
-use Rattle.p416_ast.specs.declared.node.BinaryOperator.TheVariants.{Equal}
-use Rattle.p416_ast.specs.declared.parts.Note.{Note}
-use Rattle.p416_ast.specs.declared.parts.Note.TheVariants.{Name}
-use Rattle.p416_ast.specs.declared.parts.StructField.{StructField}
-use Rattle.p416_ast.specs.declared.parts.Type16.{Type16}
-use Rattle.p416_ast.specs.declared.parts.Type16.TheVariants as kind
-use Rattle.p416_ast.specs.declared.parsers.State.{State}
-use Rattle.p416_ast.specs.declared.parsers.Target.TheVariants.{Accept}
-use Rattle.p416_ast.specs.declared.parsers.Transition.{Transition}
-use Rattle.p416_ast.specs.declared.parsers.Transition.TheVariants.{Go}
-use Rattle.p416_ast.specs.declared.controls.Property.{Property}
-use Rattle.p416_ast.specs.declared.controls.Property.TheVariants.{Actions, DefaultAction}
-use Rattle.p416_ast.specs.declared.controls.Local.{Local}
-use Rattle.p416_ast.specs.declared.controls.Local.TheVariants.{Action, Table}
-use Rattle.p416_ast.specs.declared.controls.Control16.{Control16}
-use Rattle.p416_ast.specs.declared.program.Decl16.{Decl16}
-use Rattle.p416_ast.specs.declared.program.Decl16.TheVariants.{Header, Struct, Parser, Control}
-use Rattle.p416_ast.specs.declared.program.Syntax16.{Syntax16}
-use Rattle.p416_ast.specs.Tree.{Exp16, literal, name, error, member, binary, call, no_arguments, argument, Stmt16, no_statements, then, block, assign, expression, if_else}
+use Rattle.p416_syntax.specs.declared.node.BinaryOperator.TheVariants.{Equal}
+use Rattle.p416_syntax.specs.declared.parts.Note.{Note}
+use Rattle.p416_syntax.specs.declared.parts.Note.TheVariants.{Name}
+use Rattle.p416_syntax.specs.declared.parts.StructField.{StructField}
+use Rattle.p416_syntax.specs.declared.parts.Type16.{Type16}
+use Rattle.p416_syntax.specs.declared.parts.Type16.TheVariants as kind
+use Rattle.p416_syntax.specs.declared.parsers.State.{State}
+use Rattle.p416_syntax.specs.declared.parsers.Target.TheVariants.{Accept}
+use Rattle.p416_syntax.specs.declared.parsers.Transition.{Transition}
+use Rattle.p416_syntax.specs.declared.parsers.Transition.TheVariants.{Go}
+use Rattle.p416_syntax.specs.declared.controls.Property.{Property}
+use Rattle.p416_syntax.specs.declared.controls.Property.TheVariants.{Actions, DefaultAction}
+use Rattle.p416_syntax.specs.declared.controls.Local.{Local}
+use Rattle.p416_syntax.specs.declared.controls.Local.TheVariants.{Action, Table}
+use Rattle.p416_syntax.specs.declared.controls.Control16.{Control16}
+use Rattle.p416_syntax.specs.declared.program.Decl16.{Decl16}
+use Rattle.p416_syntax.specs.declared.program.Decl16.TheVariants.{Header, Struct, Parser, Control}
+use Rattle.p416_syntax.specs.declared.program.Syntax16.{Syntax16}
+use Rattle.p416_syntax.specs.Tree.{Exp16, literal, name, error, member, binary, call, no_arguments, argument, Stmt16, no_statements, then, block, assign, expression, if_else}
 use Rattle.p4x_cmd.specs.Meaning16.{Scope, parser_scope, control_scope, deparser_scope, main_at, tables_of}
 
 -- a field of the standard metadata, or of a header of H

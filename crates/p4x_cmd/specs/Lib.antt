@@ -8,8 +8,8 @@
 --   Runs       the run over the capture (`run_stream` says what its files and its line are, and `command_inputs` what the
 --              ports come to)
 --
--- What the written text is (`p416_ast` has the syntax of P4_16; `Reads16` of `p416_reader` says which text reads as which
--- syntax, and `BreaksNone` of `p416_rules` that it is well-typed):
+-- What the written text is (`p416_syntax` has the syntax of P4_16; `Reads16` of `p416_reader` says which text reads as which
+-- syntax, and `BreaksNone` of `p416_syntax` that it is well-typed):
 --   Carries    both programs do the same on all entries, under every bound, for every list of arrivals
 --   Passes     what a run over arrivals gives
 --   Meaning14  what the P4_14 program does with a packet

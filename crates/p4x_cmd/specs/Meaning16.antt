@@ -13,27 +13,27 @@ use Rattle.match_core.specs.declared.signatures.Signature.{Signature}
 use Rattle.match_core.specs.declared.entries.DefaultCall.{DefaultCall}
 use Rattle.match_core.specs.declared.entries.Entries.{Entries}
 use Rattle.match_core.specs.Stores.{first_store}
-use Rattle.p416_ast.specs.declared.node.BinaryOperator.TheVariants.{Equal}
-use Rattle.p416_ast.specs.declared.parts.BitField.{BitField}
-use Rattle.p416_ast.specs.declared.parts.Param.{Param}
-use Rattle.p416_ast.specs.declared.parts.StructField.{StructField}
-use Rattle.p416_ast.specs.declared.parts.Type16.{Type16}
-use Rattle.p416_ast.specs.declared.parts.Type16.TheVariants.{Bit, Named}
-use Rattle.p416_ast.specs.declared.parsers.Parser16.{Parser16}
-use Rattle.p416_ast.specs.declared.parsers.State.{State}
-use Rattle.p416_ast.specs.declared.controls.Action16.{Action16}
-use Rattle.p416_ast.specs.declared.controls.ActionName.{ActionName}
-use Rattle.p416_ast.specs.declared.controls.ActionName.TheVariants.{Declared, NoAction}
-use Rattle.p416_ast.specs.declared.controls.Table16.{Table16}
-use Rattle.p416_ast.specs.declared.controls.Local.{Local}
-use Rattle.p416_ast.specs.declared.controls.Local.TheVariants.{Action, Table}
-use Rattle.p416_ast.specs.declared.controls.Control16.{Control16}
-use Rattle.p416_ast.specs.declared.program.Decl16.{Decl16}
-use Rattle.p416_ast.specs.declared.program.Decl16.TheVariants.{Header, Struct, Parser, Control}
-use Rattle.p416_ast.specs.declared.program.Syntax16.{Syntax16}
-use Rattle.p416_ast.specs.Properties.{actions_of, default_action_of}
-use Rattle.p416_ast.specs.Tree.{Exp16, literal, name, error, member, binary, call, no_arguments, argument, Stmt16, no_statements, then, block, assign, expression, if_else}
-use Rattle.p416_rules.specs.Scopes.{plane_name}
+use Rattle.p416_syntax.specs.declared.node.BinaryOperator.TheVariants.{Equal}
+use Rattle.p416_syntax.specs.declared.parts.BitField.{BitField}
+use Rattle.p416_syntax.specs.declared.parts.Param.{Param}
+use Rattle.p416_syntax.specs.declared.parts.StructField.{StructField}
+use Rattle.p416_syntax.specs.declared.parts.Type16.{Type16}
+use Rattle.p416_syntax.specs.declared.parts.Type16.TheVariants.{Bit, Named}
+use Rattle.p416_syntax.specs.declared.parsers.Parser16.{Parser16}
+use Rattle.p416_syntax.specs.declared.parsers.State.{State}
+use Rattle.p416_syntax.specs.declared.controls.Action16.{Action16}
+use Rattle.p416_syntax.specs.declared.controls.ActionName.{ActionName}
+use Rattle.p416_syntax.specs.declared.controls.ActionName.TheVariants.{Declared, NoAction}
+use Rattle.p416_syntax.specs.declared.controls.Table16.{Table16}
+use Rattle.p416_syntax.specs.declared.controls.Local.{Local}
+use Rattle.p416_syntax.specs.declared.controls.Local.TheVariants.{Action, Table}
+use Rattle.p416_syntax.specs.declared.controls.Control16.{Control16}
+use Rattle.p416_syntax.specs.declared.program.Decl16.{Decl16}
+use Rattle.p416_syntax.specs.declared.program.Decl16.TheVariants.{Header, Struct, Parser, Control}
+use Rattle.p416_syntax.specs.declared.program.Syntax16.{Syntax16}
+use Rattle.p416_syntax.specs.Properties.{actions_of, default_action_of}
+use Rattle.p416_syntax.specs.Tree.{Exp16, literal, name, error, member, binary, call, no_arguments, argument, Stmt16, no_statements, then, block, assign, expression, if_else}
+use Rattle.p416_syntax.specs.Scopes.{plane_name}
 use Rattle.fabric.specs.declared.packets.Arrival.{Arrival}
 use Rattle.p4x_cmd.specs.Headers.{numbers_in, bits_in, octets_in, zeros}
 use Rattle.run_stream.specs.Runs.{Ran}

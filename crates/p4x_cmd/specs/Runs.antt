@@ -1,7 +1,7 @@
 -- The runs of programs over the packets of a capture, as the command makes them (this project's own).
 use Rattle.std.specs.Prelude.{ℕ, List}
 use Rattle.state_store.specs.State.{Contents}
-use Rattle.p416_ast.specs.declared.program.Syntax16.{Syntax16}
+use Rattle.p416_syntax.specs.declared.program.Syntax16.{Syntax16}
 use Rattle.fabric.specs.declared.packets.Arrival.{Arrival}
 use Rattle.p414_one_table.specs.declared.program.OneTable14.{OneTable14}
 use Rattle.run_stream.specs.Runs.{Ran}

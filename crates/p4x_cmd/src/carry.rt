@@ -44,11 +44,20 @@ struct Translation {
 }
 
 // What the work has before anything is written.
-#[derive(Drop)]
 struct Beginning {
     program: OneTable16,
     text: Octets,
     ports: Numbers,
+}
+
+impl Drop for Beginning {
+    fn drop(self) {
+        let Beginning {
+            program: _program,
+            text: _text,
+            ports: _ports,
+        } = self;
+    }
 }
 
 // The program of a file, where it is of the one-table form.

@@ -8,13 +8,24 @@ use std::marker::Model;
 ///
 /// Contracts see it as one record (`Printed` of the crate's definitions): what was printed, the room,
 /// the writes so far, those that fail, and a count of faults that stands still at 2^64 - 1.
-#[derive(Drop)]
 pub struct MemorySink {
     text: Vec<u8>,
     room: usize,
     calls: u64,
     failing: Vec<u64>,
     faults: u64,
+}
+
+impl Drop for MemorySink {
+    fn drop(self) {
+        let MemorySink {
+            text: _text,
+            room: _room,
+            calls: _calls,
+            failing: _failing,
+            faults: _faults,
+        } = self;
+    }
 }
 
 impl Model for MemorySink {

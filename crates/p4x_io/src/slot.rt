@@ -5,7 +5,6 @@ ghost use Rattle.p4x_io.specs.Memory.{Named};
 use std::marker::Model;
 
 // Contracts see the name and what is known of it.
-#[derive(Drop)]
 pub struct Slot {
     name: String,
     there: bool,
@@ -15,6 +14,21 @@ pub struct Slot {
     appends: u64,
     failing_reads: Vec<u64>,
     failing_appends: Vec<u64>,
+}
+
+impl Drop for Slot {
+    fn drop(self) {
+        let Slot {
+            name: _name,
+            there: _there,
+            octets: _octets,
+            room: _room,
+            reads: _reads,
+            appends: _appends,
+            failing_reads: _failing_reads,
+            failing_appends: _failing_appends,
+        } = self;
+    }
 }
 
 impl Model for Slot {

@@ -6,7 +6,7 @@ use Rattle.std.proofs.lemmas.List.Concat.{flat_map-cons}
 use Rattle.digraph.specs.Graphs.{Among, successors, IsEdge, WalkTo, OnCycle, IsLeastOnCycle, IsClosed}
 use Rattle.digraph.specs.Graphs.WalkTo.{Edge, Onward}
 use Rattle.digraph.proofs.Members.{among_place, place_among}
-use Rattle.p414_rules.specs.Walks.{IsWalk}
+use Rattle.p414_syntax.specs.Walks.{IsWalk}
 use Rattle.parse_graph.specs.declared.nodes.StateNode.{StateNode}
 use Rattle.parse_graph.specs.Graphs.{extracts_at, next_at, IsWhole, IsIdle, IsLeastIdle}
 use Rattle.parse_graph.specs.internal.IdleEdges.{is_none, extracts_none, idle_next, idle_graph}

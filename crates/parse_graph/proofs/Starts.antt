@@ -6,12 +6,12 @@ use Rattle.std.specs.Str.{bytes_eq}
 use Rattle.std.proofs.lemmas.Bool.{false≢true, lt-ltb}
 use Rattle.std.proofs.lemmas.List.{length-map}
 use Rattle.std.proofs.lemmas.List.Quantifiers.{position-Some}
-use Rattle.p414_ast.specs.declared.syntax.Decl.{Decl}
-use Rattle.p414_ast.specs.declared.syntax.Decl.TheVariants as decl
-use Rattle.p414_ast.specs.declared.syntax.Sort.TheVariants as sort
-use Rattle.p414_rules.specs.Names.{Name, names_in, declared_in, number_of, numbered, is_state}
-use Rattle.p414_rules.specs.Unknown.{parse_of, lacks_start}
-use Rattle.p414_rules.specs.ParserGraph.{states, state_name, state_number}
+use Rattle.p414_syntax.specs.declared.syntax.Decl.{Decl}
+use Rattle.p414_syntax.specs.declared.syntax.Decl.TheVariants as decl
+use Rattle.p414_syntax.specs.declared.syntax.Sort.TheVariants as sort
+use Rattle.p414_syntax.specs.Names.{Name, names_in, declared_in, number_of, numbered, is_state}
+use Rattle.p414_syntax.specs.Unknown.{parse_of, lacks_start}
+use Rattle.p414_syntax.specs.ParserGraph.{states, state_name, state_number}
 use Rattle.parse_graph.specs.declared.nodes.Graph.{Graph}
 use Rattle.parse_graph.specs.Programs.{IsGraph, BeginsInStart, node_of}
 

@@ -9,11 +9,11 @@ use Rattle.std.proofs.lemmas.List.Concat.{flat_map-cons}
 use Rattle.std.proofs.lemmas.List.Quantifiers.{position-Some}
 use Rattle.digraph.specs.Graphs.{Among}
 use Rattle.digraph.proofs.Members.{among_place}
-use Rattle.p414_ast.specs.declared.parsers.Parser.{Parser}
-use Rattle.p414_ast.specs.declared.syntax.Decl.{Decl}
-use Rattle.p414_rules.specs.Names.{Name, find_name}
-use Rattle.p414_rules.specs.Walks.{IsWalk}
-use Rattle.p414_rules.specs.ParserGraph.{states, state_name, targets_of, extracts_in, next_in, extracts_of, next_of, HasIdleCycle}
+use Rattle.p414_syntax.specs.declared.parsers.Parser.{Parser}
+use Rattle.p414_syntax.specs.declared.syntax.Decl.{Decl}
+use Rattle.p414_syntax.specs.Names.{Name, find_name}
+use Rattle.p414_syntax.specs.Walks.{IsWalk}
+use Rattle.p414_syntax.specs.ParserGraph.{states, state_name, targets_of, extracts_in, next_in, extracts_of, next_of, HasIdleCycle}
 use Rattle.parse_graph.specs.declared.nodes.StateNode.{StateNode}
 use Rattle.parse_graph.specs.Graphs.{extracts_at, next_at, IsWhole, IsIdle}
 use Rattle.parse_graph.specs.Programs.{node_of}

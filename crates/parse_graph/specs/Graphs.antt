@@ -2,7 +2,7 @@
 -- project's own).
 use Rattle.std.specs.Prelude.{◌≡◌, ℕ, ◌<◌, ◌≤◌, List, [], ◌∷◌, length, flat_map, slice_get, Contains}
 use Rattle.std.specs.Option.{option_map_or}
-use Rattle.p414_rules.specs.Walks.{IsCycle}
+use Rattle.p414_syntax.specs.Walks.{IsCycle}
 use Rattle.parse_graph.specs.declared.nodes.StateNode.{StateNode}
 
 -- what a state extracts, and which states its return names

@@ -1,8 +1,8 @@
 -- The graph of a program's parser states (P4_14 1.0.5, "Parser Specification").
 use Rattle.std.specs.Prelude.{◌≡◌, ◌<◌, List, length, map, codes, Some, unwrap_or}
-use Rattle.p414_ast.specs.declared.parsers.Parser.{Parser}
-use Rattle.p414_ast.specs.declared.syntax.Decl.{Decl}
-use Rattle.p414_rules.specs.ParserGraph.{states, state_number, extracts_in, next_in}
+use Rattle.p414_syntax.specs.declared.parsers.Parser.{Parser}
+use Rattle.p414_syntax.specs.declared.syntax.Decl.{Decl}
+use Rattle.p414_syntax.specs.ParserGraph.{states, state_number, extracts_in, next_in}
 use Rattle.parse_graph.specs.declared.nodes.Graph.{Graph}
 use Rattle.parse_graph.specs.declared.nodes.StateNode.{StateNode}
 

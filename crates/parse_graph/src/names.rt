@@ -1,31 +1,40 @@
 // The names of states and instances.
 ghost use Rattle.std.specs.Prelude.{◌≡◌, ℕ, List, map, length, IfOk};
-ghost use Rattle.p414_ast.specs.declared.syntax.Sort.TheVariants as sort;
-ghost use Rattle.p414_rules.specs.Names.{names_in};
-ghost use Rattle.p414_rules.specs.ParserGraph.{states, state_name, state_number, instance_number};
+ghost use Rattle.p414_syntax.specs.declared.syntax.Sort.TheVariants as sort;
+ghost use Rattle.p414_syntax.specs.Names.{names_in};
+ghost use Rattle.p414_syntax.specs.ParserGraph.{states, state_name, state_number, instance_number};
 
 use name_numbers::{Numbering, narrow, number_names};
 use p4x_bits::OutOfMemory;
-use p414_ast::Decl;
+use p414_syntax::Decl;
 use std::alloc::Global;
 use std::marker::Model;
 
 /// The numbers of a program's parser states and instances. Contracts see the declarations of the program.
-#[derive(Drop)]
 pub struct Names<'s> {
     decls: &'s [Decl],
     states: Numbering<'s>,
     instances: Numbering<'s>,
 }
 
+impl Drop for Names<'_> {
+    fn drop(self) {
+        let Names {
+            decls: _decls,
+            states: _states,
+            instances: _instances,
+        } = self;
+    }
+}
+
 impl<'s> Model for Names<'s> {
     ghost use Rattle.std.specs.Prelude.{◌≡◌, List, map};
     ghost use Rattle.std.specs.Coded.{codes};
-    ghost use Rattle.p414_ast.specs.contracts.syntax.Decl as declaration;
-    ghost use Rattle.p414_ast.specs.declared.syntax.Decl.{Decl};
-    ghost use Rattle.p414_ast.specs.declared.syntax.Sort.TheVariants as sort;
-    ghost use Rattle.p414_rules.specs.Names.{names_in};
-    ghost use Rattle.p414_rules.specs.ParserGraph as parser_graph;
+    ghost use Rattle.p414_syntax.specs.contracts.syntax.Decl as declaration;
+    ghost use Rattle.p414_syntax.specs.declared.syntax.Decl.{Decl};
+    ghost use Rattle.p414_syntax.specs.declared.syntax.Sort.TheVariants as sort;
+    ghost use Rattle.p414_syntax.specs.Names.{names_in};
+    ghost use Rattle.p414_syntax.specs.ParserGraph as parser_graph;
 
     ghost Value = { List Decl };
 

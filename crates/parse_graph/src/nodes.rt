@@ -2,7 +2,6 @@
 use p4x_bits::Rows;
 
 /// A parser state.
-#[derive(Debug, Drop)]
 pub struct StateNode {
     /// The numbers of the instances that the state extracts, in order.
     pub extracts: Rows<u32>,
@@ -10,8 +9,17 @@ pub struct StateNode {
     pub next: Rows<u32>,
 }
 
+impl Drop for StateNode {
+    fn drop(self) {
+        let StateNode {
+            extracts: _extracts,
+            next: _next,
+        } = self;
+    }
+}
+
 /// The parser states of a program, in the order of the text, from number 0.
-#[derive(Debug, Drop)]
+#[derive(Drop)]
 pub struct Graph {
     /// The states.
     pub states: Rows<StateNode>,

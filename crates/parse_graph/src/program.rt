@@ -1,14 +1,14 @@
 // The graph of a program's parser states (P4_14 1.0.5, "Parser Specification").
 ghost use Rattle.std.specs.Prelude.{◌≡◌, ◌↔◌, ℕ, false, filter_map, map, IfOk};
-ghost use Rattle.p414_rules.specs.ParserGraph.{state_number, extracts_in, next_in, case_target_of, states, HasIdleCycle};
+ghost use Rattle.p414_syntax.specs.ParserGraph.{state_number, extracts_in, next_in, case_target_of, states, HasIdleCycle};
 ghost use Rattle.parse_graph.specs.Graphs.{IsWhole, IsIdle};
-ghost use Rattle.p414_rules.specs.Unknown.{lacks_start};
+ghost use Rattle.p414_syntax.specs.Unknown.{lacks_start};
 ghost use Rattle.parse_graph.specs.Programs.{IsGraph, BeginsInStart, node_of};
 
 use crate::names::Names;
 use crate::nodes::{Graph, StateNode};
 use p4x_bits::{Numbers, OutOfMemory, Rows};
-use p414_ast::{Case, CaseTarget, Decl, PStmt, Parser, Return, Syntax14};
+use p414_syntax::{Case, CaseTarget, Decl, PStmt, Parser, Return, Syntax14};
 use std::alloc::Global;
 
 /// What a state extracts, in order.

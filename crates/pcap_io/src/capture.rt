@@ -15,7 +15,7 @@ use std::alloc::Global;
 use std::collections::VecDeque;
 
 /// What a capture holds.
-#[derive(Debug, Drop)]
+#[derive(Drop)]
 pub struct Capture {
     /// The link type of its file header.
     pub link: u32,

@@ -15,7 +15,7 @@ pub(crate) const MICRO_MAGIC: u32 = 0xa1b2_c3d4;
 pub(crate) const NANO_MAGIC: u32 = 0xa1b2_3c4d;
 
 /// What a file header says.
-#[derive(Clone, Copy, Debug, PartialEq, Eq)]
+#[derive(Clone, Copy, PartialEq, Eq)]
 pub struct Head {
     /// The order of octets in which the file's numbers stand.
     pub order: Order,

@@ -5,7 +5,7 @@ ghost use Rattle.pcap_io.specs.Numbers.{half_at, word_at};
 use byteorder::{BigEndian, ByteOrder, LittleEndian};
 
 /// The order of octets in which a file's numbers stand.
-#[derive(Clone, Copy, Debug, PartialEq, Eq)]
+#[derive(Clone, Copy, PartialEq, Eq)]
 pub enum Order {
     /// The lowest octet first.
     Little,

@@ -12,7 +12,7 @@ use std::alloc::Global;
 use text_lines::{Base, are_digits, at_line, decimal_up_to, is_comment, next_line, next_word};
 
 /// The ports that packets come in on.
-#[derive(Debug, Drop)]
+#[derive(Drop)]
 pub struct Ports {
     /// The ports in order, each from 0 to `state_store::GREATEST_PORT`.
     pub list: Numbers,

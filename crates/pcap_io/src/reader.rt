@@ -19,13 +19,24 @@ use std::marker::Model;
 /// What it gives depends on the octets that were fed, and not on how they were cut into pieces. It holds
 /// the records that weren't taken yet, and the octets of the file header or of one record that isn't
 /// whole.
-#[derive(Drop)]
 pub struct CaptureReader {
     alloc: Global,
     head: Option<Head>,
     records: VecDeque<Record>,
     left: Vec<u8>,
     fault: Option<Fault>,
+}
+
+impl Drop for CaptureReader {
+    fn drop(self) {
+        let CaptureReader {
+            alloc: _alloc,
+            head: _head,
+            records: _records,
+            left: _left,
+            fault: _fault,
+        } = self;
+    }
 }
 
 impl Model for CaptureReader {

@@ -15,7 +15,7 @@ pub(crate) const RECORD_HEADER: usize = 16;
 pub const LONGEST_RECORD: u32 = 65_535;
 
 /// A recorded packet.
-#[derive(Debug, Drop)]
+#[derive(Drop)]
 pub struct Record {
     /// What was captured of it, at most `LONGEST_RECORD` octets.
     pub octets: Octets,

@@ -6,7 +6,7 @@ use crate::{Lookahead, Stack, Symbol};
 use p4x_bits::OutOfMemory;
 
 /// A row of a word: a class, for its first token, and the symbols that follow the token.
-#[derive(Clone, Copy, Debug)]
+#[derive(Clone, Copy)]
 pub struct Alternative<'r, C, A, W> {
     pub first: C,
     pub rest: &'r [Symbol<C, A, W>],

@@ -2,7 +2,7 @@
 use crate::{Otherwise, Symbol};
 
 /// A row of a word.
-#[derive(Clone, Copy, Debug)]
+#[derive(Clone, Copy)]
 pub enum Row<'r, C, A, W> {
     /// A class, for the first token, and the symbols that follow the token.
     Plain(C, &'r [Symbol<C, A, W>]),
@@ -13,7 +13,7 @@ pub enum Row<'r, C, A, W> {
 }
 
 /// The rows of a word, the first first, and what the word does where none of them fits.
-#[derive(Clone, Copy, Debug)]
+#[derive(Clone, Copy)]
 pub struct WordRows<'r, C, A, W> {
     pub rows: &'r [Row<'r, C, A, W>],
     pub otherwise: Otherwise<A>,

@@ -1,7 +1,7 @@
 // The symbols that the rows of a grammar are made of.
 
 /// A symbol that a parser has still to find: of the classes `C`, the actions `A` and the words `W`.
-#[derive(Clone, Copy, Debug, PartialEq, Eq)]
+#[derive(Clone, Copy, PartialEq, Eq)]
 pub enum Symbol<C, A, W> {
     /// A token of this class.
     Token(C),
@@ -12,7 +12,7 @@ pub enum Symbol<C, A, W> {
 }
 
 /// What a word of the grammar does where none of its rows fits the next token.
-#[derive(Clone, Copy, Debug, PartialEq, Eq)]
+#[derive(Clone, Copy, PartialEq, Eq)]
 pub enum Otherwise<A> {
     /// The word can't stand for no token, so the token is refused.
     Refuse,

@@ -8,17 +8,17 @@ use std::marker::Model;
 
 /// Values of one sort that are built, and not part of another yet. Contracts see the list of them, the newest first.
 #[derive(Drop)]
-pub struct ValueStack<T: Drop> {
+pub struct ValueStack<T> {
     items: Vec<T>,
 }
 
-impl<T: Drop> Model for ValueStack<T> {
+impl<T> Model for ValueStack<T> {
     ghost Value = { List T };
 
     ghost view = { λ stack. reverse stack.items.items };
 }
 
-impl<T: Drop> ValueStack<T> {
+impl<T> ValueStack<T> {
     /// No values. It takes no memory until the first push.
     pub fn new(alloc: Global) -> Self
         ensures { result ≡ [] }
@@ -28,6 +28,23 @@ impl<T: Drop> ValueStack<T> {
         }
     }
 
+    /// Takes the newest value off, if there is one.
+    pub fn pop(&mut self) -> Option<T>
+        ensures { MatchOption result ((self.old ≡ []) × (self.new ≡ [])) (λ item. self.old ≡ item ∷ self.new) }
+    {
+        self.items.pop()
+    }
+
+    /// The newest value, if there is one.
+    pub fn newest(&self) -> Option<&T>
+        ensures { MatchOption result (self.now ≡ []) (λ item. (other : T) → newest other self.now ≡ item.now) }
+    {
+        self.items.last()
+    }
+}
+
+// What lets go of items.
+impl<T: Drop> ValueStack<T> {
     /// Puts a value in front of the others. For want of memory all stays as it was, and the value is let go.
     pub fn push(&mut self, item: T) -> Result<(), OutOfMemory>
         ensures ok { OnOk result (self.new ≡ item ∷ self.old) }
@@ -44,20 +61,6 @@ impl<T: Drop> ValueStack<T> {
         self.items.clear();
     }
 
-    /// Takes the newest value off, if there is one.
-    pub fn pop(&mut self) -> Option<T>
-        ensures { MatchOption result ((self.old ≡ []) × (self.new ≡ [])) (λ item. self.old ≡ item ∷ self.new) }
-    {
-        self.items.pop()
-    }
-
-    /// The newest value, if there is one.
-    pub fn newest(&self) -> Option<&T>
-        ensures { MatchOption result (self.now ≡ []) (λ item. (other : T) → newest other self.now ≡ item.now) }
-    {
-        self.items.last()
-    }
-
     /// Takes the newest value off; where there is none, gives the other one.
     pub fn pop_or(&mut self, other: T) -> T
         ensures newest { result ≡ newest other self.old }
@@ -66,6 +69,18 @@ impl<T: Drop> ValueStack<T> {
         match self.items.pop() {
             Some(item) => item,
             None => other,
+        }
+    }
+}
+
+impl<T> ValueStack<Rows<T>> {
+    /// The items of the newest list, and none where there is no list.
+    pub fn newest_list(&self) -> &[T]
+        ensures { result.now ≡ newest [] self.now }
+    {
+        match self.items.last() {
+            Some(list) => list.as_slice(),
+            None => &[],
         }
     }
 }
@@ -88,16 +103,6 @@ impl<T: Drop> ValueStack<Rows<T>> {
         let mut list = self.pop_list(alloc);
         list.push(item)?;
         self.push(list)
-    }
-
-    /// The items of the newest list, and none where there is no list.
-    pub fn newest_list(&self) -> &[T]
-        ensures { result.now ≡ newest [] self.now }
-    {
-        match self.items.last() {
-            Some(list) => list.as_slice(),
-            None => &[],
-        }
     }
 }
 

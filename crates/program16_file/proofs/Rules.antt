@@ -2,9 +2,9 @@
 use Rattle.std.proofs.Common.{◌≡◌, inl, inr, List, [], ◌∷◌, ℕ, None, sym, ◌∙◌, ap}
 use Rattle.p4x_fault.specs.declared.Fault.{Fault as Refusal}
 use Rattle.p4x_fault.specs.declared.Rule.TheVariants.{T}
-use Rattle.p416_ast.specs.declared.program.Syntax16.{Syntax16}
-use Rattle.p416_rules.specs.declared.rule.ProgramRule.{ProgramRule}
-use Rattle.p416_rules.specs.Breaks.{IsBroken, Breaks16, IsFirstBroken, BreaksNone, program_rules, rule_number, rule_fault}
+use Rattle.p416_syntax.specs.declared.program.Syntax16.{Syntax16}
+use Rattle.p416_syntax.specs.declared.rule.ProgramRule.{ProgramRule}
+use Rattle.p416_syntax.specs.Breaks.{IsBroken, Breaks16, IsFirstBroken, BreaksNone, program_rules, rule_number, rule_fault}
 use Rattle.p416_types.specs.Answers.{IsAccepted}
 
 first_once : (s : Syntax16) (rules : List ProgramRule) (a b : ProgramRule) → IsFirstBroken s rules a → IsFirstBroken s rules b → a ≡ b

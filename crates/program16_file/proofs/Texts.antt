@@ -1,9 +1,9 @@
 -- One thing only comes of a text.
 use Rattle.std.proofs.Common.{◌≡◌, inl, inr, ℕ, List, Result, Ok, Err, OnOk, sym, ◌∙◌, ap, subst}
 use Rattle.p4x_fault.specs.declared.Fault.{Fault as Refusal}
-use Rattle.p416_ast.specs.declared.program.Syntax16.{Syntax16}
-use Rattle.p416_rules.specs.declared.rule.ProgramRule.{ProgramRule}
-use Rattle.p416_rules.specs.Breaks.{Breaks16, rule_number, rule_fault}
+use Rattle.p416_syntax.specs.declared.program.Syntax16.{Syntax16}
+use Rattle.p416_syntax.specs.declared.rule.ProgramRule.{ProgramRule}
+use Rattle.p416_syntax.specs.Breaks.{Breaks16, rule_number, rule_fault}
 use Rattle.p416_reader.specs.Reading.{Reads16, IsRefused16}
 use Rattle.p416_types.specs.Answers.{IsAccepted}
 use Rattle.file_work.specs.declared.stop.Stop.{Stop}

@@ -1,6 +1,6 @@
 -- What the reading of a program's file answers (this project's own).
 use Rattle.std.specs.Prelude.{◌≡◌, List, ℕ, Option, Result, Ok, Err}
-use Rattle.p416_ast.specs.declared.program.Syntax16.{Syntax16}
+use Rattle.p416_syntax.specs.declared.program.Syntax16.{Syntax16}
 use Rattle.file_work.specs.declared.stop.Stop.{Stop}
 use Rattle.file_work.specs.Phases.{Loosely}
 use Rattle.program16_file.specs.Programs.{ProgramIs}

@@ -1,6 +1,6 @@
 -- The file of a P4_16 program as the cause of a status (this project's own).
 use Rattle.std.specs.Prelude.{List, ℕ, Ok, Err}
-use Rattle.p416_ast.specs.declared.program.Syntax16.{Syntax16}
+use Rattle.p416_syntax.specs.declared.program.Syntax16.{Syntax16}
 use Rattle.p4x_fault.specs.declared.Fault.{Fault as Refusal}
 use Rattle.file_work.specs.declared.stop.Limited.TheVariants as limited
 use Rattle.file_work.specs.declared.stop.Stop.TheVariants.{Text, Limit}

@@ -1,7 +1,7 @@
 // The program of a file.
 ghost use Rattle.std.specs.Prelude.{◌≡◌, [], ℕ, List, Some, Option, IsTrue, IfErr, OnOk};
 ghost use Rattle.p4x_io.specs.Desk.{Moves, Rose};
-ghost use Rattle.p416_ast.specs.Spelt.{is_spelt16};
+ghost use Rattle.p416_syntax.specs.Spelt.{is_spelt16};
 ghost use Rattle.file_work.specs.Works.{Blames};
 ghost use Rattle.program16_file.specs.Programs.{IsTextStop, ReadsOnce};
 ghost use Rattle.program16_file.specs.Answers.{AnswersFile};
@@ -9,8 +9,8 @@ ghost use Rattle.program16_file.specs.internal.Judged.{AnswersSyntax, AnswersTex
 
 use file_work::{Limited, Stop};
 use p4x_io::{Desk, ReadFault, read_file};
-use p416_ast::Syntax16;
 use p416_reader::{ReadError, read16};
+use p416_syntax::Syntax16;
 use p416_types::{Check16, Program16, check16};
 use std::alloc::Global;
 

@@ -1,7 +1,7 @@
 -- The work of a command that reads a program, at each of its exits.
 use Rattle.std.proofs.Common.{◌≡◌, inl, inr, ℕ, List, [], ◌∷◌, Option, Some, Result, Ok, Err, refl, sym, ap, subst}
 use Rattle.p4x_io.specs.Desk.{DeskView, Rose, Moves}
-use Rattle.p414_ast.specs.declared.syntax.Syntax14.{Syntax14}
+use Rattle.p414_syntax.specs.declared.syntax.Syntax14.{Syntax14}
 use Rattle.file_work.specs.declared.stop.Stop.{Stop}
 use Rattle.file_work.specs.declared.stop.Stop.TheVariants.{Memory}
 use Rattle.file_work.specs.Works.{Held, Leaves, Tells, Works, Blames}

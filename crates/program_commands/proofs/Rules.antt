@@ -1,12 +1,12 @@
 -- A program breaks one rule at most as its least, and one that is accepted none.
 use Rattle.std.proofs.Common.{◌≡◌, inl, inr, Bool, true, false, ◌||◌, List, [], ◌∷◌, refl, sym, ◌∙◌}
 use Rattle.std.specs.Bool.{IsTrue}
-use Rattle.p414_ast.specs.declared.syntax.Decl.{Decl}
-use Rattle.p414_ast.specs.declared.syntax.Syntax14.{Syntax14}
-use Rattle.p414_rules.specs.declared.rule.ProgramRule.{ProgramRule}
-use Rattle.p414_rules.specs.Breaks.{IsBroken, Breaks14, IsFirstBroken, BreaksNone, program_rules}
-use Rattle.p414_rules.specs.ParserGraph.{HasNoOrder}
-use Rattle.p414_rules.specs.Unknown.{lacks_start, lacks_ingress}
+use Rattle.p414_syntax.specs.declared.syntax.Decl.{Decl}
+use Rattle.p414_syntax.specs.declared.syntax.Syntax14.{Syntax14}
+use Rattle.p414_syntax.specs.declared.rule.ProgramRule.{ProgramRule}
+use Rattle.p414_syntax.specs.Breaks.{IsBroken, Breaks14, IsFirstBroken, BreaksNone, program_rules}
+use Rattle.p414_syntax.specs.ParserGraph.{HasNoOrder}
+use Rattle.p414_syntax.specs.Unknown.{lacks_start, lacks_ingress}
 use Rattle.p414_body_check.specs.Answers.{IsAccepted}
 
 first_once : (ds : List Decl) (rules : List ProgramRule) (a b : ProgramRule) → IsFirstBroken ds rules a → IsFirstBroken ds rules b → a ≡ b

@@ -1,9 +1,9 @@
 -- One thing only comes of a text.
 use Rattle.std.proofs.Common.{◌≡◌, inl, inr, ℕ, List, Result, Ok, Err, OnOk, sym, ◌∙◌, ap, subst}
 use Rattle.p4x_fault.specs.declared.Fault.{Fault as Refusal}
-use Rattle.p414_ast.specs.declared.syntax.Syntax14.{Syntax14}
-use Rattle.p414_rules.specs.declared.rule.ProgramRule.{ProgramRule}
-use Rattle.p414_rules.specs.Breaks.{Breaks14, rule_fault}
+use Rattle.p414_syntax.specs.declared.syntax.Syntax14.{Syntax14}
+use Rattle.p414_syntax.specs.declared.rule.ProgramRule.{ProgramRule}
+use Rattle.p414_syntax.specs.Breaks.{Breaks14, rule_fault}
 use Rattle.p414_reader.specs.Reading.{Reads14, IsRefused14}
 use Rattle.p414_body_check.specs.Answers.{IsAccepted}
 use Rattle.file_work.specs.declared.stop.Stop.{Stop}

@@ -1,6 +1,6 @@
 -- What the reading of a program's file answers (this project's own).
 use Rattle.std.specs.Prelude.{◌≡◌, List, ℕ, Option, Result, Ok, Err}
-use Rattle.p414_ast.specs.declared.syntax.Syntax14.{Syntax14}
+use Rattle.p414_syntax.specs.declared.syntax.Syntax14.{Syntax14}
 use Rattle.file_work.specs.declared.stop.Stop.{Stop}
 use Rattle.file_work.specs.Phases.{Loosely}
 use Rattle.program_commands.specs.Programs.{ProgramIs}

@@ -1,6 +1,6 @@
 -- The commands `check` and `order`: what is due for what the file of the program holds (this project's own).
 use Rattle.std.specs.Prelude.{◌≡◌, ◌⊎◌, List, ℕ, [], Result, Ok, Err}
-use Rattle.p414_ast.specs.declared.syntax.Syntax14.{Syntax14}
+use Rattle.p414_syntax.specs.declared.syntax.Syntax14.{Syntax14}
 use Rattle.p4x_fault.specs.declared.Fault.{Fault as Refusal}
 use Rattle.file_work.specs.declared.stop.Limited.TheVariants as limited
 use Rattle.file_work.specs.declared.stop.Stop.{Stop}

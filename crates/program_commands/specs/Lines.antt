@@ -1,11 +1,11 @@
 -- What the commands print of a program (this project's own).
 use Rattle.std.specs.Prelude.{◌≡◌, ℕ, List, ◌++◌, flat_map, codes, slice_get, unwrap_or}
-use Rattle.p414_ast.specs.declared.syntax.Decl.{Decl}
-use Rattle.p414_ast.specs.declared.syntax.Syntax14.{Syntax14}
-use Rattle.p414_ast.specs.declared.syntax.Sort.TheVariants as sort
-use Rattle.p414_rules.specs.Names.{Name, names_in}
-use Rattle.p414_rules.specs.ParserGraph.{Order}
-use Rattle.p414_rules.specs.Primitives.{standard_metadata}
+use Rattle.p414_syntax.specs.declared.syntax.Decl.{Decl}
+use Rattle.p414_syntax.specs.declared.syntax.Syntax14.{Syntax14}
+use Rattle.p414_syntax.specs.declared.syntax.Sort.TheVariants as sort
+use Rattle.p414_syntax.specs.Names.{Name, names_in}
+use Rattle.p414_syntax.specs.ParserGraph.{Order}
+use Rattle.p414_syntax.specs.Primitives.{standard_metadata}
 
 -- the line of a program that is taken
 abbrev pub accepted_line : List ℕ

@@ -12,7 +12,7 @@ use crate::program::read_program;
 use file_work::Stop;
 use p4x_bits::{Octets, OutOfMemory};
 use p4x_io::Desk;
-use p414_ast::Syntax14;
+use p414_syntax::Syntax14;
 use std::alloc::Global;
 
 /// The line of a program that is taken.

@@ -1,14 +1,14 @@
 // The names of a program's headers, in the order in which they leave.
 ghost use Rattle.std.specs.Prelude.{◌≡◌, map, IfOk};
-ghost use Rattle.p414_ast.specs.declared.syntax.Sort.TheVariants as sort;
-ghost use Rattle.p414_rules.specs.Names.{names_in};
-ghost use Rattle.p414_rules.specs.ParserGraph.{Order};
+ghost use Rattle.p414_syntax.specs.declared.syntax.Sort.TheVariants as sort;
+ghost use Rattle.p414_syntax.specs.Names.{names_in};
+ghost use Rattle.p414_syntax.specs.ParserGraph.{Order};
 ghost use Rattle.p414_body_check.specs.Answers.{IsAccepted};
 ghost use Rattle.program_commands.specs.Lines.{instance_name, instance_lines};
 
 use deparse_order::OrderFault;
 use p4x_bits::{Octets, OutOfMemory, Rows};
-use p414_ast::{Decl, Syntax14};
+use p414_syntax::{Decl, Syntax14};
 use parse_graph::graph;
 use std::alloc::Global;
 

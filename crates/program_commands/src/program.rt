@@ -8,9 +8,9 @@ ghost use Rattle.program_commands.specs.internal.Judged.{AnswersSyntax, AnswersT
 
 use file_work::{Limited, Stop};
 use p4x_io::{Desk, ReadFault, read_file};
-use p414_ast::Syntax14;
 use p414_body_check::{Check14, Program14, check14};
 use p414_reader::{ReadError, read14};
+use p414_syntax::Syntax14;
 use std::alloc::Global;
 
 /// The most octets of a program.

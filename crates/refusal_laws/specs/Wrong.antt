@@ -1,22 +1,22 @@
 -- The first sample program, and programs of P4_16 that are each wrong in one place (this project's own).
 use Rattle.std.specs.Prelude.{ℕ, List, [], ◌∷◌, Some, None, codes}
-use Rattle.p414_ast.specs.declared.parts.Inst.{Inst}
-use Rattle.p414_ast.specs.declared.headers.Field.{Field as DeclaredField}
-use Rattle.p414_ast.specs.declared.headers.FieldWidth.TheVariants.{Bits}
-use Rattle.p414_ast.specs.declared.parsers.PStmt.TheVariants.{Extract}
-use Rattle.p414_ast.specs.declared.parsers.Return.TheVariants.{State}
-use Rattle.p414_ast.specs.declared.actions.Arg.TheVariants as arg
-use Rattle.p414_ast.specs.declared.tables.TableAttr.TheVariants.{Actions, DefaultAction}
-use Rattle.p414_ast.specs.declared.syntax.Decl.TheVariants as decl
-use Rattle.p414_ast.specs.declared.syntax.Syntax14.{Syntax14}
-use Rattle.p414_ast.specs.Tree.{no_statements as nothing, then as behind, apply}
+use Rattle.p414_syntax.specs.declared.parts.Inst.{Inst}
+use Rattle.p414_syntax.specs.declared.headers.Field.{Field as DeclaredField}
+use Rattle.p414_syntax.specs.declared.headers.FieldWidth.TheVariants.{Bits}
+use Rattle.p414_syntax.specs.declared.parsers.PStmt.TheVariants.{Extract}
+use Rattle.p414_syntax.specs.declared.parsers.Return.TheVariants.{State}
+use Rattle.p414_syntax.specs.declared.actions.Arg.TheVariants as arg
+use Rattle.p414_syntax.specs.declared.tables.TableAttr.TheVariants.{Actions, DefaultAction}
+use Rattle.p414_syntax.specs.declared.syntax.Decl.TheVariants as decl
+use Rattle.p414_syntax.specs.declared.syntax.Syntax14.{Syntax14}
+use Rattle.p414_syntax.specs.Tree.{no_statements as nothing, then as behind, apply}
 use Rattle.p414_one_table.specs.declared.program.OneTable14.{OneTable14}
 use Rattle.p414_one_table.specs.declared.program.Field.{Field}
-use Rattle.p416_ast.specs.declared.parts.Note.TheVariants.{Name}
-use Rattle.p416_ast.specs.declared.controls.Local.{Local}
-use Rattle.p416_ast.specs.declared.controls.Local.TheVariants as local
-use Rattle.p416_ast.specs.declared.program.Syntax16.{Syntax16}
-use Rattle.p416_ast.specs.Tree.{Stmt16, no_statements}
+use Rattle.p416_syntax.specs.declared.parts.Note.TheVariants.{Name}
+use Rattle.p416_syntax.specs.declared.controls.Local.{Local}
+use Rattle.p416_syntax.specs.declared.controls.Local.TheVariants as local
+use Rattle.p416_syntax.specs.declared.program.Syntax16.{Syntax16}
+use Rattle.p416_syntax.specs.Tree.{Stmt16, no_statements}
 use Rattle.one_table_text.specs.Programs.{header16, header_struct, metadata_struct, checksum_params, switch_params, deparser_params, only_statement, header_body, parser16, control16, empty_control, action16, table16, packet_dropped, table_applied, apply_or_drop, block_names}
 
 -- A header of 14 octets; each packet that has them is sent to port 3.

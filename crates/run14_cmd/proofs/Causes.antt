@@ -19,7 +19,7 @@ use Rattle.run_stream.proofs.Whole.{Whole, whole_capture, empty_reports}
 use Rattle.p414_laws.proofs.Whole.{comes_to_one_thing}
 use Rattle.p414_sem.specs.Controls.{Setting}
 use Rattle.p414_sem.specs.Runs.{Run14}
-use Rattle.p414_ast.specs.declared.syntax.Syntax14.{Syntax14}
+use Rattle.p414_syntax.specs.declared.syntax.Syntax14.{Syntax14}
 use Rattle.program_commands.specs.Answers.{ComesOnce}
 use Rattle.program_commands.specs.Programs.{ReadsOnce}
 use Rattle.program_commands.proofs.Stops.{one_program}

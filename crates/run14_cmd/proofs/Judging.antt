@@ -14,7 +14,7 @@ use Rattle.file_work.specs.Stops.{code_of, line_of, stop_code}
 use Rattle.file_work.proofs.Ends.{is_program, is_unfit, is_refused, is_limit}
 use Rattle.file_work.proofs.Order.{due_status, status_here, stops_or_on, stops_by_own}
 use Rattle.command_inputs.proofs.Ends.{EntriesEnd, entries_ends, PortsEnd, ports_ends}
-use Rattle.p414_ast.specs.declared.syntax.Syntax14.{Syntax14}
+use Rattle.p414_syntax.specs.declared.syntax.Syntax14.{Syntax14}
 use Rattle.p414_sem.specs.Signatures.{signature14}
 use Rattle.program_commands.specs.Answers.{ComesOnce}
 use Rattle.program_commands.specs.Commands.{RefusesText, OverText}

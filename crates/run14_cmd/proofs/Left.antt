@@ -9,7 +9,7 @@ use Rattle.file_work.specs.Phases.{Loosely}
 use Rattle.file_work.specs.Works.{IsPart, Leaves}
 use Rattle.file_work.proofs.Files.{part_empty, put_whole, put_part}
 use Rattle.run_stream.specs.Captured.{Reports, DeliversLine}
-use Rattle.p414_ast.specs.declared.syntax.Syntax14.{Syntax14}
+use Rattle.p414_syntax.specs.declared.syntax.Syntax14.{Syntax14}
 use Rattle.p414_sem.specs.Expanded.{Expanded, IsExpanded}
 use Rattle.run14_cmd.specs.Run14.{Run14Due, StopsBefore, Begins, capture_reports, setting_for, ran_word, untouched, delivered}
 

@@ -12,7 +12,7 @@ use Rattle.file_work.proofs.Order.{loosely_as, loosely_loose}
 use Rattle.command_inputs.specs.EntriesFile.{IsEntriesStop}
 use Rattle.command_inputs.specs.PortsFile.{ports_end, IsPortsStop}
 use Rattle.run_stream.specs.Captured.{StopsRun}
-use Rattle.p414_ast.specs.declared.syntax.Syntax14.{Syntax14}
+use Rattle.p414_syntax.specs.declared.syntax.Syntax14.{Syntax14}
 use Rattle.program_commands.specs.Answers.{AnswersFile, ComesOnce}
 use Rattle.program_commands.specs.Programs.{ProgramIs, IsProgramStop}
 use Rattle.program_commands.proofs.Stops.{alone_once, taken_goes_on}

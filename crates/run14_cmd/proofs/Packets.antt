@@ -14,7 +14,7 @@ use Rattle.file_work.specs.Works.{Tells}
 use Rattle.command_inputs.specs.EntriesFile.{entries_in}
 use Rattle.command_inputs.specs.PortsFile.{ports_end}
 use Rattle.run_stream.proofs.Packets.{packets_fit}
-use Rattle.p414_ast.specs.declared.syntax.Syntax14.{Syntax14}
+use Rattle.p414_syntax.specs.declared.syntax.Syntax14.{Syntax14}
 use Rattle.p414_sem.specs.Signatures.{signature14}
 use Rattle.program_commands.specs.Answers.{AnswersFile}
 use Rattle.run14_cmd.specs.Calls.{PacketsFit, EntriesFit}

@@ -8,7 +8,7 @@ use Rattle.file_work.specs.Phases.{Loosely}
 use Rattle.file_work.proofs.Order.{loosely_as}
 use Rattle.command_inputs.specs.EntriesFile.{entries_in}
 use Rattle.command_inputs.specs.PortsFile.{ports_end}
-use Rattle.p414_ast.specs.declared.syntax.Syntax14.{Syntax14}
+use Rattle.p414_syntax.specs.declared.syntax.Syntax14.{Syntax14}
 use Rattle.p414_sem.specs.Signatures.{signature14}
 use Rattle.program_commands.specs.Answers.{AnswersFile}
 use Rattle.program_commands.specs.Programs.{ProgramIs}

@@ -14,7 +14,7 @@ use Rattle.file_work.proofs.Ways.{Ends, Known, comes_where}
 use Rattle.command_inputs.specs.PortsFile.{ports_end}
 use Rattle.command_inputs.proofs.Ends.{EntriesEnd, entries_ends, PortsEnd, ports_ends}
 use Rattle.run_stream.proofs.Whole.{capture_stop, reports_stop, CaptureEnd, capture_ends, capture_taken, capture_over}
-use Rattle.p414_ast.specs.declared.syntax.Syntax14.{Syntax14}
+use Rattle.p414_syntax.specs.declared.syntax.Syntax14.{Syntax14}
 use Rattle.p414_sem.specs.Signatures.{signature14}
 use Rattle.program_commands.specs.Answers.{ComesOnce}
 use Rattle.program_commands.specs.Commands.{RefusesText, OverText}

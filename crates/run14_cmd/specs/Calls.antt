@@ -20,7 +20,7 @@ use Rattle.command_inputs.specs.PortsFile.{ports_end}
 use Rattle.run_stream.specs.Captured.{capture_limit, CaptureIs, IsOver, GivesNothing}
 use Rattle.run_stream.specs.Reports.{report_of, run_line}
 use Rattle.run_stream.specs.Runs.{Ran}
-use Rattle.p414_ast.specs.declared.syntax.Syntax14.{Syntax14}
+use Rattle.p414_syntax.specs.declared.syntax.Syntax14.{Syntax14}
 use Rattle.p414_reader.specs.Reading.{Reads14}
 use Rattle.p414_sem.specs.Expanded.{Expanded, IsExpanded}
 use Rattle.p414_sem.specs.Signatures.{signature14}

@@ -16,7 +16,7 @@ use Rattle.command_inputs.specs.PortsFile.{ports_end}
 use Rattle.run_stream.specs.Captured.{EndLines, Reports, reports_over, lined, StopsRun}
 use Rattle.run_stream.specs.Runs.{Ran}
 use Rattle.cell_lines.specs.Lines.{cell_lines}
-use Rattle.p414_ast.specs.declared.syntax.Syntax14.{Syntax14}
+use Rattle.p414_syntax.specs.declared.syntax.Syntax14.{Syntax14}
 use Rattle.program_commands.specs.Answers.{ComesOnce}
 use Rattle.program_commands.specs.Programs.{ProgramIs}
 use Rattle.p414_sem.specs.Controls.{Setting}

@@ -5,7 +5,6 @@ use p414_body_check::Program14;
 
 /// What the work has before anything is written: the program with its signature, what fills its tables, and the ports that packets come in
 /// on.
-#[derive(Drop)]
 pub struct Beginning {
     /// The program.
     pub program: Program14,
@@ -15,4 +14,15 @@ pub struct Beginning {
     pub entries: Entries,
     /// The ports that packets come in on.
     pub ports: Numbers,
+}
+
+impl Drop for Beginning {
+    fn drop(self) {
+        let Beginning {
+            program: _program,
+            signature: _signature,
+            entries: _entries,
+            ports: _ports,
+        } = self;
+    }
 }

@@ -16,9 +16,9 @@ use Rattle.file_work.proofs.Laws.{IsDone, left_fronts, left_ends, left_as_due, l
 use Rattle.file_work.proofs.Loose.{comes_loose, first_loose, loose_or, loose_says, of_ok, not_loose}
 use Rattle.file_work.proofs.Order.{due_status}
 use Rattle.run_stream.proofs.Whole.{Whole, whole_capture, empty_reports}
-use Rattle.v1_sem.specs.Surroundings.{Setting}
-use Rattle.v1_sem.specs.Runs.{Run16}
-use Rattle.p416_ast.specs.declared.program.Syntax16.{Syntax16}
+use Rattle.v1_core.specs.Surroundings.{Setting}
+use Rattle.v1_core.specs.Runs.{Run16}
+use Rattle.p416_syntax.specs.declared.program.Syntax16.{Syntax16}
 use Rattle.program16_file.specs.Answers.{ComesOnce}
 use Rattle.program16_file.specs.Programs.{ReadsOnce}
 use Rattle.program16_file.proofs.Stops.{one_program}

@@ -14,8 +14,8 @@ use Rattle.file_work.specs.Stops.{code_of, line_of, stop_code}
 use Rattle.file_work.proofs.Ends.{is_text, is_unfit, is_refused, is_limit}
 use Rattle.file_work.proofs.Order.{due_status, status_here, stops_or_on, stops_by_own}
 use Rattle.command_inputs.proofs.Ends.{EntriesEnd, entries_ends, PortsEnd, ports_ends}
-use Rattle.p416_ast.specs.declared.program.Syntax16.{Syntax16}
-use Rattle.v1_sem.specs.Signatures.{signature16}
+use Rattle.p416_syntax.specs.declared.program.Syntax16.{Syntax16}
+use Rattle.v1_core.specs.Signatures.{signature16}
 use Rattle.program16_file.specs.Answers.{ComesOnce}
 use Rattle.program16_file.specs.Causes.{RefusesText, OverText}
 use Rattle.program16_file.specs.Programs.{ProgramIs}

@@ -9,7 +9,7 @@ use Rattle.file_work.specs.Phases.{Loosely}
 use Rattle.file_work.specs.Works.{IsPart, Leaves}
 use Rattle.file_work.proofs.Files.{part_empty, put_whole, put_part}
 use Rattle.run_stream.specs.Captured.{Reports, DeliversLine}
-use Rattle.p416_ast.specs.declared.program.Syntax16.{Syntax16}
+use Rattle.p416_syntax.specs.declared.program.Syntax16.{Syntax16}
 use Rattle.run16_cmd.specs.Run16.{Run16Due, StopsBefore, Begins, capture_reports, setting_for, ran_word, untouched, delivered}
 
 module _ (f : Run16Files) (files : List ℕ → Option (List ℕ)) (old new : DeskView) where

@@ -12,7 +12,7 @@ use Rattle.file_work.proofs.Order.{loosely_as, loosely_loose}
 use Rattle.command_inputs.specs.EntriesFile.{IsEntriesStop}
 use Rattle.command_inputs.specs.PortsFile.{ports_end, IsPortsStop}
 use Rattle.run_stream.specs.Captured.{StopsRun}
-use Rattle.p416_ast.specs.declared.program.Syntax16.{Syntax16}
+use Rattle.p416_syntax.specs.declared.program.Syntax16.{Syntax16}
 use Rattle.program16_file.specs.Answers.{AnswersFile, ComesOnce}
 use Rattle.program16_file.specs.Programs.{ProgramIs, IsTextStop}
 use Rattle.program16_file.proofs.Stops.{alone_once, taken_goes_on}

@@ -14,8 +14,8 @@ use Rattle.file_work.specs.Works.{Tells}
 use Rattle.command_inputs.specs.EntriesFile.{entries_in}
 use Rattle.command_inputs.specs.PortsFile.{ports_end}
 use Rattle.run_stream.proofs.Packets.{packets_fit}
-use Rattle.p416_ast.specs.declared.program.Syntax16.{Syntax16}
-use Rattle.v1_sem.specs.Signatures.{signature16}
+use Rattle.p416_syntax.specs.declared.program.Syntax16.{Syntax16}
+use Rattle.v1_core.specs.Signatures.{signature16}
 use Rattle.program16_file.specs.Answers.{AnswersFile}
 use Rattle.run16_cmd.specs.Calls.{PacketsFit, EntriesFit}
 use Rattle.run16_cmd.specs.Run16.{filled}

@@ -8,8 +8,8 @@ use Rattle.file_work.specs.Phases.{Loosely}
 use Rattle.file_work.proofs.Order.{loosely_as}
 use Rattle.command_inputs.specs.EntriesFile.{entries_in}
 use Rattle.command_inputs.specs.PortsFile.{ports_end}
-use Rattle.p416_ast.specs.declared.program.Syntax16.{Syntax16}
-use Rattle.v1_sem.specs.Signatures.{signature16}
+use Rattle.p416_syntax.specs.declared.program.Syntax16.{Syntax16}
+use Rattle.v1_core.specs.Signatures.{signature16}
 use Rattle.program16_file.specs.Answers.{AnswersFile}
 use Rattle.program16_file.specs.Programs.{ProgramIs}
 use Rattle.run16_cmd.specs.Run16.{HasProgram, StopsBefore, filled}

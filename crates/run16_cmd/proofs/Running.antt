@@ -15,10 +15,10 @@ use Rattle.run_stream.specs.Captured.{Reports, DeliversLine, reports_over}
 use Rattle.run_stream.specs.Runs.{Ran, run_of}
 use Rattle.run_stream.specs.Runs as running
 use Rattle.run_stream.proofs.Whole.{same_reports}
-use Rattle.v1_sem.specs.Surroundings.{Setting}
-use Rattle.v1_sem.specs.Passes.{Between}
-use Rattle.v1_sem.specs.Runs.{machine16, before, Run16}
-use Rattle.v1_sem.specs.Signatures.{signature16}
+use Rattle.v1_core.specs.Surroundings.{Setting}
+use Rattle.v1_core.specs.Passes.{Between}
+use Rattle.v1_core.specs.Runs.{machine16, before, Run16}
+use Rattle.v1_core.specs.Signatures.{signature16}
 use Rattle.v1model_runner.specs.Runs.{IsBehind}
 use Rattle.run16_cmd.specs.Run16.{this_run, own_lines, capture_reports, ran_word}
 use Rattle.run16_cmd.specs.internal.Runner.{Running16, bound_of, outcome16, lines16}

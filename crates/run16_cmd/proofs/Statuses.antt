@@ -14,8 +14,8 @@ use Rattle.file_work.proofs.Ways.{Ends, Known, comes_where}
 use Rattle.command_inputs.specs.PortsFile.{ports_end}
 use Rattle.command_inputs.proofs.Ends.{EntriesEnd, entries_ends, PortsEnd, ports_ends}
 use Rattle.run_stream.proofs.Whole.{capture_stop, reports_stop, CaptureEnd, capture_ends, capture_taken, capture_over}
-use Rattle.p416_ast.specs.declared.program.Syntax16.{Syntax16}
-use Rattle.v1_sem.specs.Signatures.{signature16}
+use Rattle.p416_syntax.specs.declared.program.Syntax16.{Syntax16}
+use Rattle.v1_core.specs.Signatures.{signature16}
 use Rattle.program16_file.specs.Answers.{ComesOnce}
 use Rattle.program16_file.specs.Causes.{RefusesText, OverText}
 use Rattle.program16_file.specs.Programs.{ProgramIs}

@@ -19,10 +19,10 @@ use Rattle.command_inputs.specs.PortsFile.{ports_end}
 use Rattle.run_stream.specs.Captured.{capture_limit, CaptureIs, IsOver, GivesNothing}
 use Rattle.run_stream.specs.Reports.{report_of, run_line}
 use Rattle.run_stream.specs.Runs.{Ran}
-use Rattle.p416_ast.specs.declared.program.Syntax16.{Syntax16}
+use Rattle.p416_syntax.specs.declared.program.Syntax16.{Syntax16}
 use Rattle.p416_reader.specs.Reading.{Reads16}
-use Rattle.v1_sem.specs.Passes.{Between}
-use Rattle.v1_sem.specs.Signatures.{signature16}
+use Rattle.v1_core.specs.Passes.{Between}
+use Rattle.v1_core.specs.Signatures.{signature16}
 use Rattle.program16_file.specs.Causes.{RefusesText, OverText}
 use Rattle.program16_file.specs.Programs.{ProgramIs, ReadsOnce}
 use Rattle.run16_cmd.specs.Run16.{HasProgram, Begins, StopsAtProgram, StopsAtEntries, StopsBefore, TakesProgram, TakesEntries, TakesPorts, InOrder, KeepsInOrder, Run16Due, program_read, entries_read, ports_read, filled, setting_for, this_run, own_lines, capture_reports, ran_word}

@@ -5,7 +5,7 @@
 --
 -- `command_words` says which words are the command, `program16_file` what the file of a program comes to,
 -- `command_inputs` what those of entries and ports do, `run_stream` what the files and the line of a run are, and
--- `cell_lines` the lines of counters and registers. `Run16` of `v1_sem` is the run itself.
+-- `cell_lines` the lines of counters and registers. `Run16` of `v1_core` is the run itself.
 --
 -- `internal` has what only private functions and proofs name.
 pub mod Run16

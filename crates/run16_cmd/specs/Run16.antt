@@ -16,13 +16,13 @@ use Rattle.run_stream.specs.Captured.{EndLines, Reports, reports_over, lined, St
 use Rattle.run_stream.specs.Reports.{work_line}
 use Rattle.run_stream.specs.Runs.{Ran}
 use Rattle.cell_lines.specs.Lines.{cell_lines}
-use Rattle.p416_ast.specs.declared.program.Syntax16.{Syntax16}
+use Rattle.p416_syntax.specs.declared.program.Syntax16.{Syntax16}
 use Rattle.program16_file.specs.Answers.{ComesOnce}
 use Rattle.program16_file.specs.Programs.{ProgramIs}
-use Rattle.v1_sem.specs.Surroundings.{Setting}
-use Rattle.v1_sem.specs.Passes.{Between}
-use Rattle.v1_sem.specs.Runs.{Run16}
-use Rattle.v1_sem.specs.Signatures.{signature16}
+use Rattle.v1_core.specs.Surroundings.{Setting}
+use Rattle.v1_core.specs.Passes.{Between}
+use Rattle.v1_core.specs.Runs.{Run16}
+use Rattle.v1_core.specs.Signatures.{signature16}
 
 -- what the entries file comes to for a program
 abbrev pub filled : Run16Files → Held → Syntax16 → Result Entries Stop

@@ -2,7 +2,7 @@
 ghost use Rattle.std.specs.Prelude.{◌≡◌, ◌<◌, ◌^◌, length};
 ghost use Rattle.state_store.specs.Ports.{AreSessions};
 ghost use Rattle.fabric.specs.Numbers.{IsBound};
-ghost use Rattle.v1_sem.specs.Passes.{Between};
+ghost use Rattle.v1_core.specs.Passes.{Between};
 ghost use Rattle.v1_passes.specs.Runs.{between_of};
 ghost use Rattle.run16_cmd.specs.internal.Runner.{Running16 as Sets, outcome16, lines16, are_few};
 

@@ -6,7 +6,7 @@ ghost use Rattle.pcap_io.specs.Captures.{reading_of, IsRecord};
 ghost use Rattle.file_work.specs.Works.{Blames};
 ghost use Rattle.file_work.specs.Phases.{line_view};
 ghost use Rattle.run_stream.specs.Captured.{DeliversLine, StopsRun};
-ghost use Rattle.v1_sem.specs.Signatures.{signature16};
+ghost use Rattle.v1_core.specs.Signatures.{signature16};
 ghost use Rattle.v1_passes.specs.Runs.{between_of};
 ghost use Rattle.v1model_runner.specs.Runs.{IsBehind};
 ghost use Rattle.command_words.specs.Views.{run16_files_of};

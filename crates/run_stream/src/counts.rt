@@ -2,7 +2,7 @@
 
 /// How many packets of a run came in and were sent, and how many items the bound on passes cut, each modulo
 /// 2^64.
-#[derive(Clone, Copy, Debug, PartialEq, Eq, Drop)]
+#[derive(Clone, Copy, PartialEq, Eq, Drop)]
 pub struct Counts {
     /// The packets that came in.
     pub arrivals: u64,

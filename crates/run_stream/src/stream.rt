@@ -17,7 +17,6 @@ use pcap_io::{Record, RecordReader, arrive, file_header, record_header};
 use std::alloc::Global;
 
 /// A run that goes on, with what it hasn't appended yet to the sent file and the report.
-#[derive(Drop)]
 pub struct Stream<'a> {
     alloc: Global,
     /// The ports of the packets that are still to come.
@@ -30,6 +29,19 @@ pub struct Stream<'a> {
     pub sent: Vec<u8>,
     /// The lines that aren't appended yet to the report.
     pub report: Vec<u8>,
+}
+
+impl Drop for Stream<'_> {
+    fn drop(self) {
+        let Stream {
+            alloc: _alloc,
+            ports: _ports,
+            headed: _headed,
+            counts: _counts,
+            sent: _sent,
+            report: _report,
+        } = self;
+    }
 }
 
 impl<'a> Stream<'a> {

@@ -3,9 +3,9 @@ use crate::programs::{parsed_of, program_of};
 use fabric::RequestKind;
 use p4x_bits::OutOfMemory;
 use p414_act_run::act14;
-use p414_ast::Rule14;
 use p414_body_check::Program14;
 use p414_state::{Request14, State14};
+use p414_syntax::Rule14;
 use state_store::Store;
 use std::alloc::Global;
 

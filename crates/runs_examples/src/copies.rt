@@ -5,9 +5,9 @@ ghost use Rattle.fabric.specs.Numbers.{HasPort};
 use crate::programs::{entries_of, program_of};
 use fabric::Arrival;
 use p4x_bits::{Octets, OutOfMemory};
-use p414_ast::Rule14;
 use p414_body_check::Program14;
 use p414_pipe_run::run14;
+use p414_syntax::Rule14;
 use std::alloc::Global;
 
 /// Each packet leaves on port 3.

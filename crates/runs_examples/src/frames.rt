@@ -6,7 +6,7 @@ ghost use Rattle.runs_examples.specs.Layouts.{small};
 use fabric::{Event, RequestKind};
 use p4x_bits::OutOfMemory;
 use std::alloc::Global;
-use v1_frames::{Frame, FrameLayout};
+use v1_core::{Frame, FrameLayout};
 
 /// A header of three fields, a stack of two elements, a truth value and an error.
 fn layout(alloc: Global) -> Result<FrameLayout, OutOfMemory>

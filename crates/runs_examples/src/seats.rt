@@ -1,9 +1,8 @@
 // Where the parts of a frame of P4_16 stand, by the values of the frame and the paths from there.
 use p4x_bits::OutOfMemory;
-use p416_ast::Syntax16;
-use p416_kinds::Kind;
-use p416_names::Top;
+use p416_names::{Kind, Top};
 use p416_reader::read16;
+use p416_syntax::Syntax16;
 use std::alloc::Global;
 use v1_layout::layout_of_kinds;
 use v1_seats::{Seat, TypeTable, seats_of};

@@ -3,7 +3,7 @@ ghost use Rattle.std.specs.Prelude.{◌≡◌, ◌^◌, ◌<◌, ◌≤◌, true
 ghost use Rattle.p414_state.specs.Packets.{IsHeader};
 
 use crate::programs::{program_of, state_of};
-use crate::stacks::all_copy;
+use crate::stacks::{all_copy, all_move};
 use fabric::{Event, RequestKind};
 use p414_body_check::Program14;
 use p414_state::{Request14, Standard, State14, layout14};
@@ -50,7 +50,7 @@ fn is_header(state: &State14, instance: u32) -> bool
 }
 
 /// Makes a header valid or invalid; false of metadata.
-fn put_valid(state: &mut State14, instance: u32, element: u32, on: bool) -> bool {
+pub fn put_valid(state: &mut State14, instance: u32, element: u32, on: bool) -> bool {
     is_header(state, instance) && state.put_valid(instance, element, on).is_ok()
 }
 
@@ -275,7 +275,10 @@ fn item_keeps(alloc: Global, program: &Program14) -> bool {
 fn are_kept(alloc: Global) -> bool {
     match program_of(alloc, PROGRAM) {
         Some(program) => {
-            item_keeps(alloc, &program) && serves(alloc, &program) && all_copy(alloc, &program)
+            item_keeps(alloc, &program)
+                && serves(alloc, &program)
+                && all_move(alloc, &program)
+                && all_copy(alloc, &program)
         }
         None => false,
     }

@@ -193,11 +193,20 @@ impl Colours {
 }
 
 /// The cells of an object, or the colours that it has left.
-#[derive(Drop)]
 pub enum Cells {
     Counts(Counts),
     Numbers(Numbers),
     Colours(Colours),
+}
+
+impl Drop for Cells {
+    fn drop(self) {
+        match self {
+            Cells::Counts(_a) => {}
+            Cells::Numbers(_a) => {}
+            Cells::Colours(_a) => {}
+        }
+    }
 }
 
 impl Cells {

@@ -17,7 +17,7 @@ pub const GREATEST_SESSION: u32 = 32_767;
 
 /// A clone session: a packet cloned under its number leaves by its port (P4_14 1.0.5, "Clone";
 /// v1model.p4: `clone`).
-#[derive(Clone, Copy, Debug, PartialEq, Eq)]
+#[derive(Clone, Copy, PartialEq, Eq)]
 pub struct Session {
     /// The session's number, from 0 to `GREATEST_SESSION`.
     pub number: u32,

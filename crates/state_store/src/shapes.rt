@@ -4,7 +4,7 @@ ghost use Rattle.state_store.specs.Cells.{size_of, kind_of, width_of};
 
 /// What a counter counts: packets, octets or both (P4_14 1.0.5, "Counters": the attribute `type`;
 /// v1model.p4: `CounterType`).
-#[derive(Clone, Copy, Debug, PartialEq, Eq)]
+#[derive(Clone, Copy, PartialEq, Eq)]
 pub enum Kind {
     Packets,
     Bytes,
@@ -13,7 +13,7 @@ pub enum Kind {
 
 /// A stateful object: what it is, and how many cells it has (P4_14 1.0.5, "Counters", "Meters" and
 /// "Registers"; v1model.p4: `counter`, `direct_counter`, `register` and `meter`).
-#[derive(Clone, Copy, Debug, PartialEq, Eq)]
+#[derive(Clone, Copy, PartialEq, Eq)]
 pub enum Shape {
     /// A counter that actions count in by an index.
     Counter { kind: Kind, cells: u32 },

@@ -35,10 +35,18 @@ impl<T: Drop> From<AllocFailed<T>> for OutOfMemory {
 /// cell at most, but `clear` and `add`. (P4_14 1.0.5, "Counters", "Meters" and "Registers";
 /// v1model.p4. What an index out of range does, and that a meter's colours are handed in, is this
 /// project's own.)
-#[derive(Drop)]
 pub struct Store {
     shapes: Vec<Shape>,
     cells: Vec<Cells>,
+}
+
+impl Drop for Store {
+    fn drop(self) {
+        let Store {
+            shapes: _shapes,
+            cells: _cells,
+        } = self;
+    }
 }
 
 impl Model for Store {

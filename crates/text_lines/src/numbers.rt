@@ -5,7 +5,7 @@ ghost use Rattle.text_lines.specs.Numbers as numbers;
 ghost use Rattle.text_lines.specs.internal.Numbers.{FitsIn128};
 
 /// The base that a number is written in.
-#[derive(Clone, Copy, Debug, PartialEq, Eq)]
+#[derive(Clone, Copy, PartialEq, Eq)]
 pub enum Base {
     Binary,
     Decimal,

@@ -12,7 +12,7 @@ use std::alloc::Global;
 use thiserror::Error;
 
 /// What a piece of a text stands for.
-#[derive(Clone, Copy, Debug, PartialEq, Eq)]
+#[derive(Clone, Copy, PartialEq, Eq)]
 pub enum What<K> {
     /// One blank.
     Blank,
@@ -23,7 +23,7 @@ pub enum What<K> {
 }
 
 /// What a text begins with, and how many octets that has.
-#[derive(Clone, Copy, Debug, PartialEq, Eq)]
+#[derive(Clone, Copy, PartialEq, Eq)]
 pub struct Piece<K> {
     pub what: What<K>,
     pub size: usize,
@@ -31,7 +31,7 @@ pub struct Piece<K> {
 
 /// A token: its token class, the octets of the text that it is written with, which are those from `from` up to
 /// but not with `to`, and the place of the first of them.
-#[derive(Clone, Copy, Debug, PartialEq, Eq)]
+#[derive(Clone, Copy, PartialEq, Eq)]
 pub struct Token<K> {
     pub kind: K,
     pub from: usize,

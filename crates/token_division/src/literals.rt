@@ -8,7 +8,7 @@ ghost use Rattle.token_division.specs.Literals.{FitsIn128, IsLiteral, literal_va
 use crate::octets::{is_decimal, octet_at};
 
 /// The base that a number is written in.
-#[derive(Clone, Copy, Debug, PartialEq, Eq)]
+#[derive(Clone, Copy, PartialEq, Eq)]
 pub enum Base {
     Binary,
     Decimal,
@@ -16,7 +16,7 @@ pub enum Base {
 }
 
 /// A number as it is written: its value, or none where that is over 2^128 - 1, and its length in octets.
-#[derive(Clone, Copy, Debug, PartialEq, Eq)]
+#[derive(Clone, Copy, PartialEq, Eq)]
 pub struct Literal {
     pub value: Option<u128>,
     pub size: usize,

@@ -2,14 +2,14 @@
 use Rattle.std.proofs.Common.{◌≡◌, inl, inr, ◌||◌, not, IsTrue, Bool, true, false, List, [], ◌∷◌, flat_map, refl, ap, ◌∙◌, subst}
 use Rattle.std.specs.List.{list_any}
 use Rattle.std.proofs.lemmas.List.Folds.{list_any-append}
-use Rattle.p416_ast.specs.declared.program.Decl16.{Decl16}
-use Rattle.p416_ast.specs.declared.program.Syntax16.{Syntax16}
-use Rattle.p416_rules.specs.Uses.{Use}
-use Rattle.p416_rules.specs.Unknown.{is_misnamed}
-use Rattle.p416_rules.specs.Types.{is_mistyped}
-use Rattle.p416_rules.specs.Sizes.{leaves_size}
-use Rattle.p416_rules.specs.Main.{is_main}
-use Rattle.p416_rules.specs.Breaks.{has_use, SomeDeclaration, scope_of, uses_in, program_uses, IsBroken, program_rules, BreaksNone}
+use Rattle.p416_syntax.specs.declared.program.Decl16.{Decl16}
+use Rattle.p416_syntax.specs.declared.program.Syntax16.{Syntax16}
+use Rattle.p416_syntax.specs.Uses.{Use}
+use Rattle.p416_syntax.specs.Unknown.{is_misnamed}
+use Rattle.p416_syntax.specs.Types.{is_mistyped}
+use Rattle.p416_syntax.specs.Sizes.{leaves_size}
+use Rattle.p416_syntax.specs.Main.{is_main}
+use Rattle.p416_syntax.specs.Breaks.{has_use, SomeDeclaration, scope_of, uses_in, program_uses, IsBroken, program_rules, BreaksNone}
 use Rattle.v1_ready_laws.specs.Rules.{KeepsAll}
 use Rattle.v1_block_laws.proofs.Tests.{of_one}
 use Rattle.v1_block_laws.proofs.Finding.{Found}

@@ -1,20 +1,20 @@
 -- The numbers of variables that are in scope together.
 use Rattle.std.proofs.Common.{◌≡◌, ◌≢◌, ◌⊎◌, inl, inr, ℕ, suc, ◌+◌, ◌≤◌, ◌<◌, Bool, true, false, cond, Some, List, [], ◌∷◌, ◌++◌, length, map, flat_map, filter_map, subst, arith, length-append}
 use Rattle.std.specs.Str.{bytes_eq}
-use Rattle.p416_ast.specs.declared.parts.Param.{Param}
-use Rattle.p416_ast.specs.declared.parsers.Var.{Var}
-use Rattle.p416_ast.specs.declared.parsers.State.{State}
-use Rattle.p416_ast.specs.declared.controls.Action16.{Action16}
-use Rattle.p416_ast.specs.declared.controls.Local.{Local}
-use Rattle.p416_ast.specs.declared.controls.Local.TheVariants as local
-use Rattle.p416_rules.specs.Names.{Name}
-use Rattle.p416_rules.specs.Kinds.{Kind}
-use Rattle.p416_rules.specs.Scopes.{Scope}
-use Rattle.p416_rules.specs.Declarations.{action_in}
-use Rattle.v1_sem.specs.Slots.{var_kind, parameter_kind, state_kinds, local_kinds}
-use Rattle.v1_sem.specs.Surroundings.{action_called}
-use Rattle.v1_sem.specs.Numbered.{Variable, InScope, declared_at}
-use Rattle.v1_frame_values.specs.Scopes.{AreAway, AreApart, AreOthers, IsScope}
+use Rattle.p416_syntax.specs.declared.parts.Param.{Param}
+use Rattle.p416_syntax.specs.declared.parsers.Var.{Var}
+use Rattle.p416_syntax.specs.declared.parsers.State.{State}
+use Rattle.p416_syntax.specs.declared.controls.Action16.{Action16}
+use Rattle.p416_syntax.specs.declared.controls.Local.{Local}
+use Rattle.p416_syntax.specs.declared.controls.Local.TheVariants as local
+use Rattle.p416_syntax.specs.Names.{Name}
+use Rattle.p416_syntax.specs.Kinds.{Kind}
+use Rattle.p416_syntax.specs.Scopes.{Scope}
+use Rattle.p416_syntax.specs.Declarations.{action_in}
+use Rattle.v1_core.specs.Slots.{var_kind, parameter_kind, state_kinds, local_kinds}
+use Rattle.v1_core.specs.Surroundings.{action_called}
+use Rattle.v1_core.specs.Numbered.{Variable, InScope, declared_at}
+use Rattle.v1_core.specs.Scopes.{AreAway, AreApart, AreOthers, IsScope}
 use Rattle.v1_block_laws.specs.Variables.{vars_from, parameters_from, locals_from, action_from, state_from}
 use Rattle.v1_block_laws.specs.Standing.{AreOfKinds}
 use Rattle.v1_block_laws.specs.Apart.{AreBetween, AreOutside, AreInBody}

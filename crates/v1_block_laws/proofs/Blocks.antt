@@ -4,29 +4,29 @@ use Rattle.std.proofs.lemmas.List.{length-map}
 use Rattle.std.specs.List.{list_any}
 use Rattle.std.specs.Str.{bytes_eq}
 use Rattle.std.proofs.lemmas.Slice.Eq.{bytes_eq-Decides}
-use Rattle.p416_ast.specs.declared.parts.Type16.{Type16}
-use Rattle.p416_ast.specs.declared.parsers.State.{State}
-use Rattle.p416_ast.specs.declared.parsers.Parser16.{Parser16}
-use Rattle.p416_ast.specs.declared.controls.Action16.{Action16}
-use Rattle.p416_ast.specs.declared.controls.Local.{Local}
-use Rattle.p416_ast.specs.declared.controls.Local.TheVariants as local
-use Rattle.p416_ast.specs.declared.controls.Control16.{Control16}
-use Rattle.p416_ast.specs.declared.program.Decl16.TheVariants as decl
-use Rattle.p416_ast.specs.declared.program.Syntax16.{Syntax16}
-use Rattle.p416_rules.specs.Names.{Name}
-use Rattle.p416_rules.specs.Kinds.{Kind}
-use Rattle.p416_rules.specs.Scopes.{a_value, Known, known, called_of, Scope, kind_of_type, known_parameter}
-use Rattle.p416_rules.specs.Uses.{Use, names_of_scope, some_counters, of_block_parameter}
-use Rattle.p416_rules.specs.Unknown.{is_misnamed, is_type_sort}
-use Rattle.p416_rules.specs.Statements.{with_variable}
-use Rattle.p416_rules.specs.Declarations.{top_names, known_var, known_state, known_local, parser_names, control_names, parameter_uses, var_uses, state_uses, body_uses, local_uses, parser_uses, control_uses, action_scope, action_in, tables_in, counters_in}
-use Rattle.p416_rules.specs.Breaks.{scope_of, program_rules, BreaksNone}
-use Rattle.v1_sem.specs.declared.block.Block.{Block}
-use Rattle.v1_sem.specs.Slots.{variable_kinds, var_kind, parameter_kind, kinds_in, state_kinds, local_kinds, kinds_of}
-use Rattle.v1_sem.specs.Surroundings.{Root, action_called}
-use Rattle.v1_sem.specs.Numbered.{Variable, InScope, declared_at}
-use Rattle.v1_sem.specs.Parsing.{parser_of, state_called}
-use Rattle.v1_sem.specs.Blocks.{control_at}
+use Rattle.p416_syntax.specs.declared.parts.Type16.{Type16}
+use Rattle.p416_syntax.specs.declared.parsers.State.{State}
+use Rattle.p416_syntax.specs.declared.parsers.Parser16.{Parser16}
+use Rattle.p416_syntax.specs.declared.controls.Action16.{Action16}
+use Rattle.p416_syntax.specs.declared.controls.Local.{Local}
+use Rattle.p416_syntax.specs.declared.controls.Local.TheVariants as local
+use Rattle.p416_syntax.specs.declared.controls.Control16.{Control16}
+use Rattle.p416_syntax.specs.declared.program.Decl16.TheVariants as decl
+use Rattle.p416_syntax.specs.declared.program.Syntax16.{Syntax16}
+use Rattle.p416_syntax.specs.Names.{Name}
+use Rattle.p416_syntax.specs.Kinds.{Kind}
+use Rattle.p416_syntax.specs.Scopes.{a_value, Known, known, called_of, Scope, kind_of_type, known_parameter}
+use Rattle.p416_syntax.specs.Uses.{Use, names_of_scope, some_counters, of_block_parameter}
+use Rattle.p416_syntax.specs.Unknown.{is_misnamed, is_type_sort}
+use Rattle.p416_syntax.specs.Statements.{with_variable}
+use Rattle.p416_syntax.specs.Declarations.{top_names, known_var, known_state, known_local, parser_names, control_names, parameter_uses, var_uses, state_uses, body_uses, local_uses, parser_uses, control_uses, action_scope, action_in, tables_in, counters_in}
+use Rattle.p416_syntax.specs.Breaks.{scope_of, program_rules, BreaksNone}
+use Rattle.v1_core.specs.declared.block.Block.{Block}
+use Rattle.v1_core.specs.Slots.{variable_kinds, var_kind, parameter_kind, kinds_in, state_kinds, local_kinds, kinds_of}
+use Rattle.v1_core.specs.Surroundings.{Root, action_called}
+use Rattle.v1_core.specs.Numbered.{Variable, InScope, declared_at}
+use Rattle.v1_core.specs.Parsing.{parser_of, state_called}
+use Rattle.v1_core.specs.Blocks.{control_at}
 use Rattle.v1_ready_forms.specs.Named.{seats_in}
 use Rattle.v1_ready_laws.specs.Rules.{NamesSeated}
 use Rattle.v1_ready_laws.proofs.Seated.{inside_seated}

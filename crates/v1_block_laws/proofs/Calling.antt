@@ -1,11 +1,11 @@
 -- What is judged in a call are its arguments at their places, and what stands before a method.
 use Rattle.std.proofs.Common.{◌≡◌, ℕ, List, [], ◌∷◌, ◌++◌, length, get_or, refl, sym, subst, arith, length-append}
-use Rattle.p416_ast.specs.Tree.{Exp16, literal, truth, error, name, member, index, slice, call, lookahead, cast, unary, binary, choice, parenthesized, no_arguments, argument, listed}
-use Rattle.p416_rules.specs.Names.{Name}
-use Rattle.p416_rules.specs.Scopes.{Scope}
-use Rattle.p416_rules.specs.Calls.{Place, callee, unasked, method_signature}
-use Rattle.p416_rules.specs.Expressions.{kind_of, signature_of, argument_count}
-use Rattle.p416_rules.specs.Uses.{an_expression, uses, uses_at, many, wanted_by, owner_by, arguments_of}
+use Rattle.p416_syntax.specs.Tree.{Exp16, literal, truth, error, name, member, index, slice, call, lookahead, cast, unary, binary, choice, parenthesized, no_arguments, argument, listed}
+use Rattle.p416_syntax.specs.Names.{Name}
+use Rattle.p416_syntax.specs.Scopes.{Scope}
+use Rattle.p416_syntax.specs.Calls.{Place, callee, unasked, method_signature}
+use Rattle.p416_syntax.specs.Expressions.{kind_of, signature_of, argument_count}
+use Rattle.p416_syntax.specs.Uses.{an_expression, uses, uses_at, many, wanted_by, owner_by, arguments_of}
 use Rattle.v1_ready_laws.specs.Rules.{KeepsAll, Keeps}
 use Rattle.v1_block_laws.specs.Keeping.{ArgumentsKeep}
 use Rattle.v1_block_laws.proofs.Keeping.{front, back}

@@ -3,29 +3,29 @@ use Rattle.std.proofs.Common.{ℕ, Option, Some, None, IfSome, List, [], ◌∷�
 use Rattle.std.specs.Option.{option_map_or}
 use Rattle.std.specs.Prelude.{option_to_list}
 use Rattle.std.proofs.lemmas.Grind.{flat_map-append}
-use Rattle.p416_ast.specs.declared.parsers.Var.{Var}
-use Rattle.p416_ast.specs.declared.parsers.State.{State}
-use Rattle.p416_ast.specs.declared.parsers.Transition.{Transition}
-use Rattle.p416_ast.specs.declared.parsers.Transition.TheVariants as transition
-use Rattle.p416_ast.specs.declared.parsers.Parser16.{Parser16}
-use Rattle.p416_ast.specs.declared.controls.TableKey.{TableKey}
-use Rattle.p416_ast.specs.declared.controls.Local.{Local}
-use Rattle.p416_ast.specs.declared.controls.Local.TheVariants as local
-use Rattle.p416_ast.specs.declared.controls.Control16.{Control16}
-use Rattle.p416_ast.specs.Properties.{keys_of, actions_of, size_of, counters_of, default_action_of, default_arguments_of}
-use Rattle.p416_ast.specs.Tree.{Exp16, Stmt16, no_statements, then, block, empty, var, var_is, assign, expression, if_then, if_else, switch, no_cases, case_of}
-use Rattle.p416_rules.specs.Kinds.{boolean}
-use Rattle.p416_rules.specs.Scopes.{Scope, in_key, kind_of_type}
-use Rattle.p416_rules.specs.Calls.{value, target, statement, select_key, table_key}
-use Rattle.p416_rules.specs.Expressions.{kind_of}
-use Rattle.p416_rules.specs.Uses.{Use, a_name, some_direct_counter, a_number, a_table_of, of_variable, of_action_parameter, of_block_parameter, type_uses, uses, names_of_scope, some_parameters}
-use Rattle.p416_rules.specs.Statements.{Visit, visit, visits, behind, assigned_place, own_uses, visit_uses, statement_uses}
-use Rattle.p416_rules.specs.Declarations.{note_uses, var_uses, parameter_name, parameter_uses, body_uses, case_uses, transition_uses, state_uses, parser_scope, parser_uses, action_scope, is_exact, key_uses, action_name_uses, defaults_of, control_scope, local_uses, control_uses}
+use Rattle.p416_syntax.specs.declared.parsers.Var.{Var}
+use Rattle.p416_syntax.specs.declared.parsers.State.{State}
+use Rattle.p416_syntax.specs.declared.parsers.Transition.{Transition}
+use Rattle.p416_syntax.specs.declared.parsers.Transition.TheVariants as transition
+use Rattle.p416_syntax.specs.declared.parsers.Parser16.{Parser16}
+use Rattle.p416_syntax.specs.declared.controls.TableKey.{TableKey}
+use Rattle.p416_syntax.specs.declared.controls.Local.{Local}
+use Rattle.p416_syntax.specs.declared.controls.Local.TheVariants as local
+use Rattle.p416_syntax.specs.declared.controls.Control16.{Control16}
+use Rattle.p416_syntax.specs.Properties.{keys_of, actions_of, size_of, counters_of, default_action_of, default_arguments_of}
+use Rattle.p416_syntax.specs.Tree.{Exp16, Stmt16, no_statements, then, block, empty, var, var_is, assign, expression, if_then, if_else, switch, no_cases, case_of}
+use Rattle.p416_syntax.specs.Kinds.{boolean}
+use Rattle.p416_syntax.specs.Scopes.{Scope, in_key, kind_of_type}
+use Rattle.p416_syntax.specs.Calls.{value, target, statement, select_key, table_key}
+use Rattle.p416_syntax.specs.Expressions.{kind_of}
+use Rattle.p416_syntax.specs.Uses.{Use, a_name, some_direct_counter, a_number, a_table_of, of_variable, of_action_parameter, of_block_parameter, type_uses, uses, names_of_scope, some_parameters}
+use Rattle.p416_syntax.specs.Statements.{Visit, visit, visits, behind, assigned_place, own_uses, visit_uses, statement_uses}
+use Rattle.p416_syntax.specs.Declarations.{note_uses, var_uses, parameter_name, parameter_uses, body_uses, case_uses, transition_uses, state_uses, parser_scope, parser_uses, action_scope, is_exact, key_uses, action_name_uses, defaults_of, control_scope, local_uses, control_uses}
 use Rattle.v1_ready_laws.specs.Rules.{KeepsAll}
 use Rattle.v1_block_laws.specs.Keeping.{Each, StatementKeeps, VarKeeps, TransitionKeeps, StateKeeps, ParserKeeps, KeyKeeps, LocalKeeps, ControlKeeps}
 use Rattle.v1_block_laws.proofs.Tests.{in_front, at_end}
-use Rattle.p416_rules.specs.Types.{is_mistyped}
-use Rattle.p416_rules.specs.Sizes.{leaves_size}
+use Rattle.p416_syntax.specs.Types.{is_mistyped}
+use Rattle.p416_syntax.specs.Sizes.{leaves_size}
 
 pub front : (xs ys : List Use) → KeepsAll (xs ++ ys) → KeepsAll xs
 front xs ys kept = (in_front is_mistyped xs ys kept.0, in_front leaves_size xs ys kept.1)

@@ -3,28 +3,28 @@ use Rattle.std.proofs.Common.{◌≡◌, ℕ, suc, ◌+◌, not, Bool, true, fal
 use Rattle.std.specs.List.{list_any, AllZip}
 use Rattle.std.specs.Str.{bytes_eq}
 use Rattle.std.proofs.lemmas.List.{map-append}
-use Rattle.p416_ast.specs.declared.parts.Type16.{Type16}
-use Rattle.p416_ast.specs.declared.parts.Type16.TheVariants.{Bit, Bool as BoolType, Named}
-use Rattle.p416_ast.specs.declared.parts.Param.{Param}
-use Rattle.p416_ast.specs.declared.parsers.Var.{Var}
-use Rattle.p416_ast.specs.declared.parsers.State.{State}
-use Rattle.p416_ast.specs.declared.controls.Instance.{Instance}
-use Rattle.p416_ast.specs.declared.controls.Instance.TheVariants as instance
-use Rattle.p416_ast.specs.declared.controls.Local.{Local}
-use Rattle.p416_ast.specs.declared.controls.Local.TheVariants as local
-use Rattle.p416_ast.specs.declared.program.Decl16.{Decl16}
-use Rattle.p416_ast.specs.declared.program.Decl16.TheVariants as decl
-use Rattle.p416_ast.specs.declared.program.Syntax16.{Syntax16}
-use Rattle.p416_rules.specs.Names.{Name}
-use Rattle.p416_rules.specs.Kinds.{Kind}
-use Rattle.p416_rules.specs.Scopes.{Sort, a_type, a_value, an_enumeration, a_function, an_object, an_action, a_table, a_state, a_block, undeclared, Known, known, Scope, sort_in, type_sort, stack_kind, kind_of_type, is_written, known_parameter}
-use Rattle.p416_rules.specs.BuiltIn.{built_in}
-use Rattle.p416_rules.specs.Uses.{a_type as a_type_use, of_variable, type_numbers}
-use Rattle.p416_rules.specs.Unknown.{is_value_sort, is_type_sort, is_unknown_type, is_misnamed}
-use Rattle.p416_rules.specs.Declarations.{instance_sort, top_name, top_names, known_var, known_state, var_uses, known_local, local_uses}
-use Rattle.v1_sem.specs.Slots.{variable_kinds, var_kind, parameter_kind, local_kinds}
-use Rattle.v1_sem.specs.Numbered.{Variable}
-use Rattle.v1_frame_values.specs.Seats.{Seat}
+use Rattle.p416_syntax.specs.declared.parts.Type16.{Type16}
+use Rattle.p416_syntax.specs.declared.parts.Type16.TheVariants.{Bit, Bool as BoolType, Named}
+use Rattle.p416_syntax.specs.declared.parts.Param.{Param}
+use Rattle.p416_syntax.specs.declared.parsers.Var.{Var}
+use Rattle.p416_syntax.specs.declared.parsers.State.{State}
+use Rattle.p416_syntax.specs.declared.controls.Instance.{Instance}
+use Rattle.p416_syntax.specs.declared.controls.Instance.TheVariants as instance
+use Rattle.p416_syntax.specs.declared.controls.Local.{Local}
+use Rattle.p416_syntax.specs.declared.controls.Local.TheVariants as local
+use Rattle.p416_syntax.specs.declared.program.Decl16.{Decl16}
+use Rattle.p416_syntax.specs.declared.program.Decl16.TheVariants as decl
+use Rattle.p416_syntax.specs.declared.program.Syntax16.{Syntax16}
+use Rattle.p416_syntax.specs.Names.{Name}
+use Rattle.p416_syntax.specs.Kinds.{Kind}
+use Rattle.p416_syntax.specs.Scopes.{Sort, a_type, a_value, an_enumeration, a_function, an_object, an_action, a_table, a_state, a_block, undeclared, Known, known, Scope, sort_in, type_sort, stack_kind, kind_of_type, is_written, known_parameter}
+use Rattle.p416_syntax.specs.BuiltIn.{built_in}
+use Rattle.p416_syntax.specs.Uses.{a_type as a_type_use, of_variable, type_numbers}
+use Rattle.p416_syntax.specs.Unknown.{is_value_sort, is_type_sort, is_unknown_type, is_misnamed}
+use Rattle.p416_syntax.specs.Declarations.{instance_sort, top_name, top_names, known_var, known_state, var_uses, known_local, local_uses}
+use Rattle.v1_core.specs.Slots.{variable_kinds, var_kind, parameter_kind, local_kinds}
+use Rattle.v1_core.specs.Numbered.{Variable}
+use Rattle.v1_core.specs.Seats.{Seat}
 use Rattle.v1_ready_forms.specs.Named.{NamedSeat, seat_of_name, seat_of_variable}
 use Rattle.v1_ready_laws.specs.Rules.{SortSeated, IsVariable}
 use Rattle.v1_ready_laws.proofs.Seated.{one_more}

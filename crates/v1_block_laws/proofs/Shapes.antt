@@ -3,27 +3,27 @@ use Rattle.std.proofs.Common.{◌≡◌, ℕ, zero, suc, ◌<◌, ◌&&◌, Bool
 use Rattle.std.specs.List.{AllZip}
 use Rattle.std.specs.Str.{bytes_eq}
 use Rattle.std.proofs.lemmas.Slice.Eq.{bytes_eq-Decides}
-use Rattle.p416_ast.specs.declared.parts.Param.{Param}
-use Rattle.p416_ast.specs.declared.parts.Direction.{Direction}
-use Rattle.p416_ast.specs.declared.parts.Direction.TheVariants.{In, Out, InOut}
-use Rattle.p416_ast.specs.declared.parsers.Parser16.{Parser16}
-use Rattle.p416_ast.specs.declared.controls.Control16.{Control16}
-use Rattle.p416_ast.specs.declared.program.Decl16.{Decl16}
-use Rattle.p416_ast.specs.declared.program.Decl16.TheVariants as decl
-use Rattle.p416_ast.specs.declared.program.Syntax16.{Syntax16}
-use Rattle.p416_rules.specs.Names.{Name}
-use Rattle.p416_rules.specs.Kinds.{Kind, bits, unsized, boolean, error_code, header, stack, struct, packet_in, packet_out, errors, enumeration, one_of, table, applied, object, items, nothing, unknown}
-use Rattle.p416_rules.specs.Scopes.{a_value, Layout as TypeLayout, FieldKind, Known, kind_of_type, is_written, known_parameter, sort_in}
-use Rattle.p416_rules.specs.BuiltIn.{standard, standard_name}
-use Rattle.p416_rules.specs.Declarations.{parameter_name, top_names, layouts_of}
-use Rattle.p416_rules.specs.Main.{a_parser, Shape, shape, parameter_shape, BlockShape, or_else, block_of, is_same_direction, is_same_parameter_kind, is_same_shape, are_same_shapes, is_block, a_control_of, checksum_block, pipeline_block, wanted_blocks, are_blocks, is_header_field, is_metadata_field, is_struct_where, are_headers, is_metadata, headers_kind, metadata_kind, is_main}
-use Rattle.v1_sem.specs.declared.block.Block.{Block}
-use Rattle.v1_sem.specs.declared.block.Block.TheVariants.{Verify, Ingress, Egress, Compute, Deparse}
-use Rattle.v1_sem.specs.Frames.{Owner, of_headers, of_metadata, of_standard}
-use Rattle.v1_sem.specs.Surroundings.{rooted}
-use Rattle.v1_sem.specs.Parsing.{parser_called, parser_of, parser_owners}
-use Rattle.v1_sem.specs.Blocks.{control_called, control_at, owners_of, position_of}
-use Rattle.v1_frame_values.specs.Seats.{form_of}
+use Rattle.p416_syntax.specs.declared.parts.Param.{Param}
+use Rattle.p416_syntax.specs.declared.parts.Direction.{Direction}
+use Rattle.p416_syntax.specs.declared.parts.Direction.TheVariants.{In, Out, InOut}
+use Rattle.p416_syntax.specs.declared.parsers.Parser16.{Parser16}
+use Rattle.p416_syntax.specs.declared.controls.Control16.{Control16}
+use Rattle.p416_syntax.specs.declared.program.Decl16.{Decl16}
+use Rattle.p416_syntax.specs.declared.program.Decl16.TheVariants as decl
+use Rattle.p416_syntax.specs.declared.program.Syntax16.{Syntax16}
+use Rattle.p416_syntax.specs.Names.{Name}
+use Rattle.p416_syntax.specs.Kinds.{Kind, bits, unsized, boolean, error_code, header, stack, struct, packet_in, packet_out, errors, enumeration, one_of, table, applied, object, items, nothing, unknown}
+use Rattle.p416_syntax.specs.Scopes.{a_value, Layout as TypeLayout, FieldKind, Known, kind_of_type, is_written, known_parameter, sort_in}
+use Rattle.p416_syntax.specs.BuiltIn.{standard, standard_name}
+use Rattle.p416_syntax.specs.Declarations.{parameter_name, top_names, layouts_of}
+use Rattle.p416_syntax.specs.Main.{a_parser, Shape, shape, parameter_shape, BlockShape, or_else, block_of, is_same_direction, is_same_parameter_kind, is_same_shape, are_same_shapes, is_block, a_control_of, checksum_block, pipeline_block, wanted_blocks, are_blocks, is_header_field, is_metadata_field, is_struct_where, are_headers, is_metadata, headers_kind, metadata_kind, is_main}
+use Rattle.v1_core.specs.declared.block.Block.{Block}
+use Rattle.v1_core.specs.declared.block.Block.TheVariants.{Verify, Ingress, Egress, Compute, Deparse}
+use Rattle.v1_core.specs.Frames.{Owner, of_headers, of_metadata, of_standard}
+use Rattle.v1_core.specs.Surroundings.{rooted}
+use Rattle.v1_core.specs.Parsing.{parser_called, parser_of, parser_owners}
+use Rattle.v1_core.specs.Blocks.{control_called, control_at, owners_of, position_of}
+use Rattle.v1_core.specs.Seats.{form_of}
 use Rattle.v1_ready_forms.specs.Named.{NamedSeat, seat_of_name, root_seat, seat_of_root}
 use Rattle.v1_ready_laws.specs.Rules.{SortSeated}
 use Rattle.v1_block_laws.proofs.Tests.{left_true, right_true}

@@ -1,7 +1,7 @@
 -- Variables one behind another.
 use Rattle.std.proofs.Common.{◌≡◌, ℕ, suc, ◌+◌, List, [], ◌∷◌, ◌++◌, length, subst, arith, append_assoc, length-append}
 use Rattle.std.proofs.Math.Seq.{get_or-append_seam}
-use Rattle.p416_rules.specs.Kinds.{Kind, unknown}
+use Rattle.p416_syntax.specs.Kinds.{Kind, unknown}
 use Rattle.v1_block_laws.specs.Standing.{IsOfKind, AreOfKinds}
 
 -- these in the middle of all

@@ -1,8 +1,8 @@
 -- That variables which are in scope together have places of their own (P4_16 1.2, "Name resolution"; the numbers are this
 -- project's own).
 use Rattle.std.specs.Prelude.{◌⊎◌, ℕ, ◌≤◌, ◌<◌, List, [], ◌∷◌}
-use Rattle.v1_sem.specs.Numbered.{Variable, InScope}
-use Rattle.v1_frame_values.specs.Scopes.{AreApart}
+use Rattle.v1_core.specs.Numbered.{Variable, InScope}
+use Rattle.v1_core.specs.Scopes.{AreApart}
 
 -- their numbers begin with one number and are below another
 abbrev pub AreBetween : ℕ → ℕ → List Variable → Type 0

@@ -2,24 +2,24 @@
 -- the initial values of its variables, the keys of its selects and its tables (P4_16 1.2, "Statements", "Transition
 -- statements", "Tables").
 use Rattle.std.specs.Prelude.{List, [], ◌∷◌, IfSome}
-use Rattle.p416_ast.specs.declared.parsers.Var.{Var}
-use Rattle.p416_ast.specs.declared.parsers.State.{State}
-use Rattle.p416_ast.specs.declared.parsers.Parser16.{Parser16}
-use Rattle.p416_ast.specs.declared.parsers.Transition.{Transition}
-use Rattle.p416_ast.specs.declared.parsers.Transition.TheVariants as transition
-use Rattle.p416_ast.specs.declared.controls.Local.{Local}
-use Rattle.p416_ast.specs.declared.controls.Local.TheVariants as local
-use Rattle.p416_ast.specs.declared.controls.TableKey.{TableKey}
-use Rattle.p416_ast.specs.declared.controls.Control16.{Control16}
-use Rattle.p416_ast.specs.Properties.{keys_of}
-use Rattle.p416_ast.specs.Tree.{Exp16, Stmt16, then, block, var_is, assign, expression, if_then, if_else, switch, case_of}
-use Rattle.p416_rules.specs.Kinds.{boolean}
-use Rattle.p416_rules.specs.Scopes.{Scope, kind_of_type}
-use Rattle.p416_rules.specs.Calls.{Place, value, target, statement, select_key, table_key, unasked}
-use Rattle.p416_rules.specs.Expressions.{kind_of}
-use Rattle.p416_rules.specs.Statements.{behind, assigned_place}
-use Rattle.p416_rules.specs.Declarations.{is_exact, action_scope}
-use Rattle.v1_sem.specs.Signatures.{key_scope}
+use Rattle.p416_syntax.specs.declared.parsers.Var.{Var}
+use Rattle.p416_syntax.specs.declared.parsers.State.{State}
+use Rattle.p416_syntax.specs.declared.parsers.Parser16.{Parser16}
+use Rattle.p416_syntax.specs.declared.parsers.Transition.{Transition}
+use Rattle.p416_syntax.specs.declared.parsers.Transition.TheVariants as transition
+use Rattle.p416_syntax.specs.declared.controls.Local.{Local}
+use Rattle.p416_syntax.specs.declared.controls.Local.TheVariants as local
+use Rattle.p416_syntax.specs.declared.controls.TableKey.{TableKey}
+use Rattle.p416_syntax.specs.declared.controls.Control16.{Control16}
+use Rattle.p416_syntax.specs.Properties.{keys_of}
+use Rattle.p416_syntax.specs.Tree.{Exp16, Stmt16, then, block, var_is, assign, expression, if_then, if_else, switch, case_of}
+use Rattle.p416_syntax.specs.Kinds.{boolean}
+use Rattle.p416_syntax.specs.Scopes.{Scope, kind_of_type}
+use Rattle.p416_syntax.specs.Calls.{Place, value, target, statement, select_key, table_key, unasked}
+use Rattle.p416_syntax.specs.Expressions.{kind_of}
+use Rattle.p416_syntax.specs.Statements.{behind, assigned_place}
+use Rattle.p416_syntax.specs.Declarations.{is_exact, action_scope}
+use Rattle.v1_core.specs.Signatures.{key_scope}
 use Rattle.v1_ready_laws.specs.Rules.{Keeps}
 
 -- each of these

@@ -1,30 +1,30 @@
 -- That the names of a block are declared as what stands at their seats, that its variables are of the kinds that it declares,
 -- and that what is evaluated in it keeps the rules on types and sizes.
 use Rattle.std.specs.Prelude.{◌≡◌, ℕ, suc, ◌+◌, ◌<◌, List, [], ◌∷◌, ◌++◌, length, filter_map, Some}
-use Rattle.p416_ast.specs.declared.parts.Type16.{Type16}
-use Rattle.p416_ast.specs.declared.parsers.State.{State}
-use Rattle.p416_ast.specs.declared.parsers.Parser16.{Parser16}
-use Rattle.p416_ast.specs.declared.controls.Action16.{Action16}
-use Rattle.p416_ast.specs.declared.controls.Local.TheVariants as local
-use Rattle.p416_ast.specs.declared.controls.Control16.{Control16}
-use Rattle.p416_ast.specs.declared.program.Syntax16.{Syntax16}
-use Rattle.p416_ast.specs.Tree.{Exp16, call, member}
-use Rattle.p416_rules.specs.Names.{Name}
-use Rattle.p416_rules.specs.Kinds.{Kind}
-use Rattle.p416_rules.specs.Scopes.{Scope, kind_of_type}
-use Rattle.p416_rules.specs.Calls.{Place, method_signature}
-use Rattle.p416_rules.specs.Expressions.{kind_of, signature_of}
-use Rattle.p416_rules.specs.Uses.{wanted_by, owner_by, arguments_of}
-use Rattle.p416_rules.specs.Statements.{with_variable}
-use Rattle.p416_rules.specs.Declarations.{action_scope, action_in}
-use Rattle.p416_rules.specs.Breaks.{BreaksNone, program_rules}
-use Rattle.v1_sem.specs.declared.block.Block.{Block}
-use Rattle.v1_sem.specs.Slots.{variable_kinds, kinds_in, local_kinds}
-use Rattle.v1_sem.specs.Surroundings.{Root, action_called}
-use Rattle.v1_sem.specs.Numbered.{InScope, declared_at}
-use Rattle.v1_sem.specs.Parsing.{parser_of, state_called}
-use Rattle.v1_sem.specs.Blocks.{control_at}
-use Rattle.v1_frame_values.specs.Scopes.{IsScope}
+use Rattle.p416_syntax.specs.declared.parts.Type16.{Type16}
+use Rattle.p416_syntax.specs.declared.parsers.State.{State}
+use Rattle.p416_syntax.specs.declared.parsers.Parser16.{Parser16}
+use Rattle.p416_syntax.specs.declared.controls.Action16.{Action16}
+use Rattle.p416_syntax.specs.declared.controls.Local.TheVariants as local
+use Rattle.p416_syntax.specs.declared.controls.Control16.{Control16}
+use Rattle.p416_syntax.specs.declared.program.Syntax16.{Syntax16}
+use Rattle.p416_syntax.specs.Tree.{Exp16, call, member}
+use Rattle.p416_syntax.specs.Names.{Name}
+use Rattle.p416_syntax.specs.Kinds.{Kind}
+use Rattle.p416_syntax.specs.Scopes.{Scope, kind_of_type}
+use Rattle.p416_syntax.specs.Calls.{Place, method_signature}
+use Rattle.p416_syntax.specs.Expressions.{kind_of, signature_of}
+use Rattle.p416_syntax.specs.Uses.{wanted_by, owner_by, arguments_of}
+use Rattle.p416_syntax.specs.Statements.{with_variable}
+use Rattle.p416_syntax.specs.Declarations.{action_scope, action_in}
+use Rattle.p416_syntax.specs.Breaks.{BreaksNone, program_rules}
+use Rattle.v1_core.specs.declared.block.Block.{Block}
+use Rattle.v1_core.specs.Slots.{variable_kinds, kinds_in, local_kinds}
+use Rattle.v1_core.specs.Surroundings.{Root, action_called}
+use Rattle.v1_core.specs.Numbered.{InScope, declared_at}
+use Rattle.v1_core.specs.Parsing.{parser_of, state_called}
+use Rattle.v1_core.specs.Blocks.{control_at}
+use Rattle.v1_core.specs.Scopes.{IsScope}
 use Rattle.v1_ready_forms.specs.Named.{seats_in}
 use Rattle.v1_ready_laws.specs.Rules.{Keeps, NamesSeated}
 use Rattle.v1_block_laws.specs.Variables.{scope_in_parser, scope_in_control, parser_seats, control_seats, control_roots, action_names, action_in_control, state_from, states_from, body_from, own_names, parser_variables, control_variables}

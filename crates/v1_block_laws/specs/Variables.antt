@@ -3,27 +3,27 @@
 -- declarations"; the numbers are this project's own).
 use Rattle.std.specs.Prelude.{ℕ, suc, ◌+◌, Bool, false, if◌then◌else◌, List, [], ◌∷◌, ◌++◌, length, map, flat_map}
 use Rattle.std.specs.Str.{bytes_eq}
-use Rattle.p416_ast.specs.declared.parts.Param.{Param}
-use Rattle.p416_ast.specs.declared.parsers.Var.{Var}
-use Rattle.p416_ast.specs.declared.parsers.State.{State}
-use Rattle.p416_ast.specs.declared.parsers.Parser16.{Parser16}
-use Rattle.p416_ast.specs.declared.controls.Action16.{Action16}
-use Rattle.p416_ast.specs.declared.controls.Local.{Local}
-use Rattle.p416_ast.specs.declared.controls.Local.TheVariants as local
-use Rattle.p416_ast.specs.declared.controls.Control16.{Control16}
-use Rattle.p416_ast.specs.declared.program.Decl16.{Decl16}
-use Rattle.p416_ast.specs.declared.program.Decl16.TheVariants as decl
-use Rattle.p416_ast.specs.declared.program.Syntax16.{Syntax16}
-use Rattle.p416_rules.specs.Names.{Name}
-use Rattle.p416_rules.specs.Scopes.{Scope}
-use Rattle.p416_rules.specs.Declarations.{parameter_name, parser_scope, control_scope}
-use Rattle.p416_rules.specs.Breaks.{scope_of}
-use Rattle.v1_sem.specs.declared.block.Block.{Block}
-use Rattle.v1_sem.specs.Surroundings.{Root, rooted}
-use Rattle.v1_sem.specs.Slots.{local_kinds, state_kinds, kinds_of}
-use Rattle.v1_sem.specs.Numbered.{Variable, InScope}
-use Rattle.v1_sem.specs.Parsing.{parser_owners}
-use Rattle.v1_sem.specs.Blocks.{owners_of}
+use Rattle.p416_syntax.specs.declared.parts.Param.{Param}
+use Rattle.p416_syntax.specs.declared.parsers.Var.{Var}
+use Rattle.p416_syntax.specs.declared.parsers.State.{State}
+use Rattle.p416_syntax.specs.declared.parsers.Parser16.{Parser16}
+use Rattle.p416_syntax.specs.declared.controls.Action16.{Action16}
+use Rattle.p416_syntax.specs.declared.controls.Local.{Local}
+use Rattle.p416_syntax.specs.declared.controls.Local.TheVariants as local
+use Rattle.p416_syntax.specs.declared.controls.Control16.{Control16}
+use Rattle.p416_syntax.specs.declared.program.Decl16.{Decl16}
+use Rattle.p416_syntax.specs.declared.program.Decl16.TheVariants as decl
+use Rattle.p416_syntax.specs.declared.program.Syntax16.{Syntax16}
+use Rattle.p416_syntax.specs.Names.{Name}
+use Rattle.p416_syntax.specs.Scopes.{Scope}
+use Rattle.p416_syntax.specs.Declarations.{parameter_name, parser_scope, control_scope}
+use Rattle.p416_syntax.specs.Breaks.{scope_of}
+use Rattle.v1_core.specs.declared.block.Block.{Block}
+use Rattle.v1_core.specs.Surroundings.{Root, rooted}
+use Rattle.v1_core.specs.Slots.{local_kinds, state_kinds, kinds_of}
+use Rattle.v1_core.specs.Numbered.{Variable, InScope}
+use Rattle.v1_core.specs.Parsing.{parser_owners}
+use Rattle.v1_core.specs.Blocks.{owners_of}
 use Rattle.v1_ready_forms.specs.Named.{NamedSeat, seats_in}
 
 abbrev pub variable : Name → ℕ → Variable

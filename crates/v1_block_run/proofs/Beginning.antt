@@ -1,20 +1,20 @@
 -- What statements come to that ask a condition or a table which others run.
 use Rattle.std.proofs.Common.{◌≡◌, ℕ, ◌+◌, ◌<◌, Bool, true, false, cond, List, ◌∷◌, Option, None, Ok, Err, refl, sym, ap, subst, ◌∙◌, arith}
 use Rattle.state_store.specs.State.{Contents}
-use Rattle.v1_sem.specs.declared.parser_error.ParserError.{ParserError}
-use Rattle.v1_sem.specs.Frames.{Hit}
-use Rattle.v1_sem.specs.Values.{is_true}
-use Rattle.v1_frames.specs.Cells.{Cells}
-use Rattle.v1_ready_expressions.specs.declared.scalar.Scalar.{Scalar}
-use Rattle.v1_ready_expressions.specs.Scalars.{seen_scalar}
+use Rattle.v1_core.specs.declared.parser_error.ParserError.{ParserError}
+use Rattle.v1_core.specs.Frames.{Hit}
+use Rattle.v1_core.specs.Values.{is_true}
+use Rattle.v1_core.specs.Cells.{Cells}
+use Rattle.v1_core.specs.declared.scalar.Scalar.{Scalar}
+use Rattle.v1_core.specs.Scalars.{seen_scalar}
 use Rattle.v1_ready_blocks.specs.Moments.{Moment, raised}
 use Rattle.v1_ready_blocks.specs.Nodes.{statement_at, test_at}
 use Rattle.v1_ready_blocks.specs.Statements.{Statement, nothing, run}
 use Rattle.v1_ready_blocks.specs.Tests.{Applied, Valued, test_value, with_test}
-use Rattle.v1_ready_externs.specs.declared.run.Run.{Run}
-use Rattle.v1_ready_externs.specs.Seen.{moment, seen_hit}
-use Rattle.v1_ready_steps.specs.declared.tables.Told.{Told}
-use Rattle.v1_ready_steps.specs.Steps.{IsOver, Gives, Tells, first_error, ground_of, stopped_by, trees_of}
+use Rattle.v1_statement_run.specs.declared.run.Run.{Run}
+use Rattle.v1_statement_run.specs.Seen.{moment, seen_hit}
+use Rattle.v1_statement_run.specs.declared.tables.Told.{Told}
+use Rattle.v1_statement_run.specs.Steps.{IsOver, Gives, Tells, first_error, ground_of, stopped_by, trees_of}
 use Rattle.v1_block_run.specs.declared.tasks.Level.{Level}
 use Rattle.v1_block_run.specs.declared.tasks.Task.{Task}
 use Rattle.v1_block_run.specs.declared.tasks.Task.TheVariants as task

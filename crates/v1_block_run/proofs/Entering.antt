@@ -2,16 +2,16 @@
 use Rattle.std.proofs.Common.{◌≡◌, ℕ, zero, suc, ◌+◌, ◌-◌, ◌<◌, Bool, true, false, cond, List, [], ◌∷◌, length, map, All, slice_get, slice_index_or, Option, Some, None, refl, sym, ap, subst, ◌∙◌, arith}
 use Rattle.std.proofs.lemmas.List.{length-map}
 use Rattle.state_store.specs.State.{Contents}
-use Rattle.v1_frames.specs.Cells.{Cells}
+use Rattle.v1_core.specs.Cells.{Cells}
 use Rattle.v1_ready_blocks.specs.Arguments.{Incoming, Outgoing, brought_in, given_back, all_back}
 use Rattle.v1_ready_blocks.specs.Blocks.{acted, body_of}
 use Rattle.v1_ready_blocks.specs.Moments.{Moment, going_on, is_stopped}
 use Rattle.v1_ready_blocks.specs.Nodes.{Ground, outgoing_at, statement_at}
 use Rattle.v1_ready_blocks.specs.Statements.{Statement, called, nothing, run}
 use Rattle.v1_ready_blocks.specs.Tests.{Applied, no_table_applies}
-use Rattle.v1_ready_externs.specs.declared.run.Run.{Run}
-use Rattle.v1_ready_externs.specs.Seen.{moment}
-use Rattle.v1_ready_steps.specs.Steps.{IsOver, Comes, ground_of, trees_of}
+use Rattle.v1_statement_run.specs.declared.run.Run.{Run}
+use Rattle.v1_statement_run.specs.Seen.{moment}
+use Rattle.v1_statement_run.specs.Steps.{IsOver, Comes, ground_of, trees_of}
 use Rattle.v1_block_run.specs.declared.tasks.Level.{Level}
 use Rattle.v1_block_run.specs.declared.tasks.Level.TheVariants as level
 use Rattle.v1_block_run.specs.declared.tasks.Task.{Task}

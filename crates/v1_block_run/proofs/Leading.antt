@@ -2,7 +2,7 @@
 use Rattle.std.proofs.Common.{ℕ, ◌<◌, List, refl, sym, ap, arith}
 use Rattle.v1_ready_blocks.specs.Moments.{Moment}
 use Rattle.v1_ready_blocks.specs.Tests.{Applied}
-use Rattle.v1_ready_steps.specs.Steps.{IsOver, Comes, ground_of}
+use Rattle.v1_statement_run.specs.Steps.{IsOver, Comes, ground_of}
 use Rattle.v1_block_run.specs.declared.tasks.Task.{Task}
 use Rattle.v1_block_run.specs.declared.block.ReadyBlock.{ReadyBlock}
 use Rattle.v1_block_run.specs.Blocks.{count_of}

@@ -1,7 +1,7 @@
 -- Turns of the loop.
 use Rattle.std.proofs.Common.{◌≡◌, ℕ, ◌+◌, ◌<◌, Bool, true, false, cond, List, [], ◌∷◌, drop, Option, Some, None, refl, sym, ap, subst, ◌∙◌, arith, drop-drop}
 use Rattle.state_store.specs.State.{Contents}
-use Rattle.v1_frames.specs.Cells.{Cells}
+use Rattle.v1_core.specs.Cells.{Cells}
 use Rattle.v1_ready_blocks.specs.declared.nodes.StatementNode.{StatementNode}
 use Rattle.v1_ready_blocks.specs.declared.nodes.StatementNode.TheVariants as node
 use Rattle.v1_ready_blocks.specs.Arguments.{given_back}
@@ -10,9 +10,9 @@ use Rattle.v1_ready_blocks.specs.Moments.{Moment, going_on, is_stopped, ticked}
 use Rattle.v1_ready_blocks.specs.Nodes.{Ground, Tree, outgoing_at, statement_at, statement_of}
 use Rattle.v1_ready_blocks.specs.Statements.{Statement, nothing, run}
 use Rattle.v1_ready_blocks.specs.Tests.{Applied, World, no_table_applies}
-use Rattle.v1_ready_externs.specs.declared.run.Run.{Run}
-use Rattle.v1_ready_externs.specs.Seen.{moment}
-use Rattle.v1_ready_steps.specs.Steps.{IsOver, Comes, ground_of, trees_of}
+use Rattle.v1_statement_run.specs.declared.run.Run.{Run}
+use Rattle.v1_statement_run.specs.Seen.{moment}
+use Rattle.v1_statement_run.specs.Steps.{IsOver, Comes, ground_of, trees_of}
 use Rattle.v1_block_run.specs.declared.tasks.Level.{Level}
 use Rattle.v1_block_run.specs.declared.tasks.Task.{Task}
 use Rattle.v1_block_run.specs.declared.tasks.Task.TheVariants as task

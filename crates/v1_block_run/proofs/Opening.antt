@@ -4,7 +4,7 @@ use Rattle.v1_ready_blocks.specs.Moments.{Moment}
 use Rattle.v1_ready_blocks.specs.Nodes.{statement_at}
 use Rattle.v1_ready_blocks.specs.Statements.{Statement, nothing, run, sequence}
 use Rattle.v1_ready_blocks.specs.Tests.{Applied, World}
-use Rattle.v1_ready_steps.specs.Steps.{Comes, IsOver, ground_of, trees_of}
+use Rattle.v1_statement_run.specs.Steps.{Comes, IsOver, ground_of, trees_of}
 use Rattle.v1_block_run.specs.declared.tasks.Level.{Level}
 use Rattle.v1_block_run.specs.declared.tasks.Task.{Task}
 use Rattle.v1_block_run.specs.declared.tasks.Task.TheVariants as task

@@ -1,17 +1,17 @@
 -- What statements come to that don't count.
 use Rattle.std.proofs.Common.{◌≡◌, ℕ, ◌+◌, ◌<◌, Bool, true, false, cond, List, ◌∷◌, Option, None, sym, ap, subst, ◌∙◌, arith}
 use Rattle.state_store.specs.State.{Contents}
-use Rattle.v1_frames.specs.Cells.{Cells}
-use Rattle.v1_frames.specs.Layouts.{Layout}
+use Rattle.v1_core.specs.Cells.{Cells}
+use Rattle.v1_core.specs.Layouts.{Layout}
 use Rattle.v1_ready_blocks.specs.declared.places.Range.{Range}
 use Rattle.v1_ready_blocks.specs.Moments.{Moment, going_on, is_stopped, with_cells}
 use Rattle.v1_ready_blocks.specs.Nodes.{Ground, IsRange, statement_at}
 use Rattle.v1_ready_blocks.specs.Places.{emptied}
 use Rattle.v1_ready_blocks.specs.Statements.{is_action, labelled, otherwise, run, sequence}
 use Rattle.v1_ready_blocks.specs.Tests.{Applied}
-use Rattle.v1_ready_externs.specs.declared.run.Run.{Run}
-use Rattle.v1_ready_externs.specs.Seen.{moment}
-use Rattle.v1_ready_steps.specs.Steps.{IsOver, Comes, ground_of, trees_of}
+use Rattle.v1_statement_run.specs.declared.run.Run.{Run}
+use Rattle.v1_statement_run.specs.Seen.{moment}
+use Rattle.v1_statement_run.specs.Steps.{IsOver, Comes, ground_of, trees_of}
 use Rattle.v1_block_run.specs.declared.tasks.Level.{Level}
 use Rattle.v1_block_run.specs.declared.tasks.Task.{Task}
 use Rattle.v1_block_run.specs.declared.tasks.Task.TheVariants as task

@@ -1,8 +1,8 @@
 -- Which statement stands at a place, and what it is made of is there.
 use Rattle.std.proofs.Common.{◌≡◌, ℕ, ◌<◌, List, ap, subst, ◌∙◌, arith}
 use Rattle.state_store.specs.declared.shapes.Shape.{Shape}
-use Rattle.v1_frames.specs.Layouts.{Layout}
-use Rattle.v1_ready_expressions.specs.Ready.{Ready}
+use Rattle.v1_core.specs.Layouts.{Layout}
+use Rattle.v1_core.specs.Ready.{Ready}
 use Rattle.v1_ready_blocks.specs.declared.nodes.StatementNode.{StatementNode}
 use Rattle.v1_ready_blocks.specs.declared.nodes.StatementNode.TheVariants as statement_node
 use Rattle.v1_ready_blocks.specs.declared.nodes.Node.{Node}

@@ -1,11 +1,11 @@
 -- Which block a ready block is, and which one can be run (this project's own).
 use Rattle.std.specs.Prelude.{ℕ, ◌<◌, List, length, map, All, option_map}
-use Rattle.v1_ready_expressions.specs.Nodes.{ready_at}
+use Rattle.v1_core.specs.Nodes.{ready_at}
 use Rattle.v1_ready_blocks.specs.Nodes.{statement_at}
 use Rattle.v1_ready_blocks.specs.Statements.{Statement}
 use Rattle.v1_ready_blocks.specs.Tables as tables
 use Rattle.v1_ready_blocks.specs.Blocks.{Block}
-use Rattle.v1_ready_steps.specs.Steps.{IsCode, expressions_in, trees_of}
+use Rattle.v1_statement_run.specs.Steps.{IsCode, expressions_in, trees_of}
 use Rattle.v1_block_run.specs.declared.block.Chosen.{Chosen}
 use Rattle.v1_block_run.specs.declared.block.ReadyAction.{ReadyAction}
 use Rattle.v1_block_run.specs.declared.block.ReadyTable.{ReadyTable}

@@ -1,6 +1,6 @@
 -- What a node of a statement does, and what a step comes to (P4_16 1.2, "Statements").
 use Rattle.std.specs.Prelude.{◌≡◌, ℕ, ◌+◌, ◌<◌, ◌%◌, ◌^◌, Bool, true, false, if◌then◌else◌, List, ◌∷◌, Option, Some, None, IfSome}
-use Rattle.v1_sem.specs.Values.{is_true}
+use Rattle.v1_core.specs.Values.{is_true}
 use Rattle.v1_ready_blocks.specs.declared.nodes.StatementNode.{StatementNode}
 use Rattle.v1_ready_blocks.specs.declared.nodes.StatementNode.TheVariants as node
 use Rattle.v1_ready_blocks.specs.Moments.{Moment, going_on}
@@ -9,8 +9,8 @@ use Rattle.v1_ready_blocks.specs.Arguments.{given_back}
 use Rattle.v1_ready_blocks.specs.Statements.{assign, assign_parts, set_valid, push_front, pop_front, extract_header, emit_headers, execute, apply, let_go, done, called, Statement, sequence, start, labelled, otherwise, run}
 use Rattle.v1_ready_blocks.specs.Blocks.{acted}
 use Rattle.v1_ready_blocks.specs.Nodes.{Tree, test_at, source_at, arguments_at, incoming_at, outgoing_at, statement_at}
-use Rattle.v1_ready_externs.specs.declared.run.Run.{Run}
-use Rattle.v1_ready_steps.specs.Steps.{IsOver, ground_of, trees_of}
+use Rattle.v1_statement_run.specs.declared.run.Run.{Run}
+use Rattle.v1_statement_run.specs.Steps.{IsOver, ground_of, trees_of}
 use Rattle.v1_block_run.specs.declared.tasks.Level.{Level}
 use Rattle.v1_block_run.specs.declared.tasks.Task.{Task}
 use Rattle.v1_block_run.specs.declared.tasks.Task.TheVariants as task

@@ -6,7 +6,7 @@ use Rattle.v1_ready_blocks.specs.Arguments.{given_back}
 use Rattle.v1_ready_blocks.specs.Statements.{Statement, nothing, sequence, start, does, call, branch, switch, labelled, otherwise, run}
 use Rattle.v1_ready_blocks.specs.Blocks.{Block, acted, body_of}
 use Rattle.v1_ready_blocks.specs.Nodes.{statement_at, outgoing_at}
-use Rattle.v1_ready_steps.specs.Steps.{trees_of}
+use Rattle.v1_statement_run.specs.Steps.{trees_of}
 use Rattle.v1_block_run.specs.declared.tasks.Level.{Level}
 use Rattle.v1_block_run.specs.declared.tasks.Level.TheVariants as level
 use Rattle.v1_block_run.specs.declared.tasks.Task.{Task}

@@ -5,8 +5,8 @@ ghost use Rattle.v1_ready_blocks.specs.Moments.{going_on, with_cells};
 ghost use Rattle.v1_ready_blocks.specs.Nodes.{IsRange, IsStatement, statement_of};
 ghost use Rattle.v1_ready_blocks.specs.Places.{emptied};
 ghost use Rattle.v1_ready_blocks.specs.Statements.{is_action, run as left_by, start};
-ghost use Rattle.v1_ready_externs.specs.Seen.{moment};
-ghost use Rattle.v1_ready_steps.specs.Steps.{Comes, IsOver, ground_of, trees_of};
+ghost use Rattle.v1_statement_run.specs.Seen.{moment};
+ghost use Rattle.v1_statement_run.specs.Steps.{Comes, IsOver, ground_of, trees_of};
 ghost use Rattle.v1_block_run.specs.declared.tasks.Task.TheVariants as task;
 ghost use Rattle.v1_block_run.specs.Blocks.{count_of, seen_block};
 ghost use Rattle.v1_block_run.specs.Tasks.{AreThere, body_steps, calls_at, steps, world_at};
@@ -17,11 +17,9 @@ use crate::levels::AtLevel;
 use crate::tasks::{Level, Task};
 use p4x_bits::OutOfMemory;
 use state_store::Store;
-use v1_frames::Frame;
+use v1_core::Frame;
 use v1_ready_blocks::{Range, StatementNode};
-use v1_ready_externs::Run;
-use v1_ready_steps::{Tables, is_stopped};
-use v1_ready_targets::empty;
+use v1_statement_run::{Run, Tables, empty, is_stopped};
 use work_stack::Stack;
 
 /// Whether the action that ran is this one.

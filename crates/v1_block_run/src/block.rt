@@ -1,6 +1,6 @@
 // A block made ready.
 use p4x_bits::{Numbers, Rows};
-use v1_ready_steps::Code;
+use v1_statement_run::Code;
 
 /// An action: the place of its body, and the slots of its parameters where tables call it.
 #[derive(Drop)]
@@ -23,7 +23,6 @@ pub struct Chosen {
 }
 
 /// A table.
-#[derive(Drop)]
 pub struct ReadyTable {
     /// Its number in the signature.
     pub number: u32,
@@ -37,8 +36,19 @@ pub struct ReadyTable {
     pub default: Option<Chosen>,
 }
 
+impl Drop for ReadyTable {
+    fn drop(self) {
+        let ReadyTable {
+            number: _number,
+            keys: _keys,
+            direct: _direct,
+            actions: _actions,
+            default: _default,
+        } = self;
+    }
+}
+
 /// A block: its statements and expressions, its actions and tables, and the place of its body.
-#[derive(Drop)]
 pub struct ReadyBlock<'l> {
     /// The statements.
     pub code: Code<'l>,
@@ -48,4 +58,15 @@ pub struct ReadyBlock<'l> {
     pub tables: Rows<ReadyTable>,
     /// The body.
     pub body: usize,
+}
+
+impl Drop for ReadyBlock<'_> {
+    fn drop(self) {
+        let ReadyBlock {
+            code: _code,
+            actions: _actions,
+            tables: _tables,
+            body: _body,
+        } = self;
+    }
 }

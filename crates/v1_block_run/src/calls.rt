@@ -4,8 +4,8 @@ ghost use Rattle.v1_ready_blocks.specs.Arguments.{given_back};
 ghost use Rattle.v1_ready_blocks.specs.Moments.{going_on};
 ghost use Rattle.v1_ready_blocks.specs.Nodes.{incoming_at, outgoing_at};
 ghost use Rattle.v1_ready_blocks.specs.Statements.{called};
-ghost use Rattle.v1_ready_externs.specs.Seen.{moment};
-ghost use Rattle.v1_ready_steps.specs.Steps.{Comes, IsOver, ground_of, trees_of};
+ghost use Rattle.v1_statement_run.specs.Seen.{moment};
+ghost use Rattle.v1_statement_run.specs.Steps.{Comes, IsOver, ground_of, trees_of};
 ghost use Rattle.v1_block_run.specs.Blocks.{IsRunnable, count_of, seen_block};
 ghost use Rattle.v1_block_run.specs.Tasks.{AreThere, body_steps, calls_at, world_at};
 ghost use Rattle.v1_block_run.specs.Steps.{Acts, Enters, Leads};
@@ -15,10 +15,8 @@ use crate::levels::{AtLevel, calls_at};
 use crate::tasks::{Level, Task};
 use p4x_bits::OutOfMemory;
 use state_store::Store;
-use v1_frames::Frame;
-use v1_ready_externs::Run;
-use v1_ready_parameters::{bring_in, give_back};
-use v1_ready_steps::{Tables, is_stopped};
+use v1_core::Frame;
+use v1_statement_run::{Run, Tables, bring_in, give_back, is_stopped};
 use work_stack::Stack;
 
 /// The body of an action that is called there; None where it does nothing, since calls don't nest deeper or no action has the

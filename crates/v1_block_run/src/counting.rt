@@ -1,10 +1,10 @@
 // Statements that count, once they are counted (P4_16 1.2, "Statements", "Conditional statement", "Switch statement").
 ghost use Rattle.std.specs.Prelude.{◌≡◌, ◌+◌, ◌<◌, ◌≤◌, false, drop, if◌then◌else◌, length, None, IfOk, OnOk};
-ghost use Rattle.v1_sem.specs.Values.{is_true};
-ghost use Rattle.v1_ready_expressions.specs.Scalars.{seen_scalar};
+ghost use Rattle.v1_core.specs.Values.{is_true};
+ghost use Rattle.v1_core.specs.Scalars.{seen_scalar};
 ghost use Rattle.v1_ready_blocks.specs.Nodes.{IsStatement, statement_at, statement_of, test_at};
-ghost use Rattle.v1_ready_externs.specs.Seen.{moment};
-ghost use Rattle.v1_ready_steps.specs.Steps.{IsOver, ground_of, trees_of};
+ghost use Rattle.v1_statement_run.specs.Seen.{moment};
+ghost use Rattle.v1_statement_run.specs.Steps.{IsOver, ground_of, trees_of};
 ghost use Rattle.v1_block_run.specs.Blocks.{IsRunnable, count_of, seen_block};
 ghost use Rattle.v1_block_run.specs.Tasks.{AreThere, body_steps, calls_at, steps, world_at};
 ghost use Rattle.v1_block_run.specs.Steps.{Leads, begun, branched, is_often, switched};
@@ -16,15 +16,12 @@ use crate::nodes::is_nothing;
 use crate::tasks::Task;
 use p4x_bits::OutOfMemory;
 use state_store::Store;
-use v1_frames::Frame;
+use v1_core::{Frame, Scalar};
 use v1_ready_blocks::StatementNode;
-use v1_ready_deeds::{
-    apply, assign, assign_parts, call_extern, emit_headers, extract_header, let_go, pop_elements,
-    push_elements, set_header,
+use v1_statement_run::{
+    Run, Tables, apply, assign, assign_parts, call_extern, emit_headers, extract_header, let_go,
+    pop_elements, push_elements, set_header, stop, test,
 };
-use v1_ready_expressions::Scalar;
-use v1_ready_externs::Run;
-use v1_ready_steps::{Tables, stop, test};
 use work_stack::Stack;
 
 /// Of two places the first where a value is the truth value true, and else the second.

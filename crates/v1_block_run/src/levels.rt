@@ -7,9 +7,8 @@ use crate::block::ReadyBlock;
 use crate::tasks::Level;
 use p4x_bits::OutOfMemory;
 use state_store::Store;
-use v1_frames::Frame;
-use v1_ready_externs::Run;
-use v1_ready_steps::{Tables, Told};
+use v1_core::Frame;
+use v1_statement_run::{Run, Tables, Told};
 
 /// The tables of a block, as statements apply them that stand there: in an action an application does nothing and hits nothing.
 #[derive(Drop)]

@@ -2,11 +2,11 @@
 ghost use Rattle.std.specs.Prelude.{◌≡◌, ◌<◌, true, IfSome, MatchOption, length};
 ghost use Rattle.v1_ready_blocks.specs.Nodes.{IsStatement, statement_at, statement_of};
 ghost use Rattle.v1_ready_blocks.specs.Statements.{nothing, sequence};
-ghost use Rattle.v1_ready_steps.specs.Steps.{ground_of, trees_of};
+ghost use Rattle.v1_statement_run.specs.Steps.{ground_of, trees_of};
 ghost use Rattle.v1_block_run.specs.Steps.{is_counted};
 
 use v1_ready_blocks::{Node, StatementNode};
-use v1_ready_steps::Code;
+use v1_statement_run::Code;
 
 /// The node of a statement; None where another one stands there.
 #[tactic(auto, using(crate::proofs::Reading::is_statement, crate::proofs::Reading::fits_statement))]

@@ -3,8 +3,8 @@ ghost use Rattle.std.specs.Prelude.{◌≡◌, ◌+◌, ◌<◌, ◌≤◌, [], 
 ghost use Rattle.v1_ready_blocks.specs.Blocks.{acted};
 ghost use Rattle.v1_ready_blocks.specs.Nodes.{statement_at};
 ghost use Rattle.v1_ready_blocks.specs.Statements.{run as left_by};
-ghost use Rattle.v1_ready_externs.specs.Seen.{moment};
-ghost use Rattle.v1_ready_steps.specs.Steps.{Comes, IsOver, ground_of, trees_of};
+ghost use Rattle.v1_statement_run.specs.Seen.{moment};
+ghost use Rattle.v1_statement_run.specs.Steps.{Comes, IsOver, ground_of, trees_of};
 ghost use Rattle.v1_block_run.specs.declared.tasks.Task.TheVariants as task;
 ghost use Rattle.v1_block_run.specs.Blocks.{IsRunnable, count_of, seen_block};
 ghost use Rattle.v1_block_run.specs.Tasks.{AreThere, calls_at, finish, world_at};
@@ -20,9 +20,8 @@ use crate::nodes::{is_counted, is_nothing, statement_node};
 use crate::tasks::{Level, Task};
 use p4x_bits::OutOfMemory;
 use state_store::Store;
-use v1_frames::Frame;
-use v1_ready_externs::Run;
-use v1_ready_steps::{NoTables, Tables, is_stopped};
+use v1_core::Frame;
+use v1_statement_run::{NoTables, Run, Tables, is_stopped};
 use work_stack::Stack;
 
 /// One more statement begins.

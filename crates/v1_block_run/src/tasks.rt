@@ -2,7 +2,7 @@
 
 /// Where statements stand: in the block itself, where tables may be applied; or in an action, where none is, and where calls of
 /// actions nest so deep at most.
-#[derive(Clone, Copy, Debug, PartialEq, Eq, Drop)]
+#[derive(Clone, Copy, PartialEq, Eq, Drop)]
 pub enum Level {
     /// In the block.
     Block,

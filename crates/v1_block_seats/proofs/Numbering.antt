@@ -1,10 +1,10 @@
 -- Numbering what is declared, one behind another.
 use Rattle.std.proofs.Common.{◌≡◌, ℕ, suc, ◌+◌, List, [], ◌∷◌, ◌++◌, length, flat_map, ap, ◌∙◌, arith, append_assoc, length-append}
-use Rattle.p416_ast.specs.declared.parsers.Var.{Var}
-use Rattle.p416_ast.specs.declared.controls.Local.{Local}
-use Rattle.p416_rules.specs.Scopes.{Scope}
-use Rattle.v1_sem.specs.Slots.{local_kinds}
-use Rattle.v1_sem.specs.Numbered.{Variable}
+use Rattle.p416_syntax.specs.declared.parsers.Var.{Var}
+use Rattle.p416_syntax.specs.declared.controls.Local.{Local}
+use Rattle.p416_syntax.specs.Scopes.{Scope}
+use Rattle.v1_core.specs.Slots.{local_kinds}
+use Rattle.v1_core.specs.Numbered.{Variable}
 use Rattle.v1_block_laws.specs.Variables.{variable, vars_from, own_variables, locals_from}
 use Rattle.v1_block_seats.specs.Numbers.{own_action, actions_from}
 

@@ -1,17 +1,17 @@
 -- The seats of the values of a frame, by their numbers.
 use Rattle.std.proofs.Common.{◌≡◌, ℕ, zero, suc, ◌+◌, Option, List, [], ◌∷◌, ◌++◌, length, map, refl, ap, ◌∙◌, arith}
 use Rattle.std.specs.Prelude.{slice_get}
-use Rattle.p416_ast.specs.declared.program.Syntax16.{Syntax16}
-use Rattle.p416_rules.specs.Kinds.{Kind}
-use Rattle.p416_rules.specs.Scopes.{Layout as TypeLayout}
-use Rattle.p416_rules.specs.Declarations.{layouts_of}
-use Rattle.v1_sem.specs.Frames.{Owner, of_headers, of_metadata, of_standard, of_variables, of_inner, of_nothing}
-use Rattle.v1_sem.specs.Surroundings.{Root}
-use Rattle.v1_sem.specs.Slots.{the_variable}
-use Rattle.v1_sem.specs.Numbered.{Variable}
-use Rattle.v1_frame_values.specs.Seats as seats
-use Rattle.v1_frame_values.specs.Seats.{form_of, Start, behind}
-use Rattle.v1_frame_values.specs.Programs.{frame_kinds, first_start, seat_in, owner_seat}
+use Rattle.p416_syntax.specs.declared.program.Syntax16.{Syntax16}
+use Rattle.p416_syntax.specs.Kinds.{Kind}
+use Rattle.p416_syntax.specs.Scopes.{Layout as TypeLayout}
+use Rattle.p416_syntax.specs.Declarations.{layouts_of}
+use Rattle.v1_core.specs.Frames.{Owner, of_headers, of_metadata, of_standard, of_variables, of_inner, of_nothing}
+use Rattle.v1_core.specs.Surroundings.{Root}
+use Rattle.v1_core.specs.Slots.{the_variable}
+use Rattle.v1_core.specs.Numbered.{Variable}
+use Rattle.v1_core.specs.Seats as seats
+use Rattle.v1_core.specs.Seats.{form_of, Start, behind}
+use Rattle.v1_core.specs.Programs.{frame_kinds, first_start, seat_in, owner_seat}
 use Rattle.v1_seats.specs.declared.seat.Seat.{Seat}
 use Rattle.v1_seats.specs.Seen.{seen_seat}
 use Rattle.v1_seats.specs.Frame.{seats_from}

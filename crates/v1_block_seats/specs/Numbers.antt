@@ -1,9 +1,9 @@
 -- The numbers of the actions of a control: each has that of its first parameter (this project's own).
 use Rattle.std.specs.Prelude.{ℕ, ◌+◌, List, [], ◌∷◌, ◌++◌, length}
-use Rattle.p416_ast.specs.declared.controls.Local.{Local}
-use Rattle.p416_ast.specs.declared.controls.Local.TheVariants as local
-use Rattle.p416_rules.specs.Scopes.{Scope}
-use Rattle.v1_sem.specs.Slots.{local_kinds}
+use Rattle.p416_syntax.specs.declared.controls.Local.{Local}
+use Rattle.p416_syntax.specs.declared.controls.Local.TheVariants as local
+use Rattle.p416_syntax.specs.Scopes.{Scope}
+use Rattle.v1_core.specs.Slots.{local_kinds}
 
 abbrev pub own_action : ℕ → Local → List ℕ
 own_action n (local.Action a) = n ∷ []

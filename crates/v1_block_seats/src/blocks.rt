@@ -1,7 +1,7 @@
 // The names of a block.
 ghost use Rattle.std.specs.Prelude.{◌≡◌, map, IfOk};
-ghost use Rattle.p416_rules.specs.Declarations.{layouts_of};
-ghost use Rattle.v1_frame_values.specs.Programs.{frame_kinds, first_start};
+ghost use Rattle.p416_syntax.specs.Declarations.{layouts_of};
+ghost use Rattle.v1_core.specs.Programs.{frame_kinds, first_start};
 ghost use Rattle.v1_ready_forms.specs.Named.{seats_in};
 ghost use Rattle.v1_seats.specs.Seen.{seen_seat};
 ghost use Rattle.v1_seats.specs.Frame.{seats_from};
@@ -13,11 +13,11 @@ use crate::numbers::Variable;
 use crate::roots::{declare_of_control, declare_of_parser};
 use crate::variables::declare_variables;
 use p4x_bits::OutOfMemory;
-use p416_ast::{Control16, Parser16, Syntax16};
+use p416_syntax::{Control16, Parser16, Syntax16};
 use std::alloc::Global;
+use v1_core::Block;
 use v1_ready_program::NamedSeats;
 use v1_seats::Seat;
-use v1_sem::Block;
 
 /// The names of a parser with these variables, given the seats of all values of the frames of its program: its parameters, and
 /// its variables outside them. The one error is want of memory, which another number of parameters than a parser of an accepted

@@ -1,13 +1,12 @@
 // How many variables, and parameters of actions, are declared in front of a block.
 ghost use Rattle.std.specs.Prelude.{◌≡◌, ◌+◌, length, IfOk};
-ghost use Rattle.v1_sem.specs.Slots.{kinds_of};
+ghost use Rattle.v1_core.specs.Slots.{kinds_of};
 ghost use Rattle.v1_block_laws.specs.Variables.{count_before, parser_from, control_from};
 ghost use Rattle.v1_block_seats.specs.internal.Wanted.{test_of};
 
 use p4x_bits::OutOfMemory;
-use p416_ast::{Control16, Decl16, Parser16, Syntax16};
-use p416_kinds::Kind;
-use p416_names::Top;
+use p416_names::{Kind, Top};
+use p416_syntax::{Control16, Decl16, Parser16, Syntax16};
 use std::alloc::Global;
 use v1_layout::add_declared;
 

@@ -1,15 +1,15 @@
 // The variables of a block with their numbers.
 ghost use Rattle.std.specs.Prelude.{◌≡◌, ◌+◌, ◌++◌, length, map, flat_map, IfOk, OnOk};
 ghost use Rattle.p416_scopes.specs.Seen.{seen_scope};
-ghost use Rattle.v1_sem.specs.Slots.{local_kinds};
+ghost use Rattle.v1_core.specs.Slots.{local_kinds};
 ghost use Rattle.v1_block_laws.specs.Variables.{vars_from, own_variables, locals_from};
 ghost use Rattle.v1_block_seats.specs.Seen.{seen_variable};
 ghost use Rattle.v1_block_seats.specs.Numbers.{own_action, actions_from};
 
 use crate::counting::{count_of, further};
 use p4x_bits::OutOfMemory;
-use p416_ast::{Local, Var};
 use p416_scopes::Scope;
+use p416_syntax::{Local, Var};
 use std::alloc::Global;
 use v1_layout::add_local;
 
@@ -23,7 +23,6 @@ pub struct Variable<'a> {
 }
 
 /// The numbers of what stands in a control.
-#[derive(Drop)]
 pub struct ControlNumbers<'a> {
     /// The variables of the control.
     pub variables: Vec<Variable<'a>>,
@@ -31,6 +30,16 @@ pub struct ControlNumbers<'a> {
     pub actions: Vec<usize>,
     /// The number of the first variable of the control's statements.
     pub body: usize,
+}
+
+impl Drop for ControlNumbers<'_> {
+    fn drop(self) {
+        let ControlNumbers {
+            variables: _variables,
+            actions: _actions,
+            body: _body,
+        } = self;
+    }
 }
 
 /// The variables of a parser, of which the first has this number. The one error is want of memory, which numbers of more bits

@@ -1,19 +1,19 @@
 // The parameters of blocks (`v1model.p4`).
 ghost use Rattle.std.specs.Prelude.{◌≡◌, ◌++◌, map, OnOk};
-ghost use Rattle.p416_rules.specs.Declarations.{parameter_name};
-ghost use Rattle.v1_sem.specs.Surroundings.{rooted};
-ghost use Rattle.v1_sem.specs.Parsing.{parser_owners};
-ghost use Rattle.v1_sem.specs.Blocks.{owners_of};
-ghost use Rattle.v1_sem.specs.declared.block.Block.TheVariants.{Verify, Ingress, Deparse};
+ghost use Rattle.p416_syntax.specs.Declarations.{parameter_name};
+ghost use Rattle.v1_core.specs.Surroundings.{rooted};
+ghost use Rattle.v1_core.specs.Parsing.{parser_owners};
+ghost use Rattle.v1_core.specs.Blocks.{owners_of};
+ghost use Rattle.v1_core.specs.declared.block.Block.TheVariants.{Verify, Ingress, Deparse};
 ghost use Rattle.v1_ready_program.specs.Seen.{seen_seats};
 ghost use Rattle.v1_block_seats.specs.internal.Wanted.{named_root};
 
 use crate::variables::seat_with;
 use p4x_bits::OutOfMemory;
-use p416_ast::Param;
+use p416_syntax::Param;
+use v1_core::Block;
 use v1_ready_program::NamedSeats;
 use v1_seats::Seat;
-use v1_sem::Block;
 
 /// The numbers of the packet's values among all of a frame.
 const HEADERS: usize = 0;

@@ -1,8 +1,8 @@
 // Seats of values of a frame by their numbers.
 ghost use Rattle.std.specs.Prelude.{◌≡◌, ◌∷◌, ◌++◌, map, option_map, IfOk, OnOk};
-ghost use Rattle.p416_rules.specs.Declarations.{layouts_of};
-ghost use Rattle.v1_sem.specs.Slots.{the_variable};
-ghost use Rattle.v1_frame_values.specs.Programs.{frame_kinds, first_start, owner_seat};
+ghost use Rattle.p416_syntax.specs.Declarations.{layouts_of};
+ghost use Rattle.v1_core.specs.Slots.{the_variable};
+ghost use Rattle.v1_core.specs.Programs.{frame_kinds, first_start, owner_seat};
 ghost use Rattle.v1_seats.specs.Seen.{seen_seat};
 ghost use Rattle.v1_seats.specs.Frame.{seats_from};
 ghost use Rattle.v1_ready_program.specs.Seen.{seen_seats};
@@ -11,7 +11,7 @@ ghost use Rattle.v1_block_seats.specs.internal.Wanted.{seat_with, named_own};
 use crate::counting::further;
 use crate::numbers::Variable;
 use p4x_bits::OutOfMemory;
-use p416_ast::Syntax16;
+use p416_syntax::Syntax16;
 use v1_ready_program::NamedSeats;
 use v1_seats::Seat;
 

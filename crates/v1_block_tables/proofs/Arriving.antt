@@ -2,19 +2,19 @@
 use Rattle.std.proofs.Common.{◌≡◌, ℕ, List, [], drop, All, slice_get, slice_index_or, is_some, Option, Some, None, sym, ap, subst, ◌∙◌, length}
 use Rattle.std.specs.Prelude.{option_map}
 use Rattle.state_store.specs.State.{Contents}
-use Rattle.v1_sem.specs.Frames as sem
-use Rattle.v1_frames.specs.Cells.{Cells}
-use Rattle.v1_frames.specs.Layouts.{Layout}
+use Rattle.v1_core.specs.Frames as sem
+use Rattle.v1_core.specs.Cells.{Cells}
+use Rattle.v1_core.specs.Layouts.{Layout}
 use Rattle.v1_ready_blocks.specs.Blocks.{act, table_applied}
 use Rattle.v1_ready_blocks.specs.Blocks as blocks
 use Rattle.v1_ready_blocks.specs.Moments.{Moment, with_hit}
 use Rattle.v1_ready_blocks.specs.Nodes.{Ground}
 use Rattle.v1_ready_blocks.specs.Tables.{Chosen, Fill, Table, action_in, applied, applied_by, bound_numbers, chosen, found, hit_of, noted, run_chosen}
-use Rattle.v1_ready_externs.specs.declared.run.Hit.{Hit}
-use Rattle.v1_ready_externs.specs.declared.run.Run.{Run}
-use Rattle.v1_ready_externs.specs.Seen.{given_of, moment, seen_hit}
-use Rattle.v1_ready_steps.specs.declared.tables.Told.{Told}
-use Rattle.v1_ready_steps.specs.Steps.{Comes, IsOver, Tells, ground_of}
+use Rattle.v1_statement_run.specs.declared.run.Hit.{Hit}
+use Rattle.v1_statement_run.specs.declared.run.Run.{Run}
+use Rattle.v1_statement_run.specs.Seen.{given_of, moment, seen_hit}
+use Rattle.v1_statement_run.specs.declared.tables.Told.{Told}
+use Rattle.v1_statement_run.specs.Steps.{Comes, IsOver, Tells, ground_of}
 use Rattle.v1_block_run.specs.declared.tasks.Task.{Task}
 use Rattle.v1_block_run.specs.declared.block.ReadyAction.{ReadyAction}
 use Rattle.v1_block_run.specs.declared.block.ReadyTable.{ReadyTable}

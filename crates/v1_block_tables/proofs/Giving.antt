@@ -1,8 +1,8 @@
 -- The parameters of actions get their arguments.
 use Rattle.std.proofs.Common.{◌≡◌, ℕ, zero, suc, ◌+◌, ◌<◌, ◌≤◌, List, [], ◌∷◌, length, map, drop, get_or, min, All, slice_get, slice_index_or, Some, None, refl, sym, ap, subst, ◌∙◌, arith}
 use Rattle.std.proofs.lemmas.List.{drop_more}
-use Rattle.v1_frames.specs.Cells.{Cells}
-use Rattle.v1_frames.specs.Layouts.{Layout}
+use Rattle.v1_core.specs.Cells.{Cells}
+use Rattle.v1_core.specs.Layouts.{Layout}
 use Rattle.v1_ready_blocks.specs.Nodes.{IsSlot}
 use Rattle.v1_ready_blocks.specs.Places.{put}
 use Rattle.v1_ready_blocks.specs.Tables.{bound_numbers}

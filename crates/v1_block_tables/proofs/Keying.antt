@@ -2,14 +2,14 @@
 use Rattle.std.proofs.Common.{◌≡◌, ℕ, ◌<◌, List, [], ◌∷◌, length, map, All, Option, slice_index_or, refl, sym, ap, ◌∙◌}
 use Rattle.match_core.specs.Best.{best}
 use Rattle.state_store.specs.State.{Contents}
-use Rattle.v1_frames.specs.Cells.{Cells}
-use Rattle.v1_ready_expressions.specs.Ready.{Ready, ready_value}
-use Rattle.v1_ready_expressions.specs.Nodes.{ready_at}
+use Rattle.v1_core.specs.Cells.{Cells}
+use Rattle.v1_core.specs.Ready.{Ready, ready_value}
+use Rattle.v1_core.specs.Nodes.{ready_at}
 use Rattle.v1_ready_blocks.specs.Tables.{Fill, found, key_number, no_table}
-use Rattle.v1_ready_externs.specs.declared.run.Run.{Run}
-use Rattle.v1_ready_externs.specs.Seen.{moment}
-use Rattle.v1_ready_steps.specs.declared.code.Code.{Code}
-use Rattle.v1_ready_steps.specs.Steps.{IsOver, expressions_in, ground_of}
+use Rattle.v1_statement_run.specs.declared.run.Run.{Run}
+use Rattle.v1_statement_run.specs.Seen.{moment}
+use Rattle.v1_statement_run.specs.declared.code.Code.{Code}
+use Rattle.v1_statement_run.specs.Steps.{IsOver, expressions_in, ground_of}
 use Rattle.v1_block_run.specs.declared.block.ReadyTable.{ReadyTable}
 use Rattle.v1_block_run.specs.declared.block.ReadyBlock.{ReadyBlock}
 use Rattle.v1_block_run.specs.Blocks.{seen_table}

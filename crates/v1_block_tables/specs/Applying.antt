@@ -3,8 +3,8 @@ use Rattle.std.specs.Prelude.{ℕ, List, slice_index_or, Option}
 use Rattle.match_core.specs.declared.entries.Entry.{Entry}
 use Rattle.match_core.specs.declared.entries.DefaultCall.{DefaultCall}
 use Rattle.v1_ready_blocks.specs.Tables.{Chosen}
-use Rattle.v1_ready_externs.specs.declared.run.Hit.{Hit}
-use Rattle.v1_ready_externs.specs.declared.run.Run.{Run}
+use Rattle.v1_statement_run.specs.declared.run.Hit.{Hit}
+use Rattle.v1_statement_run.specs.declared.run.Run.{Run}
 use Rattle.v1_block_tables.specs.declared.calls.Call.{Call}
 use Rattle.v1_block_tables.specs.declared.spare.Spare.{Spare}
 

@@ -1,13 +1,13 @@
 -- Which parts of a block its tables ask for, and what a look-up finds (this project's own).
 use Rattle.std.specs.Prelude.{ℕ, ◌<◌, List, length, All}
-use Rattle.v1_frames.specs.Cells.{Cells}
-use Rattle.v1_frames.specs.Layouts.{Layout}
-use Rattle.v1_ready_expressions.specs.Nodes.{ready_at}
-use Rattle.v1_ready_expressions.specs.Ready.{ready_value}
+use Rattle.v1_core.specs.Cells.{Cells}
+use Rattle.v1_core.specs.Layouts.{Layout}
+use Rattle.v1_core.specs.Nodes.{ready_at}
+use Rattle.v1_core.specs.Ready.{ready_value}
 use Rattle.v1_ready_blocks.specs.Nodes.{IsSlot}
 use Rattle.v1_ready_blocks.specs.Tables.{key_number}
-use Rattle.v1_ready_steps.specs.declared.code.Code.{Code}
-use Rattle.v1_ready_steps.specs.Steps.{expressions_in, ground_of}
+use Rattle.v1_statement_run.specs.declared.code.Code.{Code}
+use Rattle.v1_statement_run.specs.Steps.{expressions_in, ground_of}
 use Rattle.v1_block_run.specs.declared.block.ReadyAction.{ReadyAction}
 use Rattle.v1_block_run.specs.declared.block.ReadyTable.{ReadyTable}
 use Rattle.v1_block_run.specs.declared.block.ReadyBlock.{ReadyBlock}

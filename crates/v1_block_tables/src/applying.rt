@@ -4,8 +4,8 @@ ghost use Rattle.std.specs.Prelude.{◌≡◌, length, option_map, Some, IfOk, O
 ghost use Rattle.v1_ready_blocks.specs.Blocks.{act};
 ghost use Rattle.v1_ready_blocks.specs.Moments.{with_hit};
 ghost use Rattle.v1_ready_blocks.specs.Tables.{applied_by, found, hit_of, noted, number_in, run_chosen};
-ghost use Rattle.v1_ready_externs.specs.Seen.{given_of, moment, seen_hit};
-ghost use Rattle.v1_ready_steps.specs.Steps.{Comes, IsOver, Tells, ground_of};
+ghost use Rattle.v1_statement_run.specs.Seen.{given_of, moment, seen_hit};
+ghost use Rattle.v1_statement_run.specs.Steps.{Comes, IsOver, Tells, ground_of};
 ghost use Rattle.v1_block_run.specs.Blocks.{seen_block, seen_table};
 ghost use Rattle.v1_block_tables.specs.Applying.{seen_call};
 ghost use Rattle.v1_block_tables.specs.Parts.{CanApply, HasKeys};
@@ -21,9 +21,8 @@ use p4x_bits::OutOfMemory;
 use state_store::Store;
 use std::alloc::Global;
 use v1_block_run::{Level, ReadyTable, run_action};
-use v1_frames::Frame;
-use v1_ready_externs::{Hit, Run};
-use v1_ready_steps::Told;
+use v1_core::Frame;
+use v1_statement_run::{Hit, Run, Told};
 
 /// The entry that a direct counter counts.
 fn hit_of(direct: Option<u32>, entry: Option<u32>) -> Option<Hit>

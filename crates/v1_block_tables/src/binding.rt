@@ -7,8 +7,8 @@ ghost use Rattle.v1_block_tables.specs.Parts.{HasParameters};
 
 use p4x_bits::Rows;
 use v1_block_run::ReadyAction;
-use v1_frames::Frame;
-use v1_ready_targets::put;
+use v1_core::Frame;
+use v1_statement_run::put;
 
 /// Puts the numbers of arguments into the slots of parameters, as many as there are of both.
 #[tactic(auto, using(crate::proofs::Giving::bind_begins, crate::proofs::Giving::slot_there, crate::proofs::Giving::one_bound, crate::proofs::Giving::all_bound))]

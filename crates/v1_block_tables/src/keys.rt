@@ -4,9 +4,8 @@ ghost use Rattle.v1_block_tables.specs.Parts.{key_at};
 
 use match_core::Key;
 use p4x_bits::OutOfMemory;
-use v1_frames::Frame;
-use v1_ready_deeds::number_of;
-use v1_ready_steps::Code;
+use v1_core::Frame;
+use v1_statement_run::{Code, number_of};
 
 /// The number of a key; 0 where it has none.
 fn key_number(code: &Code<'_>, place: usize, frame: &Frame<'_>, unparsed: &[u8]) -> u128

@@ -1,8 +1,8 @@
 // A block is run.
 ghost use Rattle.std.specs.Prelude.{◌≡◌, OnOk};
 ghost use Rattle.v1_ready_blocks.specs.Blocks.{ready_run};
-ghost use Rattle.v1_ready_externs.specs.Seen.{moment};
-ghost use Rattle.v1_ready_steps.specs.Steps.{Comes, IsOver, ground_of};
+ghost use Rattle.v1_statement_run.specs.Seen.{moment};
+ghost use Rattle.v1_statement_run.specs.Steps.{Comes, IsOver, ground_of};
 ghost use Rattle.v1_block_run.specs.Blocks.{seen_block};
 ghost use Rattle.v1_block_tables.specs.Parts.{CanApply};
 
@@ -12,8 +12,8 @@ use p4x_bits::OutOfMemory;
 use state_store::Store;
 use std::alloc::Global;
 use v1_block_run::{Level, Task, run_statements};
-use v1_frames::Frame;
-use v1_ready_externs::Run;
+use v1_core::Frame;
+use v1_statement_run::Run;
 use work_stack::Stack;
 
 /// Runs a block on one packet after another. Its room stays from packet to packet.

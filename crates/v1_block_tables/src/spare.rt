@@ -6,13 +6,12 @@ use p4x_bits::{Bits, Rows};
 use std::alloc::Global;
 use std::mem::swap;
 use v1_block_run::Task;
-use v1_ready_expressions::Scalar;
-use v1_ready_externs::{Hit, Run};
+use v1_core::Scalar;
+use v1_statement_run::{Hit, Run};
 use work_stack::Stack;
 
 /// What the action of a table works with beside a run: what is still to be done of it, and the arguments of its externs. Its room
 /// stays from one application to the next.
-#[derive(Drop)]
 pub struct Spare {
     /// What is still to be done.
     pub tasks: Stack<Task>,
@@ -20,6 +19,16 @@ pub struct Spare {
     pub values: Rows<Scalar>,
     /// The bits of the list in braces among them.
     pub list: Bits,
+}
+
+impl Drop for Spare {
+    fn drop(self) {
+        let Spare {
+            tasks: _tasks,
+            values: _values,
+            list: _list,
+        } = self;
+    }
 }
 
 impl Spare {

@@ -1,7 +1,7 @@
 // The tables of a block, where statements apply them.
 ghost use Rattle.std.specs.Prelude.{◌≡◌};
 ghost use Rattle.v1_ready_blocks.specs.Blocks.{table_applied};
-ghost use Rattle.v1_ready_steps.specs.Steps.{ground_of};
+ghost use Rattle.v1_statement_run.specs.Steps.{ground_of};
 ghost use Rattle.v1_block_run.specs.Blocks.{seen_block};
 ghost use Rattle.v1_block_tables.specs.Parts.{CanApply};
 
@@ -11,9 +11,8 @@ use p4x_bits::OutOfMemory;
 use state_store::Store;
 use std::alloc::Global;
 use std::cell::Cell;
-use v1_frames::Frame;
-use v1_ready_externs::Run;
-use v1_ready_steps::{Tables, Told};
+use v1_core::Frame;
+use v1_statement_run::{Run, Tables, Told};
 
 /// The tables of a block: what applying one does is what the definitions say of the block and of the entries that fill it. What
 /// actions work with is kept from one application to the next.

@@ -1,34 +1,34 @@
 -- Where an argument of an action applies a table, all wait in a frame apart, from where they enter the frame together.
 use Rattle.std.proofs.Common.{◌≡◌, ◌≢◌, ◌⊎◌, inl, inr, ℕ, suc, ◌+◌, ◌<◌, ◌≤◌, Bool, true, false, Option, Some, None, IfSome, List, [], ◌∷◌, length, map, refl, sym, ap, ◌∙◌, subst, arith}
 use Rattle.std.specs.Prelude.{option_map}
-use Rattle.p416_ast.specs.declared.parts.Param.{Param}
-use Rattle.p416_ast.specs.Tree.{Exp16, name, call, expression}
-use Rattle.p416_rules.specs.Names.{Name}
-use Rattle.p416_rules.specs.Kinds.{Kind}
-use Rattle.p416_rules.specs.Scopes.{Layout as TypeLayout, Scope, Handed, an_action, sort_of, kind_of_type}
-use Rattle.p416_rules.specs.Calls.{Place, value, place_of}
-use Rattle.p416_rules.specs.Expressions.{kind_of}
-use Rattle.p416_rules.specs.Types.{takes, takes_kind}
-use Rattle.p416_rules.specs.Uses.{arguments_of}
-use Rattle.p416_rules.specs.Breaks.{BreaksNone, program_rules}
-use Rattle.p416_rules.specs.Declarations.{layouts_of}
-use Rattle.v1_sem.specs.Values.{Value, fitted, zero_value}
-use Rattle.v1_sem.specs.Frames as sem
-use Rattle.v1_sem.specs.Slots.{the_variable, variable_kinds, parameter_kind}
-use Rattle.v1_sem.specs.Surroundings as meaning
-use Rattle.v1_sem.specs.Surroundings.{action_named}
-use Rattle.v1_sem.specs.Numbered.{InScope}
-use Rattle.v1_sem.specs.Expressions as sem_expressions
-use Rattle.v1_sem.specs.Expressions.{value_of}
-use Rattle.v1_sem.specs.Calls as calls
-use Rattle.v1_sem.specs.Calls.{argument_at, arguments_from}
-use Rattle.v1_frames.specs.Cells.{Cells, slot_value}
-use Rattle.v1_frame_values.specs.Seats.{Content, Form, slot_form, header_form, stack_form, struct_form, no_form, form_of, Seat}
-use Rattle.v1_frame_values.specs.Values.{seat_value}
-use Rattle.v1_frame_values.specs.Programs.{part_seat}
-use Rattle.v1_frame_values.specs.Frames.{IsFrameOf}
-use Rattle.v1_frame_values.specs.Scopes.{AreAway, IsScope}
-use Rattle.v1_ready_expressions.specs.Ready.{Ended}
+use Rattle.p416_syntax.specs.declared.parts.Param.{Param}
+use Rattle.p416_syntax.specs.Tree.{Exp16, name, call, expression}
+use Rattle.p416_syntax.specs.Names.{Name}
+use Rattle.p416_syntax.specs.Kinds.{Kind}
+use Rattle.p416_syntax.specs.Scopes.{Layout as TypeLayout, Scope, Handed, an_action, sort_of, kind_of_type}
+use Rattle.p416_syntax.specs.Calls.{Place, value, place_of}
+use Rattle.p416_syntax.specs.Expressions.{kind_of}
+use Rattle.p416_syntax.specs.Types.{takes, takes_kind}
+use Rattle.p416_syntax.specs.Uses.{arguments_of}
+use Rattle.p416_syntax.specs.Breaks.{BreaksNone, program_rules}
+use Rattle.p416_syntax.specs.Declarations.{layouts_of}
+use Rattle.v1_core.specs.Values.{Value, fitted, zero_value}
+use Rattle.v1_core.specs.Frames as sem
+use Rattle.v1_core.specs.Slots.{the_variable, variable_kinds, parameter_kind}
+use Rattle.v1_core.specs.Surroundings as meaning
+use Rattle.v1_core.specs.Surroundings.{action_named}
+use Rattle.v1_core.specs.Numbered.{InScope}
+use Rattle.v1_core.specs.Expressions as sem_expressions
+use Rattle.v1_core.specs.Expressions.{value_of}
+use Rattle.v1_core.specs.Calls as calls
+use Rattle.v1_core.specs.Calls.{argument_at, arguments_from}
+use Rattle.v1_core.specs.Cells.{Cells, slot_value}
+use Rattle.v1_core.specs.Seats.{Content, Form, slot_form, header_form, stack_form, struct_form, no_form, form_of, Seat}
+use Rattle.v1_core.specs.PackedValues.{seat_value}
+use Rattle.v1_core.specs.Programs.{part_seat}
+use Rattle.v1_core.specs.PackedFrames.{IsFrameOf}
+use Rattle.v1_core.specs.Scopes.{AreAway, IsScope}
+use Rattle.v1_core.specs.Ready.{Ended}
 use Rattle.v1_ready_forms.specs.Named.{NamedSeat, seats_in}
 use Rattle.v1_ready_laws.specs.Rules.{Keeps, NamesSeated}
 use Rattle.v1_block_laws.specs.Keeping.{Each, ArgumentsKeep}

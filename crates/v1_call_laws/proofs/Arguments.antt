@@ -5,24 +5,24 @@ use Rattle.std.specs.Prelude.{option_map}
 use Rattle.std.specs.List.{list_any}
 use Rattle.std.proofs.lemmas.List.{append_assoc, append-nil}
 use Rattle.p4x_bits.specs.BitLists.{bits as bit_list}
-use Rattle.p416_ast.specs.Tree.{Exp16, literal, truth, error, name, member, index, slice, call, lookahead, cast, unary, binary, choice, parenthesized, no_arguments, argument, listed}
-use Rattle.p416_rules.specs.Scopes.{Scope}
-use Rattle.p416_rules.specs.Calls.{Place, any_bits, item_list}
-use Rattle.p416_rules.specs.Expressions.{kind_of}
-use Rattle.p416_rules.specs.Uses.{an_expression, Use, one, many, uses_at}
-use Rattle.p416_rules.specs.Types.{is_mistyped}
-use Rattle.p416_rules.specs.Sizes.{leaves_size}
-use Rattle.p416_rules.specs.Writes.{is_written_place}
-use Rattle.v1_sem.specs.Values.{Value, some_bits, bits_of_list, number_in, width_in}
-use Rattle.v1_sem.specs.Frames as sem
-use Rattle.v1_sem.specs.Surroundings as meaning
-use Rattle.v1_sem.specs.Numbered.{InScope}
-use Rattle.v1_sem.specs.Expressions as sem_expressions
-use Rattle.v1_sem.specs.Expressions.{reference_of, value_of}
-use Rattle.v1_sem.specs.Calls as calls
-use Rattle.v1_sem.specs.Calls.{by_value, by_reference, items_of, argument_at, arguments_from}
-use Rattle.v1_frames.specs.Cells.{Cells}
-use Rattle.v1_ready_expressions.specs.Ready.{Ended, given}
+use Rattle.p416_syntax.specs.Tree.{Exp16, literal, truth, error, name, member, index, slice, call, lookahead, cast, unary, binary, choice, parenthesized, no_arguments, argument, listed}
+use Rattle.p416_syntax.specs.Scopes.{Scope}
+use Rattle.p416_syntax.specs.Calls.{Place, any_bits, item_list}
+use Rattle.p416_syntax.specs.Expressions.{kind_of}
+use Rattle.p416_syntax.specs.Uses.{an_expression, Use, one, many, uses_at}
+use Rattle.p416_syntax.specs.Types.{is_mistyped}
+use Rattle.p416_syntax.specs.Sizes.{leaves_size}
+use Rattle.p416_syntax.specs.Writes.{is_written_place}
+use Rattle.v1_core.specs.Values.{Value, some_bits, bits_of_list, number_in, width_in}
+use Rattle.v1_core.specs.Frames as sem
+use Rattle.v1_core.specs.Surroundings as meaning
+use Rattle.v1_core.specs.Numbered.{InScope}
+use Rattle.v1_core.specs.Expressions as sem_expressions
+use Rattle.v1_core.specs.Expressions.{reference_of, value_of}
+use Rattle.v1_core.specs.Calls as calls
+use Rattle.v1_core.specs.Calls.{by_value, by_reference, items_of, argument_at, arguments_from}
+use Rattle.v1_core.specs.Cells.{Cells}
+use Rattle.v1_core.specs.Ready.{Ended, given}
 use Rattle.v1_ready_forms.specs.Named.{NamedSeat, seats_in}
 use Rattle.v1_ready_laws.specs.Rules.{KeepsAll, Keeps}
 use Rattle.v1_ready_laws.proofs.Rules.{second_false, front_none, rest_none}

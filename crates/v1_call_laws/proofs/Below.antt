@@ -9,32 +9,32 @@ use Rattle.std.proofs.lemmas.List.{get_or_past}
 use Rattle.std.proofs.Math.Nat.{mod-lt, div-le_self}
 use Rattle.p4x_bits.specs.BitLists.{bit, num, octet_bits}
 use Rattle.p4x_bits.proofs.BitLists.{num_of_take_below}
-use Rattle.p416_ast.specs.declared.node.CastType.{CastType}
-use Rattle.p416_ast.specs.declared.node.CastType.TheVariants as cast_to
-use Rattle.p416_ast.specs.declared.node.UnaryOperator.{UnaryOperator}
-use Rattle.p416_ast.specs.declared.node.UnaryOperator.TheVariants.{Not, Complement, Negate}
-use Rattle.p416_ast.specs.declared.node.BinaryOperator.{BinaryOperator}
-use Rattle.p416_ast.specs.declared.node.BinaryOperator.TheVariants.{Multiply, Add, Subtract, SaturatingAdd, SaturatingSubtract, Concatenate, ShiftLeft, ShiftRight, BitAnd, BitXor, BitOr, Less, LessEqual, Greater, GreaterEqual, Equal, NotEqual, And, Or}
-use Rattle.p416_ast.specs.Tree.{Exp16, literal, truth, error, name, member, index, slice, call, lookahead, cast, unary, binary, choice, parenthesized, no_arguments, argument, listed}
-use Rattle.p416_rules.specs.Names.{Name}
-use Rattle.p416_rules.specs.Kinds.{Kind, bits, unsized, boolean, error_code, header, stack, struct, packet_in, packet_out, errors, enumeration, one_of, table, applied, object, items, nothing, unknown}
-use Rattle.p416_rules.specs.Scopes.{Layout, Scope, kind_of_type}
-use Rattle.p416_rules.specs.Calls.{Place, value, any_bits, owner, a_stack, callee, unasked, method_signature}
-use Rattle.p416_rules.specs.Expressions.{kind_of, signature_of}
-use Rattle.p416_rules.specs.Uses.{Use, an_expression, a_number as number_use, one, many, unary_place, left_place, right_place, cast_place, cast_numbers, chosen_place, owner_place, wanted_by, uses_at}
-use Rattle.p416_rules.specs.Sizes.{leaves_size, is_bad_width}
-use Rattle.v1_sem.specs.Values.{Value, a_number, a_truth, an_error, a_header, a_stack, no_members, a_member, a_symbol, some_bits, no_value, number_in, is_true, sliced, to_member, to_element}
-use Rattle.v1_sem.specs.Numbers.{unary_value, of_truths, of_errors}
-use Rattle.v1_sem.specs.Expressions.{literal_number, literal_width, number_of_error}
-use Rattle.v1_sem.specs.declared.parser_error.ParserError.TheVariants.{PacketTooShort, StackOutOfBounds}
-use Rattle.v1_frames.specs.Cells.{Cells, is_live, slot_value, header_valid, stack_place, stack_size, AreWhole}
-use Rattle.v1_frame_values.specs.Seats.{Form, slot_form, header_form, stack_form, struct_form, no_form, some_bits as bits_content, a_truth as truth_content, an_error as error_content}
-use Rattle.v1_ready_expressions.specs.declared.node.Content.{Content}
-use Rattle.v1_ready_expressions.specs.declared.node.Content.TheVariants as content
-use Rattle.v1_ready_expressions.specs.declared.node.Element.{Element}
-use Rattle.v1_ready_expressions.specs.Scalars.{apart_value, word_value, joint_value, is_joint, pair_value, bits_value, truth_value}
-use Rattle.v1_ready_expressions.specs.Ready as ready
-use Rattle.v1_ready_expressions.specs.Ready.{Ready, Ended, given, failed, and_then, value_in, part_number, within_stack, bits_ahead, slice_at, is_past, ready_value}
+use Rattle.p416_syntax.specs.declared.node.CastType.{CastType}
+use Rattle.p416_syntax.specs.declared.node.CastType.TheVariants as cast_to
+use Rattle.p416_syntax.specs.declared.node.UnaryOperator.{UnaryOperator}
+use Rattle.p416_syntax.specs.declared.node.UnaryOperator.TheVariants.{Not, Complement, Negate}
+use Rattle.p416_syntax.specs.declared.node.BinaryOperator.{BinaryOperator}
+use Rattle.p416_syntax.specs.declared.node.BinaryOperator.TheVariants.{Multiply, Add, Subtract, SaturatingAdd, SaturatingSubtract, Concatenate, ShiftLeft, ShiftRight, BitAnd, BitXor, BitOr, Less, LessEqual, Greater, GreaterEqual, Equal, NotEqual, And, Or}
+use Rattle.p416_syntax.specs.Tree.{Exp16, literal, truth, error, name, member, index, slice, call, lookahead, cast, unary, binary, choice, parenthesized, no_arguments, argument, listed}
+use Rattle.p416_syntax.specs.Names.{Name}
+use Rattle.p416_syntax.specs.Kinds.{Kind, bits, unsized, boolean, error_code, header, stack, struct, packet_in, packet_out, errors, enumeration, one_of, table, applied, object, items, nothing, unknown}
+use Rattle.p416_syntax.specs.Scopes.{Layout, Scope, kind_of_type}
+use Rattle.p416_syntax.specs.Calls.{Place, value, any_bits, owner, a_stack, callee, unasked, method_signature}
+use Rattle.p416_syntax.specs.Expressions.{kind_of, signature_of}
+use Rattle.p416_syntax.specs.Uses.{Use, an_expression, a_number as number_use, one, many, unary_place, left_place, right_place, cast_place, cast_numbers, chosen_place, owner_place, wanted_by, uses_at}
+use Rattle.p416_syntax.specs.Sizes.{leaves_size, is_bad_width}
+use Rattle.v1_core.specs.Values.{Value, a_number, a_truth, an_error, a_header, a_stack, no_members, a_member, a_symbol, some_bits, no_value, number_in, is_true, sliced, to_member, to_element}
+use Rattle.v1_core.specs.Numbers.{unary_value, of_truths, of_errors}
+use Rattle.v1_core.specs.Expressions.{literal_number, literal_width, number_of_error}
+use Rattle.v1_core.specs.declared.parser_error.ParserError.TheVariants.{PacketTooShort, StackOutOfBounds}
+use Rattle.v1_core.specs.Cells.{Cells, is_live, slot_value, header_valid, stack_place, stack_size, AreWhole}
+use Rattle.v1_core.specs.Seats.{Form, slot_form, header_form, stack_form, struct_form, no_form, some_bits as bits_content, a_truth as truth_content, an_error as error_content}
+use Rattle.v1_core.specs.declared.node.Content.{Content}
+use Rattle.v1_core.specs.declared.node.Content.TheVariants as content
+use Rattle.v1_core.specs.declared.node.Element.{Element}
+use Rattle.v1_core.specs.Scalars.{apart_value, word_value, joint_value, is_joint, pair_value, bits_value, truth_value}
+use Rattle.v1_core.specs.Ready as ready
+use Rattle.v1_core.specs.Ready.{Ready, Ended, given, failed, and_then, value_in, part_number, within_stack, bits_ahead, slice_at, is_past, ready_value}
 use Rattle.v1_ready_forms.specs.Named.{NamedSeat, seat_of_name}
 use Rattle.v1_ready_forms.specs.Ways.{Way, its_value, its_validity, through_member, through_element, through_told, which_of}
 use Rattle.v1_ready_forms.specs.Spots.{Told, Spot, spot_with, spot_behind, told_spot, value_ready, validity_ready, ready_behind, way_ready}

@@ -3,23 +3,23 @@ use Rattle.std.proofs.Common.{◌≡◌, ℕ, inl, inr, IsTrue, ◌||◌, Bool, 
 use Rattle.std.specs.Prelude.{flat_map, codes}
 use Rattle.std.specs.List.{list_any}
 use Rattle.std.specs.Str.{bytes_eq}
-use Rattle.p416_ast.specs.declared.program.Decl16.{Decl16}
-use Rattle.p416_ast.specs.declared.program.Decl16.TheVariants as decl
-use Rattle.p416_ast.specs.declared.program.Syntax16.{Syntax16}
-use Rattle.p416_ast.specs.declared.controls.Control16.{Control16}
-use Rattle.p416_ast.specs.Tree.{Exp16, literal, truth, error, name, member, index, slice, call, lookahead, cast, unary, binary, choice, parenthesized, no_arguments, argument, listed}
-use Rattle.p416_rules.specs.Names.{Name, has_name, repeats}
-use Rattle.p416_rules.specs.Scopes.{FieldKind, fields_in, Known, called_of, Scope}
-use Rattle.p416_rules.specs.BuiltIn.{functions, built_in, standard_name, standard_layout}
-use Rattle.p416_rules.specs.Unknown.{declares_twice}
-use Rattle.p416_rules.specs.Declarations.{top_name, bit_field, struct_field, layout_in, top_names}
-use Rattle.p416_rules.specs.Main.{positions_of}
-use Rattle.p416_rules.specs.Breaks.{is_no_block, IsBroken, BreaksNone, program_rules}
-use Rattle.v1_sem.specs.declared.block.Block.{Block}
-use Rattle.v1_sem.specs.Surroundings as meaning
-use Rattle.v1_sem.specs.Surroundings.{action_named}
-use Rattle.v1_sem.specs.Numbered.{InScope}
-use Rattle.v1_frames.specs.Cells.{Cells}
+use Rattle.p416_syntax.specs.declared.program.Decl16.{Decl16}
+use Rattle.p416_syntax.specs.declared.program.Decl16.TheVariants as decl
+use Rattle.p416_syntax.specs.declared.program.Syntax16.{Syntax16}
+use Rattle.p416_syntax.specs.declared.controls.Control16.{Control16}
+use Rattle.p416_syntax.specs.Tree.{Exp16, literal, truth, error, name, member, index, slice, call, lookahead, cast, unary, binary, choice, parenthesized, no_arguments, argument, listed}
+use Rattle.p416_syntax.specs.Names.{Name, has_name, repeats}
+use Rattle.p416_syntax.specs.Scopes.{FieldKind, fields_in, Known, called_of, Scope}
+use Rattle.p416_syntax.specs.BuiltIn.{functions, built_in, standard_name, standard_layout}
+use Rattle.p416_syntax.specs.Unknown.{declares_twice}
+use Rattle.p416_syntax.specs.Declarations.{top_name, bit_field, struct_field, layout_in, top_names}
+use Rattle.p416_syntax.specs.Main.{positions_of}
+use Rattle.p416_syntax.specs.Breaks.{is_no_block, IsBroken, BreaksNone, program_rules}
+use Rattle.v1_core.specs.declared.block.Block.{Block}
+use Rattle.v1_core.specs.Surroundings as meaning
+use Rattle.v1_core.specs.Surroundings.{action_named}
+use Rattle.v1_core.specs.Numbered.{InScope}
+use Rattle.v1_core.specs.Cells.{Cells}
 use Rattle.v1_ready_blocks.specs.Tests.{World}
 use Rattle.v1_block_laws.specs.Variables.{scope_in_control}
 use Rattle.v1_ready_statements.specs.Around.{Around, action_found}

@@ -3,36 +3,36 @@ use Rattle.std.proofs.Common.{◌≡◌, ◌≢◌, ◌⊎◌, inl, inr, ℕ, su
 use Rattle.std.specs.Prelude.{filter_map, flat_map}
 use Rattle.std.specs.List.{list_any}
 use Rattle.std.specs.Str.{bytes_eq}
-use Rattle.p416_ast.specs.declared.parts.Direction.{Direction}
-use Rattle.p416_ast.specs.declared.parts.Direction.TheVariants.{In, Out, InOut}
-use Rattle.p416_ast.specs.declared.parts.Type16.{Type16}
-use Rattle.p416_ast.specs.declared.parts.Type16.TheVariants as type16
-use Rattle.p416_ast.specs.declared.parts.Param.{Param}
-use Rattle.p416_ast.specs.declared.controls.Instance.{Instance}
-use Rattle.p416_ast.specs.declared.controls.Instance.TheVariants as instance
-use Rattle.p416_ast.specs.declared.controls.Action16.{Action16}
-use Rattle.p416_ast.specs.declared.controls.Local.{Local}
-use Rattle.p416_ast.specs.declared.controls.Local.TheVariants as local
-use Rattle.p416_ast.specs.declared.program.Decl16.{Decl16}
-use Rattle.p416_ast.specs.declared.program.Decl16.TheVariants as decl
-use Rattle.p416_ast.specs.Tree.{Stmt16, no_statements, then, block as block_of, empty, var, var_is, assign, expression, if_then, if_else, switch, no_cases, case_of}
-use Rattle.p416_rules.specs.Names.{Name, has_name, repeats}
-use Rattle.p416_rules.specs.Kinds.{Kind, bits, unsized, boolean, error_code, header, stack, struct, packet_in, packet_out, errors, enumeration, one_of, table, applied, object, items, nothing, unknown}
-use Rattle.p416_rules.specs.Scopes.{Sort, a_type, a_value, an_enumeration, a_function, an_object, an_action, a_table, a_state, a_block, undeclared, Handed, handed, Known, known, sort_in, Scope, type_sort, stack_kind, kind_of_type, known_parameter, is_written}
-use Rattle.p416_rules.specs.BuiltIn.{built_in}
-use Rattle.p416_rules.specs.Statements.{behind}
-use Rattle.p416_rules.specs.Scopes.{called_of}
-use Rattle.p416_rules.specs.Uses.{Use, names_of_scope, some_parameters, some_counters, of_action_parameter, of_block_parameter}
-use Rattle.p416_rules.specs.Unknown.{is_misnamed}
-use Rattle.p416_rules.specs.Breaks.{scope_of}
-use Rattle.p416_rules.specs.Declarations.{parameter_name, parameter_uses, note_uses, body_uses, instance_sort, top_name, top_names, known_local, action_in, action_uses, local_uses, control_uses, tables_in, counters_in, control_names, top_scope, control_scope, action_scope}
+use Rattle.p416_syntax.specs.declared.parts.Direction.{Direction}
+use Rattle.p416_syntax.specs.declared.parts.Direction.TheVariants.{In, Out, InOut}
+use Rattle.p416_syntax.specs.declared.parts.Type16.{Type16}
+use Rattle.p416_syntax.specs.declared.parts.Type16.TheVariants as type16
+use Rattle.p416_syntax.specs.declared.parts.Param.{Param}
+use Rattle.p416_syntax.specs.declared.controls.Instance.{Instance}
+use Rattle.p416_syntax.specs.declared.controls.Instance.TheVariants as instance
+use Rattle.p416_syntax.specs.declared.controls.Action16.{Action16}
+use Rattle.p416_syntax.specs.declared.controls.Local.{Local}
+use Rattle.p416_syntax.specs.declared.controls.Local.TheVariants as local
+use Rattle.p416_syntax.specs.declared.program.Decl16.{Decl16}
+use Rattle.p416_syntax.specs.declared.program.Decl16.TheVariants as decl
+use Rattle.p416_syntax.specs.Tree.{Stmt16, no_statements, then, block as block_of, empty, var, var_is, assign, expression, if_then, if_else, switch, no_cases, case_of}
+use Rattle.p416_syntax.specs.Names.{Name, has_name, repeats}
+use Rattle.p416_syntax.specs.Kinds.{Kind, bits, unsized, boolean, error_code, header, stack, struct, packet_in, packet_out, errors, enumeration, one_of, table, applied, object, items, nothing, unknown}
+use Rattle.p416_syntax.specs.Scopes.{Sort, a_type, a_value, an_enumeration, a_function, an_object, an_action, a_table, a_state, a_block, undeclared, Handed, handed, Known, known, sort_in, Scope, type_sort, stack_kind, kind_of_type, known_parameter, is_written}
+use Rattle.p416_syntax.specs.BuiltIn.{built_in}
+use Rattle.p416_syntax.specs.Statements.{behind}
+use Rattle.p416_syntax.specs.Scopes.{called_of}
+use Rattle.p416_syntax.specs.Uses.{Use, names_of_scope, some_parameters, some_counters, of_action_parameter, of_block_parameter}
+use Rattle.p416_syntax.specs.Unknown.{is_misnamed}
+use Rattle.p416_syntax.specs.Breaks.{scope_of}
+use Rattle.p416_syntax.specs.Declarations.{parameter_name, parameter_uses, note_uses, body_uses, instance_sort, top_name, top_names, known_local, action_in, action_uses, local_uses, control_uses, tables_in, counters_in, control_names, top_scope, control_scope, action_scope}
 use Rattle.v1_ready_laws.proofs.Rules.{front_none, rest_none}
 use Rattle.v1_block_laws.specs.Variables.{is_control, scope_in_control}
 use Rattle.v1_block_laws.proofs.Accepted.{names_kept, none_within}
 use Rattle.v1_block_laws.proofs.Blocks.{control_declared}
-use Rattle.v1_sem.specs.Slots.{local_kinds}
-use Rattle.v1_sem.specs.Surroundings.{action_called, action_named}
-use Rattle.v1_frame_values.specs.Seats.{Content, slot_form, no_form, form_of}
+use Rattle.v1_core.specs.Slots.{local_kinds}
+use Rattle.v1_core.specs.Surroundings.{action_called, action_named}
+use Rattle.v1_core.specs.Seats.{Content, slot_form, no_form, form_of}
 use Rattle.v1_ready_statements.specs.Around.{Found, ActionPlace, action_places, found_from, action_found}
 use Rattle.v1_ready_statements.specs.Given.{is_back}
 use Rattle.v1_call_laws.specs.Calling.{IsNamedKind, SortPlain, NamesPlain}

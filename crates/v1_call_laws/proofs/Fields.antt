@@ -1,16 +1,16 @@
 -- The fields of standard metadata stand as bits in the slots that are found by their names.
 use Rattle.std.proofs.Common.{◌≡◌, ℕ, Option, Some, None, IfSome, List, [], ◌∷◌, length, refl, sym, ap, ◌∙◌, subst}
 use Rattle.std.specs.Prelude.{codes}
-use Rattle.p416_ast.specs.declared.program.Syntax16.{Syntax16}
-use Rattle.p416_rules.specs.Names.{Name}
-use Rattle.p416_rules.specs.Scopes.{Layout, FieldKind, fields_in}
-use Rattle.p416_rules.specs.BuiltIn.{standard_name, standard_layout}
-use Rattle.p416_rules.specs.Declarations.{layouts_of}
-use Rattle.p416_rules.specs.Main.{headers_kind, metadata_kind}
-use Rattle.v1_sem.specs.Values.{to_member}
-use Rattle.v1_sem.specs.Slots.{the_standard, part_with}
-use Rattle.v1_frame_values.specs.Seats.{some_bits, Form, slot_form, struct_form, form_of, Start, behind, Seat, member_seat, stepped_seat, seat_behind, seat_at}
-use Rattle.v1_frame_values.specs.Programs.{first_start, part_seat}
+use Rattle.p416_syntax.specs.declared.program.Syntax16.{Syntax16}
+use Rattle.p416_syntax.specs.Names.{Name}
+use Rattle.p416_syntax.specs.Scopes.{Layout, FieldKind, fields_in}
+use Rattle.p416_syntax.specs.BuiltIn.{standard_name, standard_layout}
+use Rattle.p416_syntax.specs.Declarations.{layouts_of}
+use Rattle.p416_syntax.specs.Main.{headers_kind, metadata_kind}
+use Rattle.v1_core.specs.Values.{to_member}
+use Rattle.v1_core.specs.Slots.{the_standard, part_with}
+use Rattle.v1_core.specs.Seats.{some_bits, Form, slot_form, struct_form, form_of, Start, behind, Seat, member_seat, stepped_seat, seat_behind, seat_at}
+use Rattle.v1_core.specs.Programs.{first_start, part_seat}
 use Rattle.v1_deed_laws.specs.Externs.{IsStandard}
 use Rattle.v1_ready_statements.specs.Around.{Around, slot_of_seat, standard_slot}
 use Rattle.v1_call_laws.specs.Calling.{StandardIsOwn}

@@ -6,24 +6,24 @@ use Rattle.std.specs.List.{list_any}
 use Rattle.std.specs.Option.{option_map_or}
 use Rattle.std.specs.Str.{bytes_eq}
 use Rattle.std.proofs.lemmas.Bool.{eqb-true}
-use Rattle.p416_ast.specs.declared.node.CastType.{CastType}
-use Rattle.p416_ast.specs.declared.node.CastType.TheVariants as cast_to
-use Rattle.p416_ast.specs.declared.node.UnaryOperator.{UnaryOperator}
-use Rattle.p416_ast.specs.declared.node.UnaryOperator.TheVariants.{Not, Complement, Negate}
-use Rattle.p416_ast.specs.declared.node.BinaryOperator.{BinaryOperator}
-use Rattle.p416_ast.specs.declared.node.BinaryOperator.TheVariants.{Multiply, Add, Subtract, SaturatingAdd, SaturatingSubtract, Concatenate, ShiftLeft, ShiftRight, BitAnd, BitXor, BitOr, Less, LessEqual, Greater, GreaterEqual, Equal, NotEqual, And, Or}
-use Rattle.p416_ast.specs.Tree.{Exp16, literal, truth, error, name, member, index, slice, call, lookahead, cast, unary, binary, choice, parenthesized, no_arguments, argument, listed}
-use Rattle.p416_lexemes.specs.declared.lexeme.Literal16.{Literal16}
-use Rattle.p416_rules.specs.Names.{Name, has_name}
-use Rattle.p416_rules.specs.BuiltIn.{members_of, error_names, standard}
-use Rattle.p416_rules.specs.Kinds.{Enumeration, hash_algorithm, counter_type, meter_type, clone_type, is_same_enumeration, counter, direct_counter, register, meter, Kind, bits, unsized, boolean, error_code, header, stack, struct, packet_in, packet_out, errors, enumeration, one_of, table, applied, object, items, nothing, unknown, is_same_kind}
-use Rattle.p416_rules.specs.Scopes.{Sort, a_type, a_value, an_enumeration, a_function, an_object, an_action, a_table, a_state, a_block, undeclared, Scope, sort_of, fields_in}
-use Rattle.p416_rules.specs.Calls.{Place, value, written, any_bits, written_bits, one_bit, bits_or_boolean, written_header, emitted, literal_of, any_literal, item_list, member_place, select_key, table_key, target, owner, written_owner, a_stack, callee, statement, unasked, Signature, function_signature, method_signature, extern_at, in_pipelines, checksum_places, list_number, index_place, clone_signature, method, counts_by_entry, parser_position, verify_position, ingress_position, egress_position, compute_position, deparser_position}
-use Rattle.p416_rules.specs.Expressions.{sort_kind, field_kind_in, member_kind, known_kind, joint_bits, concatenated, number_kind, unary_kind, binary_kind, is_chosen, same_choice, element_kind, leaves_width, slice_kind, cast_kind, sort_signature, call_kind, kind_of, signature_of, argument_count}
-use Rattle.p416_rules.specs.Uses.{Use, an_expression, one, many, wanted_by, uses, uses_at, arguments_of}
-use Rattle.p416_rules.specs.Types.{is_items, is_mistyped}
-use Rattle.p416_rules.specs.Literals.{overflows}
-use Rattle.p416_rules.specs.Arguments.{takes_other_count, is_miscounted}
+use Rattle.p416_syntax.specs.declared.node.CastType.{CastType}
+use Rattle.p416_syntax.specs.declared.node.CastType.TheVariants as cast_to
+use Rattle.p416_syntax.specs.declared.node.UnaryOperator.{UnaryOperator}
+use Rattle.p416_syntax.specs.declared.node.UnaryOperator.TheVariants.{Not, Complement, Negate}
+use Rattle.p416_syntax.specs.declared.node.BinaryOperator.{BinaryOperator}
+use Rattle.p416_syntax.specs.declared.node.BinaryOperator.TheVariants.{Multiply, Add, Subtract, SaturatingAdd, SaturatingSubtract, Concatenate, ShiftLeft, ShiftRight, BitAnd, BitXor, BitOr, Less, LessEqual, Greater, GreaterEqual, Equal, NotEqual, And, Or}
+use Rattle.p416_syntax.specs.Tree.{Exp16, literal, truth, error, name, member, index, slice, call, lookahead, cast, unary, binary, choice, parenthesized, no_arguments, argument, listed}
+use Rattle.p416_syntax.specs.declared.lexeme.Literal16.{Literal16}
+use Rattle.p416_syntax.specs.Names.{Name, has_name}
+use Rattle.p416_syntax.specs.BuiltIn.{members_of, error_names, standard}
+use Rattle.p416_syntax.specs.Kinds.{Enumeration, hash_algorithm, counter_type, meter_type, clone_type, is_same_enumeration, counter, direct_counter, register, meter, Kind, bits, unsized, boolean, error_code, header, stack, struct, packet_in, packet_out, errors, enumeration, one_of, table, applied, object, items, nothing, unknown, is_same_kind}
+use Rattle.p416_syntax.specs.Scopes.{Sort, a_type, a_value, an_enumeration, a_function, an_object, an_action, a_table, a_state, a_block, undeclared, Scope, sort_of, fields_in}
+use Rattle.p416_syntax.specs.Calls.{Place, value, written, any_bits, written_bits, one_bit, bits_or_boolean, written_header, emitted, literal_of, any_literal, item_list, member_place, select_key, table_key, target, owner, written_owner, a_stack, callee, statement, unasked, Signature, function_signature, method_signature, extern_at, in_pipelines, checksum_places, list_number, index_place, clone_signature, method, counts_by_entry, parser_position, verify_position, ingress_position, egress_position, compute_position, deparser_position}
+use Rattle.p416_syntax.specs.Expressions.{sort_kind, field_kind_in, member_kind, known_kind, joint_bits, concatenated, number_kind, unary_kind, binary_kind, is_chosen, same_choice, element_kind, leaves_width, slice_kind, cast_kind, sort_signature, call_kind, kind_of, signature_of, argument_count}
+use Rattle.p416_syntax.specs.Uses.{Use, an_expression, one, many, wanted_by, uses, uses_at, arguments_of}
+use Rattle.p416_syntax.specs.Types.{is_items, is_mistyped}
+use Rattle.p416_syntax.specs.Literals.{overflows}
+use Rattle.p416_syntax.specs.Arguments.{takes_other_count, is_miscounted}
 use Rattle.v1_ready_laws.specs.Rules.{Keeps}
 use Rattle.v1_ready_laws.proofs.Rules.{first_false, front_none, rest_none}
 use Rattle.v1_block_laws.specs.Keeping.{Each}

@@ -7,31 +7,31 @@ use Rattle.std.proofs.lemmas.List.{append-nil}
 use Rattle.calc_core.specs.Calculations.{csum16, crc16, crc32, identity}
 use Rattle.fabric.specs.declared.items.RequestKind.{RequestKind}
 use Rattle.fabric.specs.declared.items.RequestKind.TheVariants.{Resubmit, Recirculate}
-use Rattle.p416_ast.specs.declared.parts.HashAlgorithm.{HashAlgorithm}
-use Rattle.p416_ast.specs.declared.parts.HashAlgorithm.TheVariants.{Csum16, Crc16, Crc32, Identity}
-use Rattle.p416_ast.specs.Tree.{Exp16, name, call, expression}
-use Rattle.p416_rules.specs.Names.{Name}
-use Rattle.p416_rules.specs.Kinds.{boolean, hash_algorithm, clone_type}
-use Rattle.p416_rules.specs.Scopes.{Sort, a_function, Scope, sort_of}
-use Rattle.p416_rules.specs.BuiltIn.{standard}
-use Rattle.p416_rules.specs.Calls.{Place, statement, value, any_bits, written, written_bits, item_list, member_place, index_place, list_number, Signature, function_signature, checksum_places}
-use Rattle.p416_rules.specs.Expressions.{kind_of, signature_of, sort_signature}
-use Rattle.p416_rules.specs.Uses.{arguments_of, wanted_by}
-use Rattle.p416_rules.specs.Breaks.{BreaksNone, program_rules}
-use Rattle.p416_rules.specs.Declarations.{layouts_of}
-use Rattle.v1_sem.specs.Values.{Value, a_symbol, number_in, symbol_in, to_member}
-use Rattle.v1_sem.specs.Frames as sem
-use Rattle.v1_sem.specs.Frames.{stepped}
-use Rattle.v1_sem.specs.Slots.{variable_kinds}
-use Rattle.v1_sem.specs.Surroundings as meaning
-use Rattle.v1_sem.specs.Numbered.{InScope}
-use Rattle.v1_sem.specs.Calls as calls
-use Rattle.v1_sem.specs.Calls.{arguments_from, function_call, named_call, call_statement}
-use Rattle.v1_sem.specs.Externs.Checksums as checksums
-use Rattle.v1_sem.specs.Externs.Requests as requests
-use Rattle.v1_sem.specs.Externs.Requests.{clone_kind}
-use Rattle.v1_frames.specs.Cells.{Cells}
-use Rattle.v1_frame_values.specs.Scopes.{IsScope}
+use Rattle.p416_syntax.specs.declared.parts.HashAlgorithm.{HashAlgorithm}
+use Rattle.p416_syntax.specs.declared.parts.HashAlgorithm.TheVariants.{Csum16, Crc16, Crc32, Identity}
+use Rattle.p416_syntax.specs.Tree.{Exp16, name, call, expression}
+use Rattle.p416_syntax.specs.Names.{Name}
+use Rattle.p416_syntax.specs.Kinds.{boolean, hash_algorithm, clone_type}
+use Rattle.p416_syntax.specs.Scopes.{Sort, a_function, Scope, sort_of}
+use Rattle.p416_syntax.specs.BuiltIn.{standard}
+use Rattle.p416_syntax.specs.Calls.{Place, statement, value, any_bits, written, written_bits, item_list, member_place, index_place, list_number, Signature, function_signature, checksum_places}
+use Rattle.p416_syntax.specs.Expressions.{kind_of, signature_of, sort_signature}
+use Rattle.p416_syntax.specs.Uses.{arguments_of, wanted_by}
+use Rattle.p416_syntax.specs.Breaks.{BreaksNone, program_rules}
+use Rattle.p416_syntax.specs.Declarations.{layouts_of}
+use Rattle.v1_core.specs.Values.{Value, a_symbol, number_in, symbol_in, to_member}
+use Rattle.v1_core.specs.Frames as sem
+use Rattle.v1_core.specs.Frames.{stepped}
+use Rattle.v1_core.specs.Slots.{variable_kinds}
+use Rattle.v1_core.specs.Surroundings as meaning
+use Rattle.v1_core.specs.Numbered.{InScope}
+use Rattle.v1_core.specs.Calls as calls
+use Rattle.v1_core.specs.Calls.{arguments_from, function_call, named_call, call_statement}
+use Rattle.v1_core.specs.Externs.Checksums as checksums
+use Rattle.v1_core.specs.Externs.Requests as requests
+use Rattle.v1_core.specs.Externs.Requests.{clone_kind}
+use Rattle.v1_core.specs.Cells.{Cells}
+use Rattle.v1_core.specs.Scopes.{IsScope}
 use Rattle.v1_ready_forms.specs.Named.{NamedSeat, seats_in}
 use Rattle.v1_ready_laws.specs.Rules.{Keeps, NamesSeated}
 use Rattle.v1_block_laws.specs.Keeping.{Each, ArgumentsKeep}

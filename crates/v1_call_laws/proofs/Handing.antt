@@ -5,30 +5,30 @@ use Rattle.std.specs.Str.{bytes_eq}
 use Rattle.std.proofs.lemmas.Bool.{leb-false, eqb-true}
 use Rattle.std.proofs.lemmas.Slice.Eq.{bytes_eq-Decides}
 use Rattle.std.proofs.Math.Nat.{mod-eq_of_lt}
-use Rattle.p416_ast.specs.Tree.{Exp16, literal, truth, error, name, member, index, slice, call, lookahead, cast, unary, binary, choice, parenthesized, no_arguments, argument, listed}
-use Rattle.p416_rules.specs.Names.{Name}
-use Rattle.p416_rules.specs.Kinds.{Kind, Enumeration, bits, unsized, boolean, error_code, header, stack, struct, packet_in, packet_out, errors, enumeration, one_of, table, applied, object, items, nothing, unknown, is_bits, is_unsized}
-use Rattle.p416_rules.specs.Scopes.{Layout, FieldKind, fields_in, Scope}
-use Rattle.p416_rules.specs.BuiltIn.{standard_name, standard_layout, standard}
-use Rattle.p416_rules.specs.Calls.{Place, written_bits, written, member_place, literal_of, index_place}
-use Rattle.p416_rules.specs.Expressions.{kind_of, known_kind, field_kind_in, member_kind}
-use Rattle.p416_rules.specs.Types.{takes}
-use Rattle.p416_rules.specs.Writes.{is_written_place}
-use Rattle.p416_rules.specs.Literals.{overflows}
-use Rattle.p416_rules.specs.Uses.{an_expression}
-use Rattle.p416_rules.specs.Breaks.{BreaksNone, program_rules}
-use Rattle.p416_rules.specs.Declarations.{layouts_of}
-use Rattle.v1_sem.specs.Values.{Value, a_symbol, number_in, to_member, Slice}
-use Rattle.v1_sem.specs.Frames as sem
-use Rattle.v1_sem.specs.Frames.{stepped, read}
-use Rattle.v1_sem.specs.Surroundings as meaning
-use Rattle.v1_sem.specs.Surroundings.{named}
-use Rattle.v1_sem.specs.Numbered.{InScope}
-use Rattle.v1_sem.specs.Expressions as sem_expressions
-use Rattle.v1_sem.specs.Expressions.{Referred, reference_of, member_reference, value_of, member_value, literal_number}
-use Rattle.v1_sem.specs.Calls as calls
-use Rattle.v1_sem.specs.Calls.{argument_at, by_reference, by_value}
-use Rattle.v1_frames.specs.Cells.{Cells}
+use Rattle.p416_syntax.specs.Tree.{Exp16, literal, truth, error, name, member, index, slice, call, lookahead, cast, unary, binary, choice, parenthesized, no_arguments, argument, listed}
+use Rattle.p416_syntax.specs.Names.{Name}
+use Rattle.p416_syntax.specs.Kinds.{Kind, Enumeration, bits, unsized, boolean, error_code, header, stack, struct, packet_in, packet_out, errors, enumeration, one_of, table, applied, object, items, nothing, unknown, is_bits, is_unsized}
+use Rattle.p416_syntax.specs.Scopes.{Layout, FieldKind, fields_in, Scope}
+use Rattle.p416_syntax.specs.BuiltIn.{standard_name, standard_layout, standard}
+use Rattle.p416_syntax.specs.Calls.{Place, written_bits, written, member_place, literal_of, index_place}
+use Rattle.p416_syntax.specs.Expressions.{kind_of, known_kind, field_kind_in, member_kind}
+use Rattle.p416_syntax.specs.Types.{takes}
+use Rattle.p416_syntax.specs.Writes.{is_written_place}
+use Rattle.p416_syntax.specs.Literals.{overflows}
+use Rattle.p416_syntax.specs.Uses.{an_expression}
+use Rattle.p416_syntax.specs.Breaks.{BreaksNone, program_rules}
+use Rattle.p416_syntax.specs.Declarations.{layouts_of}
+use Rattle.v1_core.specs.Values.{Value, a_symbol, number_in, to_member, Slice}
+use Rattle.v1_core.specs.Frames as sem
+use Rattle.v1_core.specs.Frames.{stepped, read}
+use Rattle.v1_core.specs.Surroundings as meaning
+use Rattle.v1_core.specs.Surroundings.{named}
+use Rattle.v1_core.specs.Numbered.{InScope}
+use Rattle.v1_core.specs.Expressions as sem_expressions
+use Rattle.v1_core.specs.Expressions.{Referred, reference_of, member_reference, value_of, member_value, literal_number}
+use Rattle.v1_core.specs.Calls as calls
+use Rattle.v1_core.specs.Calls.{argument_at, by_reference, by_value}
+use Rattle.v1_core.specs.Cells.{Cells}
 use Rattle.v1_ready_forms.specs.Named.{NamedSeat, seats_in}
 use Rattle.v1_ready_forms.specs.Spots.{spot_behind}
 use Rattle.v1_ready_laws.specs.Kinds.{HasWidth}

@@ -4,34 +4,34 @@ use Rattle.std.specs.Prelude.{option_map}
 use Rattle.std.specs.Str.{bytes_eq}
 use Rattle.std.proofs.lemmas.Bool.{eqb-true}
 use Rattle.std.proofs.lemmas.Slice.Eq.{bytes_eq-Decides}
-use Rattle.p416_ast.specs.declared.parts.Direction.{Direction}
-use Rattle.p416_ast.specs.declared.parts.Direction.TheVariants.{In, Out, InOut}
-use Rattle.p416_ast.specs.declared.parts.Param.{Param}
-use Rattle.p416_ast.specs.Tree.{Exp16, literal, truth, error, name, member, index, slice, call, lookahead, cast, unary, binary, choice, parenthesized, no_arguments, argument, listed}
-use Rattle.p416_rules.specs.Kinds.{Kind, bits, unsized, boolean, error_code, header, stack, struct, packet_in, packet_out, errors, enumeration, one_of, table, applied, object, items, nothing, unknown, is_unsized}
-use Rattle.p416_rules.specs.Scopes.{Layout, FieldKind, fields_in, Scope, Handed, kind_of_type}
-use Rattle.p416_rules.specs.Calls.{Place, value, written, place_of}
-use Rattle.p416_rules.specs.Expressions.{kind_of}
-use Rattle.p416_rules.specs.Types.{takes, takes_kind}
-use Rattle.p416_rules.specs.Writes.{is_written_place}
-use Rattle.p416_rules.specs.Breaks.{BreaksNone, program_rules}
-use Rattle.p416_rules.specs.Declarations.{layouts_of}
-use Rattle.v1_sem.specs.Values.{Value, a_number, number_in, fitted, zero_within, zero_value, members_from}
-use Rattle.v1_sem.specs.Frames as sem
-use Rattle.v1_sem.specs.Frames.{read}
-use Rattle.v1_sem.specs.Surroundings as meaning
-use Rattle.v1_sem.specs.Slots.{the_variable, parameter_kind}
-use Rattle.v1_sem.specs.Numbered.{InScope}
-use Rattle.v1_sem.specs.Expressions as sem_expressions
-use Rattle.v1_sem.specs.Expressions.{valued, reference_of, value_of}
-use Rattle.v1_sem.specs.Calls as calls
-use Rattle.v1_sem.specs.Calls.{by_value, by_reference, argument_at, copied_in}
-use Rattle.v1_frames.specs.Cells.{Cells, slot_value}
-use Rattle.v1_frame_values.specs.Seats.{Content, some_bits, a_truth, an_error, Form, slot_form, header_form, stack_form, struct_form, no_form, form_of, Seat}
-use Rattle.v1_frame_values.specs.Values.{content_value, seat_value}
-use Rattle.v1_frame_values.specs.Programs.{part_seat}
-use Rattle.v1_frame_values.specs.Frames.{IsFrameOf}
-use Rattle.v1_ready_expressions.specs.Ready.{Ended}
+use Rattle.p416_syntax.specs.declared.parts.Direction.{Direction}
+use Rattle.p416_syntax.specs.declared.parts.Direction.TheVariants.{In, Out, InOut}
+use Rattle.p416_syntax.specs.declared.parts.Param.{Param}
+use Rattle.p416_syntax.specs.Tree.{Exp16, literal, truth, error, name, member, index, slice, call, lookahead, cast, unary, binary, choice, parenthesized, no_arguments, argument, listed}
+use Rattle.p416_syntax.specs.Kinds.{Kind, bits, unsized, boolean, error_code, header, stack, struct, packet_in, packet_out, errors, enumeration, one_of, table, applied, object, items, nothing, unknown, is_unsized}
+use Rattle.p416_syntax.specs.Scopes.{Layout, FieldKind, fields_in, Scope, Handed, kind_of_type}
+use Rattle.p416_syntax.specs.Calls.{Place, value, written, place_of}
+use Rattle.p416_syntax.specs.Expressions.{kind_of}
+use Rattle.p416_syntax.specs.Types.{takes, takes_kind}
+use Rattle.p416_syntax.specs.Writes.{is_written_place}
+use Rattle.p416_syntax.specs.Breaks.{BreaksNone, program_rules}
+use Rattle.p416_syntax.specs.Declarations.{layouts_of}
+use Rattle.v1_core.specs.Values.{Value, a_number, number_in, fitted, zero_within, zero_value, members_from}
+use Rattle.v1_core.specs.Frames as sem
+use Rattle.v1_core.specs.Frames.{read}
+use Rattle.v1_core.specs.Surroundings as meaning
+use Rattle.v1_core.specs.Slots.{the_variable, parameter_kind}
+use Rattle.v1_core.specs.Numbered.{InScope}
+use Rattle.v1_core.specs.Expressions as sem_expressions
+use Rattle.v1_core.specs.Expressions.{valued, reference_of, value_of}
+use Rattle.v1_core.specs.Calls as calls
+use Rattle.v1_core.specs.Calls.{by_value, by_reference, argument_at, copied_in}
+use Rattle.v1_core.specs.Cells.{Cells, slot_value}
+use Rattle.v1_core.specs.Seats.{Content, some_bits, a_truth, an_error, Form, slot_form, header_form, stack_form, struct_form, no_form, form_of, Seat}
+use Rattle.v1_core.specs.PackedValues.{content_value, seat_value}
+use Rattle.v1_core.specs.Programs.{part_seat}
+use Rattle.v1_core.specs.PackedFrames.{IsFrameOf}
+use Rattle.v1_core.specs.Ready.{Ended}
 use Rattle.v1_ready_forms.specs.Named.{NamedSeat, seats_in}
 use Rattle.v1_ready_forms.specs.Ways.{its_value}
 use Rattle.v1_ready_laws.specs.Rules.{Keeps, NamesSeated}

@@ -1,22 +1,22 @@
 -- The laws, by what is called.
 use Rattle.std.proofs.Common.{◌≡◌, Bool, true, false, Option, Some, None, IfSome, List, [], length, map, refl, sym, ap, subst}
 use Rattle.std.specs.Prelude.{option_map, option_and_then}
-use Rattle.p416_ast.specs.Tree.{Exp16, name, member, call, expression}
-use Rattle.p416_rules.specs.Kinds.{Kind, ObjectKind, object}
-use Rattle.p416_rules.specs.Names.{Name}
-use Rattle.p416_rules.specs.Scopes.{Handed, Sort, an_action, a_function, Scope, sort_of}
-use Rattle.p416_rules.specs.Calls.{Signature, statement, place_of}
-use Rattle.p416_rules.specs.Expressions.{kind_of, sort_signature}
-use Rattle.p416_rules.specs.Uses.{arguments_of, wanted_by}
-use Rattle.p416_rules.specs.Breaks.{BreaksNone, program_rules}
-use Rattle.p416_rules.specs.Declarations.{layouts_of}
-use Rattle.v1_sem.specs.Slots.{variable_kinds}
-use Rattle.v1_sem.specs.Surroundings as meaning
-use Rattle.v1_sem.specs.Surroundings.{action_named}
-use Rattle.v1_sem.specs.Numbered.{InScope}
-use Rattle.v1_frames.specs.Cells.{Cells}
-use Rattle.v1_frame_values.specs.Frames.{IsFrameOf}
-use Rattle.v1_frame_values.specs.Scopes.{IsScope}
+use Rattle.p416_syntax.specs.Tree.{Exp16, name, member, call, expression}
+use Rattle.p416_syntax.specs.Kinds.{Kind, ObjectKind, object}
+use Rattle.p416_syntax.specs.Names.{Name}
+use Rattle.p416_syntax.specs.Scopes.{Handed, Sort, an_action, a_function, Scope, sort_of}
+use Rattle.p416_syntax.specs.Calls.{Signature, statement, place_of}
+use Rattle.p416_syntax.specs.Expressions.{kind_of, sort_signature}
+use Rattle.p416_syntax.specs.Uses.{arguments_of, wanted_by}
+use Rattle.p416_syntax.specs.Breaks.{BreaksNone, program_rules}
+use Rattle.p416_syntax.specs.Declarations.{layouts_of}
+use Rattle.v1_core.specs.Slots.{variable_kinds}
+use Rattle.v1_core.specs.Surroundings as meaning
+use Rattle.v1_core.specs.Surroundings.{action_named}
+use Rattle.v1_core.specs.Numbered.{InScope}
+use Rattle.v1_core.specs.Cells.{Cells}
+use Rattle.v1_core.specs.PackedFrames.{IsFrameOf}
+use Rattle.v1_core.specs.Scopes.{IsScope}
 use Rattle.v1_ready_forms.specs.Named.{NamedSeat, seats_in}
 use Rattle.v1_ready_laws.specs.Rules.{NamesSeated}
 use Rattle.v1_block_laws.specs.Keeping.{ArgumentsKeep}

@@ -2,28 +2,28 @@
 use Rattle.std.proofs.Common.{◌≡◌, ◌≢◌, ◌⊎◌, inl, inr, ℕ, zero, suc, ◌+◌, ◌<◌, ◌≤◌, ◌||◌, Bool, true, false, cond, Option, Some, None, IfSome, List, [], ◌∷◌, ◌++◌, length, map, get_or, refl, sym, ap, ◌∙◌, subst, arith}
 use Rattle.std.specs.Prelude.{option_map, option_and_then}
 use Rattle.std.proofs.lemmas.Slice.Eq.{bytes_eq-Decides}
-use Rattle.p416_ast.specs.declared.parts.Direction.{Direction}
-use Rattle.p416_ast.specs.declared.parts.Direction.TheVariants.{In, Out, InOut}
-use Rattle.p416_ast.specs.declared.parts.Param.{Param}
-use Rattle.p416_ast.specs.Tree.{Exp16}
-use Rattle.p416_rules.specs.Names.{Name}
-use Rattle.p416_rules.specs.Kinds.{Kind, unknown}
-use Rattle.p416_rules.specs.Scopes.{Layout as TypeLayout, Scope, Handed, kind_of_type}
-use Rattle.p416_rules.specs.Calls.{place_of}
-use Rattle.p416_rules.specs.Breaks.{BreaksNone, program_rules}
-use Rattle.p416_rules.specs.Declarations.{layouts_of}
-use Rattle.v1_sem.specs.Values.{Value, a_member, member_in, zero_value, Slice as SliceOf}
-use Rattle.v1_sem.specs.Frames as sem
-use Rattle.v1_sem.specs.Frames.{Reference, put_at}
-use Rattle.v1_sem.specs.Slots.{the_variable, variable_kinds, parameter_kind}
-use Rattle.v1_sem.specs.Surroundings as meaning
-use Rattle.v1_sem.specs.Numbered.{InScope, named_values}
-use Rattle.v1_sem.specs.Calls as calls
-use Rattle.v1_sem.specs.Calls.{argument_at, arguments_from, copied_in, bound_arguments, copied_back, copied_out}
-use Rattle.v1_frames.specs.Cells.{Cells}
-use Rattle.v1_frame_values.specs.Seats.{Content, Form, slot_form, header_form, stack_form, struct_form, no_form, form_of, Start, behind, Seat}
-use Rattle.v1_frame_values.specs.Programs.{frame_kinds, first_start, seat_in, owner_seat, numbered16}
-use Rattle.v1_frame_values.specs.Scopes.{AreAway, IsScope}
+use Rattle.p416_syntax.specs.declared.parts.Direction.{Direction}
+use Rattle.p416_syntax.specs.declared.parts.Direction.TheVariants.{In, Out, InOut}
+use Rattle.p416_syntax.specs.declared.parts.Param.{Param}
+use Rattle.p416_syntax.specs.Tree.{Exp16}
+use Rattle.p416_syntax.specs.Names.{Name}
+use Rattle.p416_syntax.specs.Kinds.{Kind, unknown}
+use Rattle.p416_syntax.specs.Scopes.{Layout as TypeLayout, Scope, Handed, kind_of_type}
+use Rattle.p416_syntax.specs.Calls.{place_of}
+use Rattle.p416_syntax.specs.Breaks.{BreaksNone, program_rules}
+use Rattle.p416_syntax.specs.Declarations.{layouts_of}
+use Rattle.v1_core.specs.Values.{Value, a_member, member_in, zero_value, Slice as SliceOf}
+use Rattle.v1_core.specs.Frames as sem
+use Rattle.v1_core.specs.Frames.{Reference, put_at}
+use Rattle.v1_core.specs.Slots.{the_variable, variable_kinds, parameter_kind}
+use Rattle.v1_core.specs.Surroundings as meaning
+use Rattle.v1_core.specs.Numbered.{InScope, named_values}
+use Rattle.v1_core.specs.Calls as calls
+use Rattle.v1_core.specs.Calls.{argument_at, arguments_from, copied_in, bound_arguments, copied_back, copied_out}
+use Rattle.v1_core.specs.Cells.{Cells}
+use Rattle.v1_core.specs.Seats.{Content, Form, slot_form, header_form, stack_form, struct_form, no_form, form_of, Start, behind, Seat}
+use Rattle.v1_core.specs.Programs.{frame_kinds, first_start, seat_in, owner_seat, numbered16}
+use Rattle.v1_core.specs.Scopes.{AreAway, IsScope}
 use Rattle.v1_ready_forms.specs.Named.{NamedSeat, seats_in}
 use Rattle.v1_ready_forms.specs.Spots.{Told}
 use Rattle.v1_ready_laws.specs.Rules.{NamesSeated}

@@ -1,28 +1,28 @@
 -- The methods of counters, registers and meters do what their ready externs do.
 use Rattle.std.proofs.Common.{◌≡◌, ℕ, ◌==◌, Bool, true, false, cond, Option, Some, None, IfSome, List, [], ◌∷◌, ◌++◌, length, refl, ap, ◌∙◌, subst}
 use Rattle.std.specs.Prelude.{option_map, codes}
-use Rattle.p416_ast.specs.declared.controls.Local.{Local}
-use Rattle.p416_ast.specs.declared.program.Syntax16.{Syntax16}
-use Rattle.p416_ast.specs.Tree.{Exp16, member, call}
-use Rattle.p416_rules.specs.Names.{Name}
-use Rattle.p416_rules.specs.Kinds.{Kind, ObjectKind, counter, direct_counter, register, meter, object}
-use Rattle.p416_rules.specs.Scopes.{Scope}
-use Rattle.p416_rules.specs.Calls.{Place, statement, any_bits, written_bits, index_place, Signature, method_signature, object_method}
-use Rattle.p416_rules.specs.Expressions.{kind_of, signature_of}
-use Rattle.p416_rules.specs.Uses.{arguments_of, wanted_by}
-use Rattle.p416_rules.specs.Breaks.{BreaksNone, program_rules}
-use Rattle.p416_rules.specs.Declarations.{layouts_of}
-use Rattle.v1_sem.specs.Frames as sem
-use Rattle.v1_sem.specs.Slots.{variable_kinds}
-use Rattle.v1_sem.specs.Signatures.{object_number, plane_of_object}
-use Rattle.v1_sem.specs.Surroundings as meaning
-use Rattle.v1_sem.specs.Numbered.{InScope}
-use Rattle.v1_sem.specs.Expressions.{name_in}
-use Rattle.v1_sem.specs.Calls as calls
-use Rattle.v1_sem.specs.Calls.{arguments_from, object_in, object_call, method_call, call_statement}
-use Rattle.v1_sem.specs.Externs.Objects as objects
-use Rattle.v1_frames.specs.Cells.{Cells}
-use Rattle.v1_frame_values.specs.Scopes.{IsScope}
+use Rattle.p416_syntax.specs.declared.controls.Local.{Local}
+use Rattle.p416_syntax.specs.declared.program.Syntax16.{Syntax16}
+use Rattle.p416_syntax.specs.Tree.{Exp16, member, call}
+use Rattle.p416_syntax.specs.Names.{Name}
+use Rattle.p416_syntax.specs.Kinds.{Kind, ObjectKind, counter, direct_counter, register, meter, object}
+use Rattle.p416_syntax.specs.Scopes.{Scope}
+use Rattle.p416_syntax.specs.Calls.{Place, statement, any_bits, written_bits, index_place, Signature, method_signature, object_method}
+use Rattle.p416_syntax.specs.Expressions.{kind_of, signature_of}
+use Rattle.p416_syntax.specs.Uses.{arguments_of, wanted_by}
+use Rattle.p416_syntax.specs.Breaks.{BreaksNone, program_rules}
+use Rattle.p416_syntax.specs.Declarations.{layouts_of}
+use Rattle.v1_core.specs.Frames as sem
+use Rattle.v1_core.specs.Slots.{variable_kinds}
+use Rattle.v1_core.specs.Signatures.{object_number, plane_of_object}
+use Rattle.v1_core.specs.Surroundings as meaning
+use Rattle.v1_core.specs.Numbered.{InScope}
+use Rattle.v1_core.specs.Expressions.{name_in}
+use Rattle.v1_core.specs.Calls as calls
+use Rattle.v1_core.specs.Calls.{arguments_from, object_in, object_call, method_call, call_statement}
+use Rattle.v1_core.specs.Externs.Objects as objects
+use Rattle.v1_core.specs.Cells.{Cells}
+use Rattle.v1_core.specs.Scopes.{IsScope}
 use Rattle.v1_ready_forms.specs.Named.{NamedSeat, seats_in}
 use Rattle.v1_ready_laws.specs.Rules.{NamesSeated}
 use Rattle.v1_block_laws.specs.Keeping.{Each, ArgumentsKeep}
@@ -35,7 +35,7 @@ use Rattle.v1_ready_blocks.specs.Externs as externs
 use Rattle.v1_ready_blocks.specs.Externs.{Given, executed}
 use Rattle.v1_ready_blocks.specs.Arguments.{Argument, nothing_given}
 use Rattle.v1_ready_blocks.specs.Statements.{Deed}
-use Rattle.v1_sem.specs.Frames.{Hit}
+use Rattle.v1_core.specs.Frames.{Hit}
 use Rattle.v1_deed_laws.specs.Externs.{IsTarget}
 use Rattle.v1_deed_laws.proofs.Externs.{count_shows, count_entry_shows, read_shows, write_shows, meter_shows}
 use Rattle.v1_ready_statements.specs.Around.{Around, object_found, standard_slot}

@@ -6,32 +6,32 @@ use Rattle.std.proofs.lemmas.Bool.{eq-eqb}
 use Rattle.std.proofs.lemmas.List.{get_or-set_other}
 use Rattle.std.proofs.Math.Nat.{mod-eq_of_lt, mod-lt}
 use Rattle.p4x_bits.specs.BitLists.{bit}
-use Rattle.p416_ast.specs.declared.program.Syntax16.{Syntax16}
-use Rattle.p416_ast.specs.Tree.{Exp16}
-use Rattle.p416_rules.specs.Names.{Name}
-use Rattle.p416_rules.specs.Kinds.{Kind, bits, unsized, boolean, error_code, header, stack, struct, packet_in, packet_out, errors, enumeration, one_of, table, applied, object, items, nothing, unknown}
-use Rattle.p416_rules.specs.Scopes.{Layout as TypeLayout, Scope}
-use Rattle.p416_rules.specs.Expressions.{kind_of, is_chosen}
-use Rattle.p416_rules.specs.Statements.{assigned_place}
-use Rattle.p416_rules.specs.Types.{takes}
-use Rattle.p416_rules.specs.Breaks.{BreaksNone, program_rules}
-use Rattle.p416_rules.specs.Declarations.{layouts_of}
-use Rattle.v1_sem.specs.Values.{Value, a_number, as_number, fitted, Step, to_member, to_element, Slice as SliceOf}
-use Rattle.v1_sem.specs.Values as value
-use Rattle.v1_sem.specs.Frames as sem
-use Rattle.v1_sem.specs.Frames.{Owner, of_headers, of_metadata, of_standard, of_variables, of_inner, of_nothing, Reference, put_at}
-use Rattle.v1_sem.specs.Slots.{PartOwner, the_headers, the_metadata, the_standard, the_variable, FramePart, part_with, variable_kinds}
-use Rattle.v1_sem.specs.Surroundings as meaning
-use Rattle.v1_sem.specs.Numbered.{Numbered, Variable, InScope, with_part_value, number_of, part_behind, variable_part, part_meant}
-use Rattle.v1_sem.specs.Calls as calls
-use Rattle.v1_frames.specs.Cells.{Cells, slot_value, with_slot}
-use Rattle.v1_frames.proofs.Frames.{set_others}
-use Rattle.v1_frame_values.specs.Seats.{Content, some_bits, a_truth, an_error, Form, slot_form, form_of, Seat, behind_seat}
-use Rattle.v1_frame_values.specs.Values.{content_value, seat_value}
-use Rattle.v1_frame_values.specs.Programs.{part_seat, numbered16}
-use Rattle.v1_frame_values.specs.Frames.{IsFrameOf}
-use Rattle.v1_frame_values.specs.Scopes.{AreAway, IsScope}
-use Rattle.v1_frame_values.proofs.Laws.{part_put}
+use Rattle.p416_syntax.specs.declared.program.Syntax16.{Syntax16}
+use Rattle.p416_syntax.specs.Tree.{Exp16}
+use Rattle.p416_syntax.specs.Names.{Name}
+use Rattle.p416_syntax.specs.Kinds.{Kind, bits, unsized, boolean, error_code, header, stack, struct, packet_in, packet_out, errors, enumeration, one_of, table, applied, object, items, nothing, unknown}
+use Rattle.p416_syntax.specs.Scopes.{Layout as TypeLayout, Scope}
+use Rattle.p416_syntax.specs.Expressions.{kind_of, is_chosen}
+use Rattle.p416_syntax.specs.Statements.{assigned_place}
+use Rattle.p416_syntax.specs.Types.{takes}
+use Rattle.p416_syntax.specs.Breaks.{BreaksNone, program_rules}
+use Rattle.p416_syntax.specs.Declarations.{layouts_of}
+use Rattle.v1_core.specs.Values.{Value, a_number, as_number, fitted, Step, to_member, to_element, Slice as SliceOf}
+use Rattle.v1_core.specs.Values as value
+use Rattle.v1_core.specs.Frames as sem
+use Rattle.v1_core.specs.Frames.{Owner, of_headers, of_metadata, of_standard, of_variables, of_inner, of_nothing, Reference, put_at}
+use Rattle.v1_core.specs.Slots.{PartOwner, the_headers, the_metadata, the_standard, the_variable, FramePart, part_with, variable_kinds}
+use Rattle.v1_core.specs.Surroundings as meaning
+use Rattle.v1_core.specs.Numbered.{Numbered, Variable, InScope, with_part_value, number_of, part_behind, variable_part, part_meant}
+use Rattle.v1_core.specs.Calls as calls
+use Rattle.v1_core.specs.Cells.{Cells, slot_value, with_slot}
+use Rattle.v1_core.proofs.Frames.{set_others}
+use Rattle.v1_core.specs.Seats.{Content, some_bits, a_truth, an_error, Form, slot_form, form_of, Seat, behind_seat}
+use Rattle.v1_core.specs.PackedValues.{content_value, seat_value}
+use Rattle.v1_core.specs.Programs.{part_seat, numbered16}
+use Rattle.v1_core.specs.PackedFrames.{IsFrameOf}
+use Rattle.v1_core.specs.Scopes.{AreAway, IsScope}
+use Rattle.v1_core.proofs.Laws.{part_put}
 use Rattle.v1_ready_forms.specs.Named.{NamedSeat, seats_in}
 use Rattle.v1_ready_laws.specs.Rules.{NamesSeated}
 use Rattle.v1_ready_laws.proofs.Accepted.{accepted_narrow}

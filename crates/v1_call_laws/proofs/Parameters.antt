@@ -1,20 +1,20 @@
 -- Where the parameters of an action stand, what entered, and where it goes back.
 use Rattle.std.proofs.Common.{◌≡◌, ◌⊎◌, ℕ, suc, ◌<◌, true, None, Some, List, [], ◌∷◌, length}
-use Rattle.p416_ast.specs.declared.parts.Param.{Param}
-use Rattle.p416_ast.specs.Tree.{Exp16}
-use Rattle.p416_rules.specs.Kinds.{Kind}
-use Rattle.p416_rules.specs.Scopes.{Scope}
-use Rattle.p416_rules.specs.Expressions.{kind_of}
-use Rattle.p416_rules.specs.Declarations.{layouts_of}
-use Rattle.v1_sem.specs.Values.{Value, zero_value, member_in}
-use Rattle.v1_sem.specs.Slots.{the_variable, variable_kinds, parameter_kind}
-use Rattle.v1_sem.specs.Surroundings as meaning
-use Rattle.v1_sem.specs.Numbered.{InScope, part_value, new_numbered}
-use Rattle.v1_sem.specs.Calls as calls
-use Rattle.v1_sem.specs.Calls.{copied_in}
-use Rattle.v1_frames.specs.Cells.{Cells}
-use Rattle.v1_frame_values.specs.Seats.{Content, slot_form, form_of, Seat}
-use Rattle.v1_frame_values.specs.Programs.{owner_seat}
+use Rattle.p416_syntax.specs.declared.parts.Param.{Param}
+use Rattle.p416_syntax.specs.Tree.{Exp16}
+use Rattle.p416_syntax.specs.Kinds.{Kind}
+use Rattle.p416_syntax.specs.Scopes.{Scope}
+use Rattle.p416_syntax.specs.Expressions.{kind_of}
+use Rattle.p416_syntax.specs.Declarations.{layouts_of}
+use Rattle.v1_core.specs.Values.{Value, zero_value, member_in}
+use Rattle.v1_core.specs.Slots.{the_variable, variable_kinds, parameter_kind}
+use Rattle.v1_core.specs.Surroundings as meaning
+use Rattle.v1_core.specs.Numbered.{InScope, part_value, new_numbered}
+use Rattle.v1_core.specs.Calls as calls
+use Rattle.v1_core.specs.Calls.{copied_in}
+use Rattle.v1_core.specs.Cells.{Cells}
+use Rattle.v1_core.specs.Seats.{Content, slot_form, form_of, Seat}
+use Rattle.v1_core.specs.Programs.{owner_seat}
 use Rattle.v1_ready_forms.specs.Named.{NamedSeat, seats_in}
 use Rattle.v1_ready_blocks.specs.declared.places.Target.{Target}
 use Rattle.v1_ready_blocks.specs.Arguments.{Outgoing, value_out, parts_out}

@@ -1,21 +1,21 @@
 -- Where no stack tells anything evaluating a header, a stack or a struct stops nothing, also where tables are applied.
 use Rattle.std.proofs.Common.{◌≡◌, Option, Some, None, IfSome, List, [], ◌∷◌, ◌++◌, refl, subst}
-use Rattle.p416_ast.specs.Tree.{Exp16, literal, truth, error, name, member, index, slice, call, lookahead, cast, unary, binary, choice, parenthesized, no_arguments, argument, listed}
-use Rattle.p416_rules.specs.Names.{Name}
-use Rattle.p416_rules.specs.Kinds.{Kind, bits, unsized, boolean, error_code, header, stack, struct, packet_in, packet_out, errors, enumeration, one_of, table, applied, object, items, nothing, unknown}
-use Rattle.p416_rules.specs.Scopes.{Scope}
-use Rattle.p416_rules.specs.Calls.{Place, value, owner, a_stack, method_signature}
-use Rattle.p416_rules.specs.Expressions.{kind_of}
-use Rattle.p416_rules.specs.Uses.{Use, an_expression, a_number, owner_place, chosen_place, uses}
-use Rattle.p416_rules.specs.Types.{is_mistyped}
-use Rattle.p416_rules.specs.Sizes.{leaves_size}
-use Rattle.v1_sem.specs.Values.{is_true}
-use Rattle.v1_sem.specs.Frames as sem
-use Rattle.v1_sem.specs.Surroundings as meaning
-use Rattle.v1_sem.specs.Numbered.{InScope}
-use Rattle.v1_sem.specs.Expressions as sem_expressions
-use Rattle.v1_sem.specs.Expressions.{value_of}
-use Rattle.v1_frames.specs.Cells.{Cells}
+use Rattle.p416_syntax.specs.Tree.{Exp16, literal, truth, error, name, member, index, slice, call, lookahead, cast, unary, binary, choice, parenthesized, no_arguments, argument, listed}
+use Rattle.p416_syntax.specs.Names.{Name}
+use Rattle.p416_syntax.specs.Kinds.{Kind, bits, unsized, boolean, error_code, header, stack, struct, packet_in, packet_out, errors, enumeration, one_of, table, applied, object, items, nothing, unknown}
+use Rattle.p416_syntax.specs.Scopes.{Scope}
+use Rattle.p416_syntax.specs.Calls.{Place, value, owner, a_stack, method_signature}
+use Rattle.p416_syntax.specs.Expressions.{kind_of}
+use Rattle.p416_syntax.specs.Uses.{Use, an_expression, a_number, owner_place, chosen_place, uses}
+use Rattle.p416_syntax.specs.Types.{is_mistyped}
+use Rattle.p416_syntax.specs.Sizes.{leaves_size}
+use Rattle.v1_core.specs.Values.{is_true}
+use Rattle.v1_core.specs.Frames as sem
+use Rattle.v1_core.specs.Surroundings as meaning
+use Rattle.v1_core.specs.Numbered.{InScope}
+use Rattle.v1_core.specs.Expressions as sem_expressions
+use Rattle.v1_core.specs.Expressions.{value_of}
+use Rattle.v1_core.specs.Cells.{Cells}
 use Rattle.v1_ready_forms.specs.Named.{NamedSeat, seats_in}
 use Rattle.v1_ready_forms.specs.Ways.{Way, through_member, through_element}
 use Rattle.v1_ready_laws.specs.Rules.{KeepsAll, Keeps}

@@ -3,23 +3,23 @@ use Rattle.std.proofs.Common.{◌≡◌, ◌≢◌, inl, inr, ℕ, ◌%◌, ◌^
 use Rattle.std.proofs.lemmas.List.{get_or-set_other, get_or-set_same}
 use Rattle.std.proofs.Math.Nat.{mod-eq_of_lt, mod-lt}
 use Rattle.p4x_bits.specs.BitLists.{bit}
-use Rattle.p416_ast.specs.declared.program.Syntax16.{Syntax16}
-use Rattle.p416_rules.specs.Scopes.{Layout as TypeLayout}
-use Rattle.p416_rules.specs.Breaks.{BreaksNone, program_rules}
-use Rattle.p416_rules.specs.Declarations.{layouts_of}
-use Rattle.v1_sem.specs.Values.{Value, a_number, no_value, as_number, fitted}
-use Rattle.v1_sem.specs.Values as value
-use Rattle.v1_sem.specs.Frames as sem
-use Rattle.v1_sem.specs.Frames.{Frame}
-use Rattle.v1_sem.specs.Slots.{the_variable, FramePart, variable_kinds}
-use Rattle.v1_sem.specs.Numbered.{Numbered, Variable, InScope, nobody, named_values, frame_in, part_value, with_part_value, new_numbered}
-use Rattle.v1_frames.specs.Cells.{Cells, slot_value}
-use Rattle.v1_frame_values.specs.Seats.{Content, some_bits, a_truth, an_error, Form, slot_form, Seat, seat_behind, seat_at}
-use Rattle.v1_frame_values.specs.Values.{content_value, seat_value}
-use Rattle.v1_frame_values.specs.Programs.{part_seat, owner_seat, numbered16, slot_width as width_of_content}
-use Rattle.v1_frame_values.specs.Frames.{IsFrameOf}
-use Rattle.v1_frame_values.specs.Scopes.{AreAway}
-use Rattle.v1_frame_values.proofs.Laws.{part_put, part_read, slot_put}
+use Rattle.p416_syntax.specs.declared.program.Syntax16.{Syntax16}
+use Rattle.p416_syntax.specs.Scopes.{Layout as TypeLayout}
+use Rattle.p416_syntax.specs.Breaks.{BreaksNone, program_rules}
+use Rattle.p416_syntax.specs.Declarations.{layouts_of}
+use Rattle.v1_core.specs.Values.{Value, a_number, no_value, as_number, fitted}
+use Rattle.v1_core.specs.Values as value
+use Rattle.v1_core.specs.Frames as sem
+use Rattle.v1_core.specs.Frames.{Frame}
+use Rattle.v1_core.specs.Slots.{the_variable, FramePart, variable_kinds}
+use Rattle.v1_core.specs.Numbered.{Numbered, Variable, InScope, nobody, named_values, frame_in, part_value, with_part_value, new_numbered}
+use Rattle.v1_core.specs.Cells.{Cells, slot_value}
+use Rattle.v1_core.specs.Seats.{Content, some_bits, a_truth, an_error, Form, slot_form, Seat, seat_behind, seat_at}
+use Rattle.v1_core.specs.PackedValues.{content_value, seat_value}
+use Rattle.v1_core.specs.Programs.{part_seat, owner_seat, numbered16, slot_width as width_of_content}
+use Rattle.v1_core.specs.PackedFrames.{IsFrameOf}
+use Rattle.v1_core.specs.Scopes.{AreAway}
+use Rattle.v1_core.proofs.Laws.{part_put, part_read, slot_put}
 use Rattle.v1_ready_laws.specs.Widths.{IsNarrow}
 use Rattle.v1_ready_laws.proofs.Accepted.{accepted_narrow}
 use Rattle.v1_ready_laws.proofs.Steps.{Stands}

@@ -4,26 +4,26 @@ use Rattle.std.specs.Prelude.{codes}
 use Rattle.std.specs.List.{list_any}
 use Rattle.std.specs.Str.{bytes_eq}
 use Rattle.std.proofs.lemmas.Slice.Eq.{bytes_eq-Decides}
-use Rattle.p416_ast.specs.declared.controls.Instance.{Instance}
-use Rattle.p416_ast.specs.declared.controls.Instance.TheVariants as instance
-use Rattle.p416_ast.specs.declared.parts.Param.{Param}
-use Rattle.p416_ast.specs.declared.controls.Local.{Local}
-use Rattle.p416_ast.specs.declared.controls.Local.TheVariants as local
-use Rattle.p416_ast.specs.declared.controls.Control16.{Control16}
-use Rattle.p416_ast.specs.declared.program.Decl16.{Decl16}
-use Rattle.p416_ast.specs.declared.program.Decl16.TheVariants as decl
-use Rattle.p416_ast.specs.Tree.{Exp16, literal, truth, error, name, member, index, slice, call, lookahead, cast, unary, binary, choice, parenthesized, no_arguments, argument, listed, Stmt16, no_statements, then, block as block_of, empty, var, var_is, assign, expression, if_then, if_else, switch, no_cases, case_of}
-use Rattle.p416_rules.specs.Names.{Name}
-use Rattle.p416_rules.specs.Kinds.{Kind, packet_in, packet_out, hash_algorithm, counter_type, meter_type, clone_type, is_plain}
-use Rattle.p416_rules.specs.Scopes.{Sort, a_type, a_value, an_enumeration, a_function, an_object, an_action, a_table, a_state, a_block, undeclared, Known, known, sort_in, Scope, sort_of, kind_of_type, known_parameter}
-use Rattle.p416_rules.specs.BuiltIn.{functions, standard, standard_name, built_in}
-use Rattle.p416_rules.specs.Calls.{Place, owner, written_owner, callee, statement, unasked, Signature, function_signature, method_signature}
-use Rattle.p416_rules.specs.Expressions.{sort_signature, kind_of, signature_of}
-use Rattle.p416_rules.specs.Uses.{Use, an_expression, many, owner_place, wanted_by, uses, uses_at}
-use Rattle.p416_rules.specs.Types.{takes, is_named_callee, is_mistyped}
-use Rattle.p416_rules.specs.Unknown.{is_callee_sort, is_misnamed}
-use Rattle.p416_rules.specs.Statements.{behind}
-use Rattle.p416_rules.specs.Declarations.{instance_sort, top_name, top_names, known_local, top_scope, control_scope, action_scope}
+use Rattle.p416_syntax.specs.declared.controls.Instance.{Instance}
+use Rattle.p416_syntax.specs.declared.controls.Instance.TheVariants as instance
+use Rattle.p416_syntax.specs.declared.parts.Param.{Param}
+use Rattle.p416_syntax.specs.declared.controls.Local.{Local}
+use Rattle.p416_syntax.specs.declared.controls.Local.TheVariants as local
+use Rattle.p416_syntax.specs.declared.controls.Control16.{Control16}
+use Rattle.p416_syntax.specs.declared.program.Decl16.{Decl16}
+use Rattle.p416_syntax.specs.declared.program.Decl16.TheVariants as decl
+use Rattle.p416_syntax.specs.Tree.{Exp16, literal, truth, error, name, member, index, slice, call, lookahead, cast, unary, binary, choice, parenthesized, no_arguments, argument, listed, Stmt16, no_statements, then, block as block_of, empty, var, var_is, assign, expression, if_then, if_else, switch, no_cases, case_of}
+use Rattle.p416_syntax.specs.Names.{Name}
+use Rattle.p416_syntax.specs.Kinds.{Kind, packet_in, packet_out, hash_algorithm, counter_type, meter_type, clone_type, is_plain}
+use Rattle.p416_syntax.specs.Scopes.{Sort, a_type, a_value, an_enumeration, a_function, an_object, an_action, a_table, a_state, a_block, undeclared, Known, known, sort_in, Scope, sort_of, kind_of_type, known_parameter}
+use Rattle.p416_syntax.specs.BuiltIn.{functions, standard, standard_name, built_in}
+use Rattle.p416_syntax.specs.Calls.{Place, owner, written_owner, callee, statement, unasked, Signature, function_signature, method_signature}
+use Rattle.p416_syntax.specs.Expressions.{sort_signature, kind_of, signature_of}
+use Rattle.p416_syntax.specs.Uses.{Use, an_expression, many, owner_place, wanted_by, uses, uses_at}
+use Rattle.p416_syntax.specs.Types.{takes, is_named_callee, is_mistyped}
+use Rattle.p416_syntax.specs.Unknown.{is_callee_sort, is_misnamed}
+use Rattle.p416_syntax.specs.Statements.{behind}
+use Rattle.p416_syntax.specs.Declarations.{instance_sort, top_name, top_names, known_local, top_scope, control_scope, action_scope}
 use Rattle.v1_ready_laws.proofs.Rules.{front_none, rest_none}
 use Rattle.v1_call_laws.specs.Declared.{IsValue, AreValues, IsWithin}
 use Rattle.v1_call_laws.specs.Ruled.{Ruled, OutsideParsers, Signed}

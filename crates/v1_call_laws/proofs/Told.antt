@@ -5,24 +5,24 @@ use Rattle.std.specs.List.{list_any}
 use Rattle.std.specs.Option.{option_map_or}
 use Rattle.std.specs.Str.{bytes_eq}
 use Rattle.std.proofs.lemmas.Bool.{eqb-true}
-use Rattle.p416_ast.specs.declared.node.CastType.{CastType}
-use Rattle.p416_ast.specs.declared.node.CastType.TheVariants as cast_to
-use Rattle.p416_ast.specs.declared.node.UnaryOperator.{UnaryOperator}
-use Rattle.p416_ast.specs.declared.node.UnaryOperator.TheVariants.{Not, Complement, Negate}
-use Rattle.p416_ast.specs.declared.node.BinaryOperator.{BinaryOperator}
-use Rattle.p416_ast.specs.declared.node.BinaryOperator.TheVariants.{Multiply, Add, Subtract, SaturatingAdd, SaturatingSubtract, Concatenate, ShiftLeft, ShiftRight, BitAnd, BitXor, BitOr, Less, LessEqual, Greater, GreaterEqual, Equal, NotEqual, And, Or}
-use Rattle.p416_ast.specs.Tree.{Exp16, literal, truth, error, name, member, index, slice, call, lookahead, cast, unary, binary, choice, parenthesized, no_arguments, argument, listed}
-use Rattle.p416_rules.specs.Names.{Name}
-use Rattle.p416_rules.specs.Kinds.{hash_algorithm, counter, direct_counter, register, meter, Kind, bits, unsized, boolean, error_code, header, stack, struct, packet_in, packet_out, errors, enumeration, one_of, table, applied, object, items, nothing, unknown, is_unsized, is_plain, is_stack}
-use Rattle.p416_rules.specs.Scopes.{Sort, a_type, a_value, an_enumeration, a_function, an_object, an_action, a_table, a_state, a_block, undeclared, Handed, Scope, sort_of}
-use Rattle.p416_rules.specs.Calls.{Place, value, written, any_bits, written_bits, one_bit, bits_or_boolean, written_header, emitted, literal_of, any_literal, item_list, member_place, select_key, table_key, target, owner, written_owner, a_stack, callee, statement, unasked, Signature, place_of, function_signature, method_signature, extern_at, in_pipelines, checksum_places, list_number, index_place, clone_signature, method, counts_by_entry, parser_position, verify_position, ingress_position, egress_position, compute_position, deparser_position}
-use Rattle.p416_rules.specs.BuiltIn.{standard}
-use Rattle.p416_rules.specs.Expressions.{member_kind, call_kind, is_chosen, sort_signature, kind_of, signature_of, argument_count}
-use Rattle.p416_rules.specs.Uses.{Use, an_expression, a_number, one, many, joint_place, compared_place, chosen_place, unary_place, left_place, right_place, cast_place, owner_place, wanted_by, cast_numbers, uses, uses_at, arguments_of}
-use Rattle.p416_rules.specs.Unknown.{is_unknown_member, is_misnamed}
-use Rattle.p416_rules.specs.Types.{takes_kind, takes, is_named_callee, is_mistyped}
-use Rattle.p416_rules.specs.Arguments.{takes_other_count, is_miscounted}
-use Rattle.p416_rules.specs.Externs.{is_outside_block, is_parser_part, is_place_word, are_allowed}
+use Rattle.p416_syntax.specs.declared.node.CastType.{CastType}
+use Rattle.p416_syntax.specs.declared.node.CastType.TheVariants as cast_to
+use Rattle.p416_syntax.specs.declared.node.UnaryOperator.{UnaryOperator}
+use Rattle.p416_syntax.specs.declared.node.UnaryOperator.TheVariants.{Not, Complement, Negate}
+use Rattle.p416_syntax.specs.declared.node.BinaryOperator.{BinaryOperator}
+use Rattle.p416_syntax.specs.declared.node.BinaryOperator.TheVariants.{Multiply, Add, Subtract, SaturatingAdd, SaturatingSubtract, Concatenate, ShiftLeft, ShiftRight, BitAnd, BitXor, BitOr, Less, LessEqual, Greater, GreaterEqual, Equal, NotEqual, And, Or}
+use Rattle.p416_syntax.specs.Tree.{Exp16, literal, truth, error, name, member, index, slice, call, lookahead, cast, unary, binary, choice, parenthesized, no_arguments, argument, listed}
+use Rattle.p416_syntax.specs.Names.{Name}
+use Rattle.p416_syntax.specs.Kinds.{hash_algorithm, counter, direct_counter, register, meter, Kind, bits, unsized, boolean, error_code, header, stack, struct, packet_in, packet_out, errors, enumeration, one_of, table, applied, object, items, nothing, unknown, is_unsized, is_plain, is_stack}
+use Rattle.p416_syntax.specs.Scopes.{Sort, a_type, a_value, an_enumeration, a_function, an_object, an_action, a_table, a_state, a_block, undeclared, Handed, Scope, sort_of}
+use Rattle.p416_syntax.specs.Calls.{Place, value, written, any_bits, written_bits, one_bit, bits_or_boolean, written_header, emitted, literal_of, any_literal, item_list, member_place, select_key, table_key, target, owner, written_owner, a_stack, callee, statement, unasked, Signature, place_of, function_signature, method_signature, extern_at, in_pipelines, checksum_places, list_number, index_place, clone_signature, method, counts_by_entry, parser_position, verify_position, ingress_position, egress_position, compute_position, deparser_position}
+use Rattle.p416_syntax.specs.BuiltIn.{standard}
+use Rattle.p416_syntax.specs.Expressions.{member_kind, call_kind, is_chosen, sort_signature, kind_of, signature_of, argument_count}
+use Rattle.p416_syntax.specs.Uses.{Use, an_expression, a_number, one, many, joint_place, compared_place, chosen_place, unary_place, left_place, right_place, cast_place, owner_place, wanted_by, cast_numbers, uses, uses_at, arguments_of}
+use Rattle.p416_syntax.specs.Unknown.{is_unknown_member, is_misnamed}
+use Rattle.p416_syntax.specs.Types.{takes_kind, takes, is_named_callee, is_mistyped}
+use Rattle.p416_syntax.specs.Arguments.{takes_other_count, is_miscounted}
+use Rattle.p416_syntax.specs.Externs.{is_outside_block, is_parser_part, is_place_word, are_allowed}
 use Rattle.v1_ready_laws.proofs.Rules.{first_false, second_false, front_none, rest_none}
 use Rattle.v1_block_laws.specs.Keeping.{Each}
 use Rattle.v1_call_laws.specs.Telling.{IsTold, ToldIn, ToldNone}

@@ -1,20 +1,20 @@
 -- A value from one frame enters a variable of another one; and arguments wait in a frame apart.
 use Rattle.std.proofs.Common.{◌≡◌, inl, inr, ℕ, zero, suc, ◌^◌, ◌==◌, ◌<◌, not, Option, Some, None, IfSome, List, [], ◌∷◌, length, refl, sym, ap, ◌∙◌, subst}
-use Rattle.p416_ast.specs.declared.program.Syntax16.{Syntax16}
-use Rattle.p416_rules.specs.Kinds.{Kind}
-use Rattle.p416_rules.specs.Scopes.{Layout as TypeLayout}
-use Rattle.p416_rules.specs.Breaks.{BreaksNone, program_rules}
-use Rattle.p416_rules.specs.Declarations.{layouts_of}
-use Rattle.v1_sem.specs.Values.{Value, as_number, fitted}
-use Rattle.v1_sem.specs.Slots.{the_variable, FramePart, variable_kinds}
-use Rattle.v1_frames.specs.Layouts.{Layout}
-use Rattle.v1_frames.specs.Cells.{Cells, slot_value}
-use Rattle.v1_frame_values.specs.Seats.{Content, some_bits, a_truth, an_error, Form, slot_form, header_form, stack_form, struct_form, no_form, form_of, Start, behind, Seat, behind_seat}
-use Rattle.v1_frame_values.specs.Values.{content_value, value_from, seat_value}
-use Rattle.v1_frame_values.specs.Laid.{IsLaid, IsLaidAt, OwnersAgree}
-use Rattle.v1_frame_values.specs.Programs.{seat_in, frame_kinds, first_start, owner_seat, part_seat}
-use Rattle.v1_frame_values.specs.Frames.{IsFrameOf}
-use Rattle.v1_frame_values.proofs.Laws.{program_laid, part_put}
+use Rattle.p416_syntax.specs.declared.program.Syntax16.{Syntax16}
+use Rattle.p416_syntax.specs.Kinds.{Kind}
+use Rattle.p416_syntax.specs.Scopes.{Layout as TypeLayout}
+use Rattle.p416_syntax.specs.Breaks.{BreaksNone, program_rules}
+use Rattle.p416_syntax.specs.Declarations.{layouts_of}
+use Rattle.v1_core.specs.Values.{Value, as_number, fitted}
+use Rattle.v1_core.specs.Slots.{the_variable, FramePart, variable_kinds}
+use Rattle.v1_core.specs.Layouts.{Layout}
+use Rattle.v1_core.specs.Cells.{Cells, slot_value}
+use Rattle.v1_core.specs.Seats.{Content, some_bits, a_truth, an_error, Form, slot_form, header_form, stack_form, struct_form, no_form, form_of, Start, behind, Seat, behind_seat}
+use Rattle.v1_core.specs.PackedValues.{content_value, value_from, seat_value}
+use Rattle.v1_core.specs.Laid.{IsLaid, IsLaidAt, OwnersAgree}
+use Rattle.v1_core.specs.Programs.{seat_in, frame_kinds, first_start, owner_seat, part_seat}
+use Rattle.v1_core.specs.PackedFrames.{IsFrameOf}
+use Rattle.v1_core.proofs.Laws.{program_laid, part_put}
 use Rattle.v1_ready_laws.specs.Widths.{IsWide}
 use Rattle.v1_ready_laws.proofs.Accepted.{accepted_narrow}
 use Rattle.v1_ready_laws.proofs.Steps.{Stands as StandsWide}

@@ -1,19 +1,19 @@
 -- What is asked of a block and of a call of which laws speak: what stands around it, and what the rules on calls say (P4_16
 -- 1.2, "Function calls and method invocations"; `v1model.p4`).
 use Rattle.std.specs.Prelude.{◌≡◌, false, List, ◌∷◌, length, IfSome}
-use Rattle.p416_ast.specs.declared.program.Syntax16.{Syntax16}
-use Rattle.p416_ast.specs.Tree.{Exp16, name, member, call, listed}
-use Rattle.p416_rules.specs.Names.{Name}
-use Rattle.p416_rules.specs.Kinds.{Enumeration, Kind, header, struct, packet_in, packet_out, enumeration, one_of, table, items, unknown}
-use Rattle.p416_rules.specs.Scopes.{Sort, a_type, a_value, Scope, sort_of, fields_in}
-use Rattle.p416_rules.specs.BuiltIn.{standard_name, standard_layout}
-use Rattle.p416_rules.specs.Calls.{Place, item_list, member_place, literal_of, statement}
-use Rattle.p416_rules.specs.Expressions.{field_kind_in, known_kind, kind_of, signature_of}
-use Rattle.p416_rules.specs.Uses.{an_expression, arguments_of, wanted_by}
-use Rattle.p416_rules.specs.Literals.{overflows}
-use Rattle.p416_rules.specs.Declarations.{layouts_of}
-use Rattle.v1_sem.specs.Surroundings.{Surroundings}
-use Rattle.v1_frames.specs.Cells.{Cells}
+use Rattle.p416_syntax.specs.declared.program.Syntax16.{Syntax16}
+use Rattle.p416_syntax.specs.Tree.{Exp16, name, member, call, listed}
+use Rattle.p416_syntax.specs.Names.{Name}
+use Rattle.p416_syntax.specs.Kinds.{Enumeration, Kind, header, struct, packet_in, packet_out, enumeration, one_of, table, items, unknown}
+use Rattle.p416_syntax.specs.Scopes.{Sort, a_type, a_value, Scope, sort_of, fields_in}
+use Rattle.p416_syntax.specs.BuiltIn.{standard_name, standard_layout}
+use Rattle.p416_syntax.specs.Calls.{Place, item_list, member_place, literal_of, statement}
+use Rattle.p416_syntax.specs.Expressions.{field_kind_in, known_kind, kind_of, signature_of}
+use Rattle.p416_syntax.specs.Uses.{an_expression, arguments_of, wanted_by}
+use Rattle.p416_syntax.specs.Literals.{overflows}
+use Rattle.p416_syntax.specs.Declarations.{layouts_of}
+use Rattle.v1_core.specs.Surroundings.{Surroundings}
+use Rattle.v1_core.specs.Cells.{Cells}
 use Rattle.v1_ready_laws.specs.Rules.{Keeps}
 use Rattle.v1_block_laws.specs.Keeping.{Each}
 use Rattle.v1_ready_statements.specs.Around.{Around}

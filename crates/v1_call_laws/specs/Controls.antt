@@ -2,21 +2,21 @@
 -- invocations").
 use Rattle.std.specs.Prelude.{◌≡◌, ℕ, true, false, List, Some, IfSome}
 use Rattle.std.specs.List.{list_any}
-use Rattle.p416_ast.specs.declared.controls.Control16.{Control16}
-use Rattle.p416_ast.specs.declared.program.Syntax16.{Syntax16}
-use Rattle.p416_ast.specs.Tree.{Exp16, name, call}
-use Rattle.p416_rules.specs.Names.{Name}
-use Rattle.p416_rules.specs.Scopes.{Handed, an_action, Scope, sort_of}
-use Rattle.p416_rules.specs.Calls.{statement}
-use Rattle.p416_rules.specs.Uses.{uses}
-use Rattle.p416_rules.specs.Literals.{overflows}
-use Rattle.p416_rules.specs.Arguments.{is_miscounted}
-use Rattle.p416_rules.specs.Breaks.{BreaksNone, program_rules}
-use Rattle.v1_sem.specs.declared.block.Block.{Block}
-use Rattle.v1_sem.specs.Blocks.{control_at}
-use Rattle.v1_sem.specs.Surroundings as meaning
-use Rattle.v1_sem.specs.Numbered.{InScope}
-use Rattle.v1_frames.specs.Cells.{Cells}
+use Rattle.p416_syntax.specs.declared.controls.Control16.{Control16}
+use Rattle.p416_syntax.specs.declared.program.Syntax16.{Syntax16}
+use Rattle.p416_syntax.specs.Tree.{Exp16, name, call}
+use Rattle.p416_syntax.specs.Names.{Name}
+use Rattle.p416_syntax.specs.Scopes.{Handed, an_action, Scope, sort_of}
+use Rattle.p416_syntax.specs.Calls.{statement}
+use Rattle.p416_syntax.specs.Uses.{uses}
+use Rattle.p416_syntax.specs.Literals.{overflows}
+use Rattle.p416_syntax.specs.Arguments.{is_miscounted}
+use Rattle.p416_syntax.specs.Breaks.{BreaksNone, program_rules}
+use Rattle.v1_core.specs.declared.block.Block.{Block}
+use Rattle.v1_core.specs.Blocks.{control_at}
+use Rattle.v1_core.specs.Surroundings as meaning
+use Rattle.v1_core.specs.Numbered.{InScope}
+use Rattle.v1_core.specs.Cells.{Cells}
 use Rattle.v1_ready_laws.specs.Rules.{Keeps}
 use Rattle.v1_block_laws.specs.Variables.{scope_in_control}
 use Rattle.v1_ready_blocks.specs.Tests.{World}

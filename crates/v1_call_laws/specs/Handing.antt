@@ -1,11 +1,11 @@
 -- The parameters of an action with what they are handed (P4_16 1.2, "Calling convention: call by copy in/copy out").
 use Rattle.std.specs.Prelude.{◌≡◌, ◌≢◌, false, List, [], ◌∷◌}
 use Rattle.std.specs.Str.{bytes_eq}
-use Rattle.p416_rules.specs.Names.{Name}
-use Rattle.p416_ast.specs.declared.parts.Param.{Param}
-use Rattle.p416_rules.specs.Scopes.{Scope, Handed, kind_of_type}
-use Rattle.v1_sem.specs.Slots.{parameter_kind}
-use Rattle.v1_frame_values.specs.Seats.{Content, slot_form, no_form, form_of}
+use Rattle.p416_syntax.specs.Names.{Name}
+use Rattle.p416_syntax.specs.declared.parts.Param.{Param}
+use Rattle.p416_syntax.specs.Scopes.{Scope, Handed, kind_of_type}
+use Rattle.v1_core.specs.Slots.{parameter_kind}
+use Rattle.v1_core.specs.Seats.{Content, slot_form, no_form, form_of}
 use Rattle.v1_ready_statements.specs.Given.{is_back}
 
 -- What is said of a parameter where its action is called is so in its block: whether it is written back, and the kind that its

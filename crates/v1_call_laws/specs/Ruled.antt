@@ -2,15 +2,15 @@
 -- lookahead").
 use Rattle.std.specs.Prelude.{◌≡◌, false, List, [], ◌∷◌, is_some, true}
 use Rattle.std.specs.List.{list_any}
-use Rattle.p416_ast.specs.Tree.{Exp16, call}
-use Rattle.p416_rules.specs.Scopes.{Scope}
-use Rattle.p416_rules.specs.Calls.{Place, target, callee, statement, unasked, parser_position}
-use Rattle.p416_rules.specs.Expressions.{signature_of}
-use Rattle.p416_rules.specs.Uses.{Use, uses}
-use Rattle.p416_rules.specs.Unknown.{is_misnamed}
-use Rattle.p416_rules.specs.Types.{is_mistyped}
-use Rattle.p416_rules.specs.Arguments.{is_miscounted}
-use Rattle.p416_rules.specs.Externs.{is_outside_block, is_parser_part, are_allowed}
+use Rattle.p416_syntax.specs.Tree.{Exp16, call}
+use Rattle.p416_syntax.specs.Scopes.{Scope}
+use Rattle.p416_syntax.specs.Calls.{Place, target, callee, statement, unasked, parser_position}
+use Rattle.p416_syntax.specs.Expressions.{signature_of}
+use Rattle.p416_syntax.specs.Uses.{Use, uses}
+use Rattle.p416_syntax.specs.Unknown.{is_misnamed}
+use Rattle.p416_syntax.specs.Types.{is_mistyped}
+use Rattle.p416_syntax.specs.Arguments.{is_miscounted}
+use Rattle.p416_syntax.specs.Externs.{is_outside_block, is_parser_part, are_allowed}
 use Rattle.v1_call_laws.specs.Telling.{ToldNone}
 use Rattle.v1_call_laws.specs.Whole.{CallTold}
 

@@ -1,18 +1,18 @@
 -- The scopes in which the statements of a control stand (P4_16 1.2, "Name resolution", "Control blocks").
 use Rattle.std.specs.Prelude.{◌≡◌, ℕ, true, false, List, [], ◌∷◌, is_some}
 use Rattle.std.specs.List.{list_any}
-use Rattle.p416_ast.specs.declared.controls.Action16.{Action16}
-use Rattle.p416_ast.specs.declared.controls.Control16.{Control16}
-use Rattle.p416_ast.specs.declared.program.Decl16.{Decl16}
-use Rattle.p416_ast.specs.Tree.{Exp16, Stmt16}
-use Rattle.p416_rules.specs.Names.{Name}
-use Rattle.p416_rules.specs.Scopes.{a_function, Scope, sort_of}
-use Rattle.p416_rules.specs.Calls.{statement, parser_position, function_signature}
-use Rattle.p416_rules.specs.Uses.{uses}
-use Rattle.p416_rules.specs.Statements.{behind}
-use Rattle.p416_rules.specs.Declarations.{top_scope, control_scope, action_scope}
-use Rattle.p416_rules.specs.Arguments.{is_miscounted}
-use Rattle.p416_rules.specs.Externs.{are_allowed}
+use Rattle.p416_syntax.specs.declared.controls.Action16.{Action16}
+use Rattle.p416_syntax.specs.declared.controls.Control16.{Control16}
+use Rattle.p416_syntax.specs.declared.program.Decl16.{Decl16}
+use Rattle.p416_syntax.specs.Tree.{Exp16, Stmt16}
+use Rattle.p416_syntax.specs.Names.{Name}
+use Rattle.p416_syntax.specs.Scopes.{a_function, Scope, sort_of}
+use Rattle.p416_syntax.specs.Calls.{statement, parser_position, function_signature}
+use Rattle.p416_syntax.specs.Uses.{uses}
+use Rattle.p416_syntax.specs.Statements.{behind}
+use Rattle.p416_syntax.specs.Declarations.{top_scope, control_scope, action_scope}
+use Rattle.p416_syntax.specs.Arguments.{is_miscounted}
+use Rattle.p416_syntax.specs.Externs.{are_allowed}
 use Rattle.v1_call_laws.specs.Calling.{NamesPlain}
 use Rattle.v1_call_laws.specs.Declared.{IsWithin}
 use Rattle.v1_call_laws.specs.Whole.{CallTold}

@@ -2,26 +2,26 @@
 -- the application of tables do (P4_16 1.2, "Function calls and method invocations").
 use Rattle.std.specs.Prelude.{◌≡◌, ℕ, true, false, [], Some, IfSome, List}
 use Rattle.std.specs.List.{list_any}
-use Rattle.p416_ast.specs.declared.parsers.Parser16.{Parser16}
-use Rattle.p416_ast.specs.declared.controls.Action16.{Action16}
-use Rattle.p416_ast.specs.declared.controls.Control16.{Control16}
-use Rattle.p416_ast.specs.declared.program.Decl16.{Decl16}
-use Rattle.p416_ast.specs.Tree.{Exp16, Stmt16, name, member, call, expression}
-use Rattle.p416_rules.specs.Names.{Name}
-use Rattle.p416_rules.specs.Kinds.{Kind, stack, packet_in, packet_out, table}
-use Rattle.p416_rules.specs.Scopes.{Handed, an_action, Scope, sort_of}
-use Rattle.p416_rules.specs.Calls.{statement}
-use Rattle.p416_rules.specs.Expressions.{kind_of}
-use Rattle.p416_rules.specs.Uses.{uses, arguments_of}
-use Rattle.p416_rules.specs.Literals.{overflows}
-use Rattle.p416_rules.specs.Arguments.{is_miscounted}
-use Rattle.p416_rules.specs.Statements.{behind}
-use Rattle.p416_rules.specs.Declarations.{layouts_of, top_scope, parser_scope, control_scope, action_scope}
-use Rattle.p416_rules.specs.Breaks.{BreaksNone, program_rules}
-use Rattle.v1_sem.specs.Surroundings as meaning
-use Rattle.v1_sem.specs.Surroundings.{action_named}
-use Rattle.v1_sem.specs.Numbered.{InScope}
-use Rattle.v1_frames.specs.Cells.{Cells}
+use Rattle.p416_syntax.specs.declared.parsers.Parser16.{Parser16}
+use Rattle.p416_syntax.specs.declared.controls.Action16.{Action16}
+use Rattle.p416_syntax.specs.declared.controls.Control16.{Control16}
+use Rattle.p416_syntax.specs.declared.program.Decl16.{Decl16}
+use Rattle.p416_syntax.specs.Tree.{Exp16, Stmt16, name, member, call, expression}
+use Rattle.p416_syntax.specs.Names.{Name}
+use Rattle.p416_syntax.specs.Kinds.{Kind, stack, packet_in, packet_out, table}
+use Rattle.p416_syntax.specs.Scopes.{Handed, an_action, Scope, sort_of}
+use Rattle.p416_syntax.specs.Calls.{statement}
+use Rattle.p416_syntax.specs.Expressions.{kind_of}
+use Rattle.p416_syntax.specs.Uses.{uses, arguments_of}
+use Rattle.p416_syntax.specs.Literals.{overflows}
+use Rattle.p416_syntax.specs.Arguments.{is_miscounted}
+use Rattle.p416_syntax.specs.Statements.{behind}
+use Rattle.p416_syntax.specs.Declarations.{layouts_of, top_scope, parser_scope, control_scope, action_scope}
+use Rattle.p416_syntax.specs.Breaks.{BreaksNone, program_rules}
+use Rattle.v1_core.specs.Surroundings as meaning
+use Rattle.v1_core.specs.Surroundings.{action_named}
+use Rattle.v1_core.specs.Numbered.{InScope}
+use Rattle.v1_core.specs.Cells.{Cells}
 use Rattle.v1_ready_forms.specs.Named.{seats_in}
 use Rattle.v1_ready_laws.specs.Rules.{Keeps}
 use Rattle.v1_block_laws.specs.Keeping.{Each}

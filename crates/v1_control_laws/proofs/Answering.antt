@@ -1,6 +1,6 @@
 -- The laws.
 use Rattle.std.proofs.Common.{◌+◌, length, refl}
-use Rattle.v1_sem.specs.Slots.{kinds_in}
+use Rattle.v1_core.specs.Slots.{kinds_in}
 use Rattle.v1_block_laws.specs.Variables.{body_from, scope_in_control, control_seats}
 use Rattle.v1_control_laws.specs.Controls.{Waiting}
 use Rattle.v1_control_laws.proofs.Concluding.{controls_show}

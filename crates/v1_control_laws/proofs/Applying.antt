@@ -4,30 +4,30 @@ use Rattle.std.specs.Option.{option_map_or}
 use Rattle.fabric.specs.declared.items.Event.{Event}
 use Rattle.match_core.specs.Best.{Filled, best}
 use Rattle.match_core.specs.Tables.{filled_of}
-use Rattle.p416_ast.specs.declared.controls.Action16.{Action16}
-use Rattle.p416_ast.specs.declared.controls.TableKey.{TableKey}
-use Rattle.p416_ast.specs.declared.controls.Table16.{Table16}
-use Rattle.p416_ast.specs.Properties.{keys_of}
-use Rattle.p416_rules.specs.Names.{Name}
-use Rattle.p416_rules.specs.Calls.{table_key}
-use Rattle.p416_rules.specs.Declarations.{is_exact, layouts_of}
-use Rattle.p416_rules.specs.Breaks.{BreaksNone, program_rules}
-use Rattle.v1_sem.specs.Values.{Value, no_value, no_members, a_member, as_number}
-use Rattle.v1_sem.specs.Frames as sem
-use Rattle.v1_sem.specs.Frames.{Frame, Hit, with_inner}
-use Rattle.v1_sem.specs.Slots.{variable_kinds, parameter_kind}
-use Rattle.v1_sem.specs.Signatures.{key_scope, table_sig, table_number}
-use Rattle.v1_sem.specs.Surroundings as meaning
-use Rattle.v1_sem.specs.Surroundings.{action_called, action_named, table_named, quiet_world}
-use Rattle.v1_sem.specs.Numbered.{Variable, InScope, nobody, named_values, frame_in}
-use Rattle.v1_sem.specs.Expressions.{value_of}
-use Rattle.v1_sem.specs.Tables as meaning_tables
-use Rattle.v1_sem.specs.Tables.{key_value, key_values, found, fill_of, run_action, run_chosen, with_application, applied_by, applied_in, applied}
-use Rattle.v1_frames.specs.Cells.{Cells, with_event}
-use Rattle.v1_frame_values.specs.Programs.{numbered16}
-use Rattle.v1_frame_values.specs.Frames.{IsFrameOf}
-use Rattle.v1_frame_values.proofs.Laws.{event_put}
-use Rattle.v1_ready_expressions.specs.Ready.{Ready, ready_value}
+use Rattle.p416_syntax.specs.declared.controls.Action16.{Action16}
+use Rattle.p416_syntax.specs.declared.controls.TableKey.{TableKey}
+use Rattle.p416_syntax.specs.declared.controls.Table16.{Table16}
+use Rattle.p416_syntax.specs.Properties.{keys_of}
+use Rattle.p416_syntax.specs.Names.{Name}
+use Rattle.p416_syntax.specs.Calls.{table_key}
+use Rattle.p416_syntax.specs.Declarations.{is_exact, layouts_of}
+use Rattle.p416_syntax.specs.Breaks.{BreaksNone, program_rules}
+use Rattle.v1_core.specs.Values.{Value, no_value, no_members, a_member, as_number}
+use Rattle.v1_core.specs.Frames as sem
+use Rattle.v1_core.specs.Frames.{Frame, Hit, with_inner}
+use Rattle.v1_core.specs.Slots.{variable_kinds, parameter_kind}
+use Rattle.v1_core.specs.Signatures.{key_scope, table_sig, table_number}
+use Rattle.v1_core.specs.Surroundings as meaning
+use Rattle.v1_core.specs.Surroundings.{action_called, action_named, table_named, quiet_world}
+use Rattle.v1_core.specs.Numbered.{Variable, InScope, nobody, named_values, frame_in}
+use Rattle.v1_core.specs.Expressions.{value_of}
+use Rattle.v1_core.specs.Tables as meaning_tables
+use Rattle.v1_core.specs.Tables.{key_value, key_values, found, fill_of, run_action, run_chosen, with_application, applied_by, applied_in, applied}
+use Rattle.v1_core.specs.Cells.{Cells, with_event}
+use Rattle.v1_core.specs.Programs.{numbered16}
+use Rattle.v1_core.specs.PackedFrames.{IsFrameOf}
+use Rattle.v1_core.proofs.Laws.{event_put}
+use Rattle.v1_core.specs.Ready.{Ready, ready_value}
 use Rattle.v1_ready_forms.specs.Named.{NamedSeat, seats_in}
 use Rattle.v1_ready_forms.specs.Ways.{its_value}
 use Rattle.v1_ready_forms.specs.Expressions.{ready_of_exp}

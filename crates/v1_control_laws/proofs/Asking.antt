@@ -3,35 +3,35 @@ use Rattle.std.proofs.Common.{◌≡◌, inl, inr, ℕ, ◌<◌, ◌≤◌, suc,
 use Rattle.std.specs.List.{list_any}
 use Rattle.std.proofs.lemmas.Slice.Eq.{bytes_eq-Decides}
 use Rattle.std.proofs.lemmas.Bool.{ltb-false}
-use Rattle.p416_lexemes.specs.declared.lexeme.Literal16.{Literal16}
-use Rattle.p416_ast.specs.declared.node.CastType.{CastType}
-use Rattle.p416_ast.specs.declared.node.CastType.TheVariants as cast_to
-use Rattle.p416_ast.specs.declared.node.UnaryOperator.{UnaryOperator}
-use Rattle.p416_ast.specs.declared.node.BinaryOperator.{BinaryOperator}
-use Rattle.p416_ast.specs.declared.node.BinaryOperator.TheVariants.{Multiply, Add, Subtract, SaturatingAdd, SaturatingSubtract, Concatenate, ShiftLeft, ShiftRight, BitAnd, BitXor, BitOr, Less, LessEqual, Greater, GreaterEqual, Equal, NotEqual, And, Or}
-use Rattle.p416_ast.specs.Tree.{Exp16, literal, truth, error, name, member, index, slice, call, lookahead, cast, unary, binary, choice, parenthesized, no_arguments, argument, listed}
-use Rattle.p416_rules.specs.Names.{Name}
-use Rattle.p416_rules.specs.Kinds.{ObjectKind, counter, direct_counter, register, meter, Kind, bits, unsized, boolean, error_code, header, stack, struct, packet_in, packet_out, errors, enumeration, one_of, table, applied, object, items, nothing, unknown}
-use Rattle.p416_rules.specs.Scopes.{Layout, Scope}
-use Rattle.p416_rules.specs.Calls.{Place, value, any_bits, owner, a_stack, callee, unasked, Signature, object_method, method_signature}
-use Rattle.p416_rules.specs.Expressions.{kind_of, known_kind, member_kind, element_kind, slice_kind, cast_kind, unary_kind, binary_kind, same_choice, call_kind, signature_of}
-use Rattle.p416_rules.specs.Uses.{an_expression, uses_at, one, many, wanted_by, owner_place, cast_numbers, joint_place, compared_place, unary_place, left_place, right_place, cast_place, chosen_place}
-use Rattle.p416_rules.specs.Uses.{a_number as number_use}
-use Rattle.p416_rules.specs.Types.{takes}
-use Rattle.p416_rules.specs.Sizes.{leaves_size, is_bad_width}
-use Rattle.p416_rules.specs.Breaks.{BreaksNone, program_rules}
-use Rattle.p416_rules.specs.Declarations.{layouts_of}
-use Rattle.v1_sem.specs.Values.{Value, a_number, a_truth, an_error, a_header, a_stack as a_whole_stack, no_members, a_member, a_symbol, some_bits, no_value, number_in, is_true, header_in, sliced, to_member, to_element, part_of}
-use Rattle.v1_sem.specs.Numbers.{unary_value, binary_value, cast_value}
-use Rattle.v1_sem.specs.Frames as sem
-use Rattle.v1_sem.specs.Surroundings as meaning
-use Rattle.v1_sem.specs.Numbered.{InScope}
-use Rattle.v1_sem.specs.Expressions as sem_expressions
-use Rattle.v1_sem.specs.Expressions.{valued, told, member_value, method_value, slice_of, value_of}
-use Rattle.v1_frames.specs.Cells.{Cells, AreWhole}
-use Rattle.v1_ready_expressions.specs.Ready as ready
-use Rattle.v1_ready_expressions.specs.Ready.{Ready, Ended, given, ready_value}
-use Rattle.v1_ready_expressions.specs.Scalars.{pair_value, bits_value, truth_value}
+use Rattle.p416_syntax.specs.declared.lexeme.Literal16.{Literal16}
+use Rattle.p416_syntax.specs.declared.node.CastType.{CastType}
+use Rattle.p416_syntax.specs.declared.node.CastType.TheVariants as cast_to
+use Rattle.p416_syntax.specs.declared.node.UnaryOperator.{UnaryOperator}
+use Rattle.p416_syntax.specs.declared.node.BinaryOperator.{BinaryOperator}
+use Rattle.p416_syntax.specs.declared.node.BinaryOperator.TheVariants.{Multiply, Add, Subtract, SaturatingAdd, SaturatingSubtract, Concatenate, ShiftLeft, ShiftRight, BitAnd, BitXor, BitOr, Less, LessEqual, Greater, GreaterEqual, Equal, NotEqual, And, Or}
+use Rattle.p416_syntax.specs.Tree.{Exp16, literal, truth, error, name, member, index, slice, call, lookahead, cast, unary, binary, choice, parenthesized, no_arguments, argument, listed}
+use Rattle.p416_syntax.specs.Names.{Name}
+use Rattle.p416_syntax.specs.Kinds.{ObjectKind, counter, direct_counter, register, meter, Kind, bits, unsized, boolean, error_code, header, stack, struct, packet_in, packet_out, errors, enumeration, one_of, table, applied, object, items, nothing, unknown}
+use Rattle.p416_syntax.specs.Scopes.{Layout, Scope}
+use Rattle.p416_syntax.specs.Calls.{Place, value, any_bits, owner, a_stack, callee, unasked, Signature, object_method, method_signature}
+use Rattle.p416_syntax.specs.Expressions.{kind_of, known_kind, member_kind, element_kind, slice_kind, cast_kind, unary_kind, binary_kind, same_choice, call_kind, signature_of}
+use Rattle.p416_syntax.specs.Uses.{an_expression, uses_at, one, many, wanted_by, owner_place, cast_numbers, joint_place, compared_place, unary_place, left_place, right_place, cast_place, chosen_place}
+use Rattle.p416_syntax.specs.Uses.{a_number as number_use}
+use Rattle.p416_syntax.specs.Types.{takes}
+use Rattle.p416_syntax.specs.Sizes.{leaves_size, is_bad_width}
+use Rattle.p416_syntax.specs.Breaks.{BreaksNone, program_rules}
+use Rattle.p416_syntax.specs.Declarations.{layouts_of}
+use Rattle.v1_core.specs.Values.{Value, a_number, a_truth, an_error, a_header, a_stack as a_whole_stack, no_members, a_member, a_symbol, some_bits, no_value, number_in, is_true, header_in, sliced, to_member, to_element, part_of}
+use Rattle.v1_core.specs.Numbers.{unary_value, binary_value, cast_value}
+use Rattle.v1_core.specs.Frames as sem
+use Rattle.v1_core.specs.Surroundings as meaning
+use Rattle.v1_core.specs.Numbered.{InScope}
+use Rattle.v1_core.specs.Expressions as sem_expressions
+use Rattle.v1_core.specs.Expressions.{valued, told, member_value, method_value, slice_of, value_of}
+use Rattle.v1_core.specs.Cells.{Cells, AreWhole}
+use Rattle.v1_core.specs.Ready as ready
+use Rattle.v1_core.specs.Ready.{Ready, Ended, given, ready_value}
+use Rattle.v1_core.specs.Scalars.{pair_value, bits_value, truth_value}
 use Rattle.v1_ready_forms.specs.Named.{NamedSeat, seats_in}
 use Rattle.v1_ready_forms.specs.Ways.{Way, its_value, its_validity, through_member, through_element, through_told}
 use Rattle.v1_ready_forms.specs.Expressions.{asked_ready}

@@ -1,21 +1,21 @@
 -- The parameters of an action that a table calls get the numbers of the call.
 use Rattle.std.proofs.Common.{◌≡◌, ◌⊎◌, inl, inr, ℕ, zero, suc, ◌+◌, ◌<◌, ◌≤◌, ◌≢◌, ◌%◌, ◌^◌, min, Option, Some, None, List, [], ◌∷◌, length, map, get_or, refl, sym, ap, ◌∙◌, subst, arith}
 use Rattle.std.proofs.lemmas.List.{get_or-set_same, get_or-set_other}
-use Rattle.p416_ast.specs.declared.parts.Param.{Param}
-use Rattle.p416_rules.specs.Kinds.{Kind, bits}
-use Rattle.p416_rules.specs.Scopes.{Layout, Scope}
-use Rattle.p416_rules.specs.Breaks.{BreaksNone, program_rules}
-use Rattle.p416_rules.specs.Declarations.{layouts_of}
-use Rattle.v1_sem.specs.Values.{Value, no_value, a_member, a_number, fitted, zero_value}
-use Rattle.v1_sem.specs.Slots.{the_variable, variable_kinds, parameter_kind}
-use Rattle.v1_sem.specs.Numbered.{Numbered, nobody, named_values, frame_in, with_part_value}
-use Rattle.v1_sem.specs.Tables as meaning
-use Rattle.v1_frames.specs.Cells.{Cells, slot_value}
-use Rattle.v1_frame_values.specs.Seats.{some_bits, Form, slot_form, form_of, Start, behind, Seat, seat_behind, seat_at}
-use Rattle.v1_frame_values.specs.Programs.{frame_kinds, first_start, seat_in, owner_seat, part_seat, numbered16}
-use Rattle.v1_frame_values.specs.Values.{content_value}
-use Rattle.v1_frame_values.specs.Frames.{IsFrameOf}
-use Rattle.v1_frame_values.proofs.Laws.{slot_put, part_read}
+use Rattle.p416_syntax.specs.declared.parts.Param.{Param}
+use Rattle.p416_syntax.specs.Kinds.{Kind, bits}
+use Rattle.p416_syntax.specs.Scopes.{Layout, Scope}
+use Rattle.p416_syntax.specs.Breaks.{BreaksNone, program_rules}
+use Rattle.p416_syntax.specs.Declarations.{layouts_of}
+use Rattle.v1_core.specs.Values.{Value, no_value, a_member, a_number, fitted, zero_value}
+use Rattle.v1_core.specs.Slots.{the_variable, variable_kinds, parameter_kind}
+use Rattle.v1_core.specs.Numbered.{Numbered, nobody, named_values, frame_in, with_part_value}
+use Rattle.v1_core.specs.Tables as meaning
+use Rattle.v1_core.specs.Cells.{Cells, slot_value}
+use Rattle.v1_core.specs.Seats.{some_bits, Form, slot_form, form_of, Start, behind, Seat, seat_behind, seat_at}
+use Rattle.v1_core.specs.Programs.{frame_kinds, first_start, seat_in, owner_seat, part_seat, numbered16}
+use Rattle.v1_core.specs.PackedValues.{content_value}
+use Rattle.v1_core.specs.PackedFrames.{IsFrameOf}
+use Rattle.v1_core.proofs.Laws.{slot_put, part_read}
 use Rattle.v1_ready_laws.proofs.Steps.{Stands}
 use Rattle.v1_ready_laws.proofs.Accepted.{accepted_narrow}
 use Rattle.v1_ready_blocks.specs.Places.{put, slot_width}

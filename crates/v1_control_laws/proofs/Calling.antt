@@ -1,28 +1,28 @@
 -- What calls keep, where actions and tables keep it.
 use Rattle.std.proofs.Common.{◌≡◌, ℕ, Bool, cond, ◌&&◌, codes, Option, Some, None, List, [], ◌∷◌, map, refl, bytes_eq}
-use Rattle.p416_ast.specs.declared.parts.Direction.{Direction}
-use Rattle.p416_ast.specs.declared.parts.Direction.TheVariants.{In, Out, InOut}
-use Rattle.p416_ast.specs.declared.parts.Param.{Param}
-use Rattle.p416_ast.specs.declared.controls.Action16.{Action16}
-use Rattle.p416_ast.specs.Tree.{Exp16, literal, truth, error, name, member, index, slice, call, lookahead, cast, unary, binary, choice, parenthesized, no_arguments, argument, listed}
-use Rattle.p416_rules.specs.Names.{Name}
-use Rattle.p416_rules.specs.Kinds.{ObjectKind, counter, direct_counter, register, meter, Kind, bits, unsized, boolean, error_code, header, stack, struct, packet_in, packet_out, errors, enumeration, one_of, table, applied, object, items, nothing, unknown, is_stack}
-use Rattle.p416_rules.specs.Scopes.{Handed, Sort, a_type, a_value, an_enumeration, a_function, an_object, an_action, a_table, a_state, a_block, undeclared, Scope, sort_of}
-use Rattle.p416_rules.specs.Calls.{Place, owner, emitted, place_of, method_signature}
-use Rattle.p416_rules.specs.Expressions.{kind_of, signature_of}
-use Rattle.p416_rules.specs.Uses.{wanted_by, arguments_of}
+use Rattle.p416_syntax.specs.declared.parts.Direction.{Direction}
+use Rattle.p416_syntax.specs.declared.parts.Direction.TheVariants.{In, Out, InOut}
+use Rattle.p416_syntax.specs.declared.parts.Param.{Param}
+use Rattle.p416_syntax.specs.declared.controls.Action16.{Action16}
+use Rattle.p416_syntax.specs.Tree.{Exp16, literal, truth, error, name, member, index, slice, call, lookahead, cast, unary, binary, choice, parenthesized, no_arguments, argument, listed}
+use Rattle.p416_syntax.specs.Names.{Name}
+use Rattle.p416_syntax.specs.Kinds.{ObjectKind, counter, direct_counter, register, meter, Kind, bits, unsized, boolean, error_code, header, stack, struct, packet_in, packet_out, errors, enumeration, one_of, table, applied, object, items, nothing, unknown, is_stack}
+use Rattle.p416_syntax.specs.Scopes.{Handed, Sort, a_type, a_value, an_enumeration, a_function, an_object, an_action, a_table, a_state, a_block, undeclared, Scope, sort_of}
+use Rattle.p416_syntax.specs.Calls.{Place, owner, emitted, place_of, method_signature}
+use Rattle.p416_syntax.specs.Expressions.{kind_of, signature_of}
+use Rattle.p416_syntax.specs.Uses.{wanted_by, arguments_of}
 use Rattle.fabric.specs.declared.items.RequestKind.TheVariants.{Resubmit, Recirculate}
-use Rattle.v1_sem.specs.declared.parser_error.ParserError.TheVariants.{PacketTooShort}
-use Rattle.v1_sem.specs.Values.{Value, a_number, header_in, member_in, to_member}
-use Rattle.v1_sem.specs.Frames.{Moment, Hit, Reference, read, stepped, put_at, with_inner, raised, is_stopped, going_on}
-use Rattle.v1_sem.specs.Surroundings.{Surroundings, World, action_named}
-use Rattle.v1_sem.specs.Expressions.{has_bits, value_of, reference_of, name_in}
-use Rattle.v1_sem.specs.HeaderCalls.{header_call, stack_call, set_valid, set_invalid, push_front, pop_front}
-use Rattle.v1_sem.specs.Externs.Packets.{header_width, extracted, moved, extract}
-use Rattle.v1_sem.specs.Externs.Objects.{count, count_entry, register_read, register_write, execute_meter}
-use Rattle.v1_sem.specs.Externs.Checksums.{verify_checksum, update_checksum, with_payload}
-use Rattle.v1_sem.specs.Externs.Requests.{clone_kind}
-use Rattle.v1_sem.specs.Calls.{Given, Arguments, arguments, value_at, target_at, number_at, symbol_at, bits_at, holds_at, copied_back, copied_out, bound_arguments, acted, call_action, function_call, named_call, object_in, object_call, stack_of_next, first_stack_of_next, method_call, call_leaves, call_statement}
+use Rattle.v1_core.specs.declared.parser_error.ParserError.TheVariants.{PacketTooShort}
+use Rattle.v1_core.specs.Values.{Value, a_number, header_in, member_in, to_member}
+use Rattle.v1_core.specs.Frames.{Moment, Hit, Reference, read, stepped, put_at, with_inner, raised, is_stopped, going_on}
+use Rattle.v1_core.specs.Surroundings.{Surroundings, World, action_named}
+use Rattle.v1_core.specs.Expressions.{has_bits, value_of, reference_of, name_in}
+use Rattle.v1_core.specs.HeaderCalls.{header_call, stack_call, set_valid, set_invalid, push_front, pop_front}
+use Rattle.v1_core.specs.Externs.Packets.{header_width, extracted, moved, extract}
+use Rattle.v1_core.specs.Externs.Objects.{count, count_entry, register_read, register_write, execute_meter}
+use Rattle.v1_core.specs.Externs.Checksums.{verify_checksum, update_checksum, with_payload}
+use Rattle.v1_core.specs.Externs.Requests.{clone_kind}
+use Rattle.v1_core.specs.Calls.{Given, Arguments, arguments, value_at, target_at, number_at, symbol_at, bits_at, holds_at, copied_back, copied_out, bound_arguments, acted, call_action, function_call, named_call, object_in, object_call, stack_of_next, first_stack_of_next, method_call, call_leaves, call_statement}
 use Rattle.v1_control_laws.specs.Erring.{MayRead, Free, AllFree, FreeCallee, FreeAt}
 use Rattle.v1_control_laws.proofs.Values.{either, Kept, Keeps, reference_means, AllGood, good_at, value_kept, arguments_kept}
 

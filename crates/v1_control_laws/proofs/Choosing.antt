@@ -7,16 +7,16 @@ use Rattle.match_core.specs.declared.entries.Entry.{Entry}
 use Rattle.match_core.specs.declared.entries.DefaultCall.{DefaultCall}
 use Rattle.match_core.specs.Best.{Filled, lead, leader, best, entry_at}
 use Rattle.match_core.specs.Fits.{FitsCall, action_at}
-use Rattle.p416_ast.specs.declared.controls.Table16.{Table16}
-use Rattle.p416_ast.specs.Properties.{keys_of, default_action_of}
-use Rattle.p416_rules.specs.Names.{Name}
-use Rattle.p416_rules.specs.Scopes.{Scope}
-use Rattle.v1_sem.specs.Signatures.{planes_of, action_sig, table_sig, table_number}
-use Rattle.v1_sem.specs.Surroundings as meaning
-use Rattle.v1_sem.specs.Surroundings.{action_called}
-use Rattle.v1_sem.specs.Tables as meaning_tables
-use Rattle.v1_sem.specs.Tables.{name_of_number, own_default, fill_of}
-use Rattle.v1_ready_expressions.specs.Ready.{Ready}
+use Rattle.p416_syntax.specs.declared.controls.Table16.{Table16}
+use Rattle.p416_syntax.specs.Properties.{keys_of, default_action_of}
+use Rattle.p416_syntax.specs.Names.{Name}
+use Rattle.p416_syntax.specs.Scopes.{Scope}
+use Rattle.v1_core.specs.Signatures.{planes_of, action_sig, table_sig, table_number}
+use Rattle.v1_core.specs.Surroundings as meaning
+use Rattle.v1_core.specs.Surroundings.{action_called}
+use Rattle.v1_core.specs.Tables as meaning_tables
+use Rattle.v1_core.specs.Tables.{name_of_number, own_default, fill_of}
+use Rattle.v1_core.specs.Ready.{Ready}
 use Rattle.v1_ready_forms.specs.Named.{NamedSeat}
 use Rattle.v1_ready_blocks.specs.Tables as ready
 use Rattle.v1_ready_statements.specs.Around.{ActionPlace, Around, Found, found_from, action_found}

@@ -6,42 +6,42 @@ use Rattle.std.specs.List.{list_any}
 use Rattle.std.proofs.lemmas.List.{length-map, get_or-map}
 use Rattle.std.proofs.lemmas.Slice.Eq.{bytes_eq-Decides}
 use Rattle.match_core.specs.Fits.{action_at}
-use Rattle.p416_ast.specs.declared.parts.Type16.{Type16}
-use Rattle.p416_ast.specs.declared.parts.Type16.TheVariants.{Bit, Bool as BoolType, Named}
-use Rattle.p416_ast.specs.declared.parts.Param.{Param}
-use Rattle.p416_ast.specs.declared.controls.Action16.{Action16}
-use Rattle.p416_ast.specs.declared.controls.ActionName.{ActionName}
-use Rattle.p416_ast.specs.declared.controls.ActionName.TheVariants as action_name
-use Rattle.p416_ast.specs.declared.controls.Property.{Property}
-use Rattle.p416_ast.specs.declared.controls.Property.TheVariants as property
-use Rattle.p416_ast.specs.declared.controls.Table16.{Table16}
-use Rattle.p416_ast.specs.declared.controls.Instance.{Instance}
-use Rattle.p416_ast.specs.declared.controls.Instance.TheVariants as instance
-use Rattle.p416_ast.specs.declared.controls.Local.{Local}
-use Rattle.p416_ast.specs.declared.controls.Local.TheVariants as local
-use Rattle.p416_ast.specs.declared.controls.Control16.{Control16}
-use Rattle.p416_ast.specs.declared.program.Decl16.TheVariants as decl
-use Rattle.p416_ast.specs.Properties.{keys_of, actions_of, size_of, counters_of, default_action_of, default_arguments_of}
-use Rattle.p416_ast.specs.Tree.{Exp16, literal, truth, error, name, member, index, slice, call, lookahead, cast, unary, binary, choice, parenthesized, no_arguments, argument, listed}
-use Rattle.p416_rules.specs.Names.{Name}
-use Rattle.p416_rules.specs.Kinds.{Kind, bits, unsized, boolean, error_code, header, stack, struct, packet_in, packet_out, errors, enumeration, one_of, table, applied, object, items, nothing, unknown, is_bits}
-use Rattle.p416_rules.specs.Scopes.{Handed, Sort, a_type, a_value, an_enumeration, a_function, an_object, an_action, a_table, a_state, a_block, undeclared, Known, Scope, sort_in, sort_of, kind_of_type, is_directed, handed, known_parameter}
-use Rattle.p416_rules.specs.Calls.{any_literal}
-use Rattle.p416_rules.specs.Expressions.{argument_count}
-use Rattle.p416_rules.specs.Uses.{Use, a_name, a_number, a_table_of, some_action, some_direct_counter, names_of_scope, some_parameters, of_variable, of_action_parameter, type_numbers, type_uses, many, uses_at, arguments_of}
-use Rattle.p416_rules.specs.Unknown.{is_type_sort, is_unknown_type, is_wanted, is_misnamed}
-use Rattle.p416_rules.specs.Arguments.{is_miscounted}
-use Rattle.p416_rules.specs.Declarations.{instance_sort, known_local, control_names, note_uses, parameter_name, parameter_uses, body_uses, action_scope, key_uses, action_name_uses, sort_parameters, parameters_of, default_place, given_uses, defaults_of, table_in, local_uses}
-use Rattle.p416_rules.specs.Tables.{action_plane, is_not_given, is_bad_action, is_same_action, is_outside_actions, has_bad_keys, has_bad_actions, mixes_up, is_bad_table, is_bad_in_table}
-use Rattle.p416_rules.specs.Totals.{size_value as literal_in}
-use Rattle.p416_rules.specs.Breaks.{scope_of, program_rules, BreaksNone}
-use Rattle.v1_sem.specs.declared.block.Block.{Block}
-use Rattle.v1_sem.specs.Slots.{local_kinds}
-use Rattle.v1_sem.specs.Signatures.{listed_plane, planes_of, action_with, handed_width, action_sig, table_sig}
-use Rattle.v1_sem.specs.Surroundings.{Setting, table_called, action_called}
-use Rattle.v1_sem.specs.Tables as meaning_tables
-use Rattle.v1_sem.specs.Tables.{name_of_number, own_default}
-use Rattle.v1_sem.specs.Blocks.{around_control, control_at}
+use Rattle.p416_syntax.specs.declared.parts.Type16.{Type16}
+use Rattle.p416_syntax.specs.declared.parts.Type16.TheVariants.{Bit, Bool as BoolType, Named}
+use Rattle.p416_syntax.specs.declared.parts.Param.{Param}
+use Rattle.p416_syntax.specs.declared.controls.Action16.{Action16}
+use Rattle.p416_syntax.specs.declared.controls.ActionName.{ActionName}
+use Rattle.p416_syntax.specs.declared.controls.ActionName.TheVariants as action_name
+use Rattle.p416_syntax.specs.declared.controls.Property.{Property}
+use Rattle.p416_syntax.specs.declared.controls.Property.TheVariants as property
+use Rattle.p416_syntax.specs.declared.controls.Table16.{Table16}
+use Rattle.p416_syntax.specs.declared.controls.Instance.{Instance}
+use Rattle.p416_syntax.specs.declared.controls.Instance.TheVariants as instance
+use Rattle.p416_syntax.specs.declared.controls.Local.{Local}
+use Rattle.p416_syntax.specs.declared.controls.Local.TheVariants as local
+use Rattle.p416_syntax.specs.declared.controls.Control16.{Control16}
+use Rattle.p416_syntax.specs.declared.program.Decl16.TheVariants as decl
+use Rattle.p416_syntax.specs.Properties.{keys_of, actions_of, size_of, counters_of, default_action_of, default_arguments_of}
+use Rattle.p416_syntax.specs.Tree.{Exp16, literal, truth, error, name, member, index, slice, call, lookahead, cast, unary, binary, choice, parenthesized, no_arguments, argument, listed}
+use Rattle.p416_syntax.specs.Names.{Name}
+use Rattle.p416_syntax.specs.Kinds.{Kind, bits, unsized, boolean, error_code, header, stack, struct, packet_in, packet_out, errors, enumeration, one_of, table, applied, object, items, nothing, unknown, is_bits}
+use Rattle.p416_syntax.specs.Scopes.{Handed, Sort, a_type, a_value, an_enumeration, a_function, an_object, an_action, a_table, a_state, a_block, undeclared, Known, Scope, sort_in, sort_of, kind_of_type, is_directed, handed, known_parameter}
+use Rattle.p416_syntax.specs.Calls.{any_literal}
+use Rattle.p416_syntax.specs.Expressions.{argument_count}
+use Rattle.p416_syntax.specs.Uses.{Use, a_name, a_number, a_table_of, some_action, some_direct_counter, names_of_scope, some_parameters, of_variable, of_action_parameter, type_numbers, type_uses, many, uses_at, arguments_of}
+use Rattle.p416_syntax.specs.Unknown.{is_type_sort, is_unknown_type, is_wanted, is_misnamed}
+use Rattle.p416_syntax.specs.Arguments.{is_miscounted}
+use Rattle.p416_syntax.specs.Declarations.{instance_sort, known_local, control_names, note_uses, parameter_name, parameter_uses, body_uses, action_scope, key_uses, action_name_uses, sort_parameters, parameters_of, default_place, given_uses, defaults_of, table_in, local_uses}
+use Rattle.p416_syntax.specs.Tables.{action_plane, is_not_given, is_bad_action, is_same_action, is_outside_actions, has_bad_keys, has_bad_actions, mixes_up, is_bad_table, is_bad_in_table}
+use Rattle.p416_syntax.specs.Totals.{size_value as literal_in}
+use Rattle.p416_syntax.specs.Breaks.{scope_of, program_rules, BreaksNone}
+use Rattle.v1_core.specs.declared.block.Block.{Block}
+use Rattle.v1_core.specs.Slots.{local_kinds}
+use Rattle.v1_core.specs.Signatures.{listed_plane, planes_of, action_with, handed_width, action_sig, table_sig}
+use Rattle.v1_core.specs.Surroundings.{Setting, table_called, action_called}
+use Rattle.v1_core.specs.Tables as meaning_tables
+use Rattle.v1_core.specs.Tables.{name_of_number, own_default}
+use Rattle.v1_core.specs.Blocks.{around_control, control_at}
 use Rattle.v1_block_laws.specs.Variables.{scope_in_control, control_from}
 use Rattle.v1_block_laws.proofs.Tests.{first_false, second_false, not_false, in_front, at_end, none_joined, none_mapped}
 use Rattle.v1_block_laws.proofs.Naming.{var_at_top, local_no_type}

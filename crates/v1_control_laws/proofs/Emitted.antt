@@ -3,30 +3,30 @@ use Rattle.std.proofs.Common.{◌≡◌, ℕ, ◌<◌, Bool, true, false, Option
 use Rattle.std.proofs.lemmas.List.Elements.{All-nil, All-cons, All-append}
 use Rattle.p4x_bits.specs.BitLists.{IsOctets, num}
 use Rattle.p4x_bits.proofs.BitLists.{num_below}
-use Rattle.p416_ast.specs.declared.parts.Type16.{Type16}
-use Rattle.p416_ast.specs.declared.parsers.Var.{Var}
-use Rattle.p416_ast.specs.declared.controls.Action16.{Action16}
-use Rattle.p416_ast.specs.declared.controls.Table16.{Table16}
-use Rattle.p416_ast.specs.declared.controls.Control16.{Control16}
-use Rattle.p416_ast.specs.Tree.{Exp16, literal, truth, error, name, member, index, slice, call, lookahead, cast, unary, binary, choice, parenthesized, no_arguments, argument, listed, Stmt16, no_statements, then, block, empty, var, var_is, assign, expression, if_then, if_else, switch, no_cases, case_of}
-use Rattle.p416_rules.specs.Names.{Name}
-use Rattle.p416_rules.specs.Kinds.{Kind, bits, unsized, boolean, error_code, header, stack, struct, packet_in, packet_out, errors, enumeration, one_of, table, applied, object, items, nothing, unknown}
-use Rattle.p416_rules.specs.Scopes.{Scope, kind_of_type}
-use Rattle.p416_rules.specs.Calls.{Place, value, target, statement}
-use Rattle.p416_rules.specs.Expressions.{kind_of}
-use Rattle.p416_rules.specs.Uses.{arguments_of}
-use Rattle.p416_rules.specs.Statements.{behind, assigned_place}
-use Rattle.p416_rules.specs.Declarations.{action_scope, action_in}
-use Rattle.v1_sem.specs.declared.block.Block.{Block}
-use Rattle.v1_sem.specs.Values.{Value, a_number, a_truth, an_error, a_header, a_stack, no_members, a_member, a_symbol, some_bits, no_value, Header, to_member}
-use Rattle.v1_sem.specs.Frames.{Moment, Reference, Hit, ticked, is_stopped, put_at, with_inner, whole, stepped, of_variables}
-use Rattle.v1_sem.specs.Surroundings.{Setting, Surroundings, World, action_named, table_named}
-use Rattle.v1_sem.specs.Expressions.{value_of}
-use Rattle.v1_sem.specs.Externs.Packets.{bits_of_field, octets_in, octets_of_header, octets_of}
-use Rattle.v1_sem.specs.Statements.{no_label}
-use Rattle.v1_sem.specs.Tables.{found, Chosen, chosen, bound_numbers, hit_of, run_action, run_chosen, with_application, applied_in}
-use Rattle.v1_sem.specs.Signatures.{table_sig, table_number}
-use Rattle.v1_sem.specs.Blocks.{act, control_world, with_value, variables_of, with_variables, with_initial, begun, control_at, around_control, var_in, run_control, run_block, control16}
+use Rattle.p416_syntax.specs.declared.parts.Type16.{Type16}
+use Rattle.p416_syntax.specs.declared.parsers.Var.{Var}
+use Rattle.p416_syntax.specs.declared.controls.Action16.{Action16}
+use Rattle.p416_syntax.specs.declared.controls.Table16.{Table16}
+use Rattle.p416_syntax.specs.declared.controls.Control16.{Control16}
+use Rattle.p416_syntax.specs.Tree.{Exp16, literal, truth, error, name, member, index, slice, call, lookahead, cast, unary, binary, choice, parenthesized, no_arguments, argument, listed, Stmt16, no_statements, then, block, empty, var, var_is, assign, expression, if_then, if_else, switch, no_cases, case_of}
+use Rattle.p416_syntax.specs.Names.{Name}
+use Rattle.p416_syntax.specs.Kinds.{Kind, bits, unsized, boolean, error_code, header, stack, struct, packet_in, packet_out, errors, enumeration, one_of, table, applied, object, items, nothing, unknown}
+use Rattle.p416_syntax.specs.Scopes.{Scope, kind_of_type}
+use Rattle.p416_syntax.specs.Calls.{Place, value, target, statement}
+use Rattle.p416_syntax.specs.Expressions.{kind_of}
+use Rattle.p416_syntax.specs.Uses.{arguments_of}
+use Rattle.p416_syntax.specs.Statements.{behind, assigned_place}
+use Rattle.p416_syntax.specs.Declarations.{action_scope, action_in}
+use Rattle.v1_core.specs.declared.block.Block.{Block}
+use Rattle.v1_core.specs.Values.{Value, a_number, a_truth, an_error, a_header, a_stack, no_members, a_member, a_symbol, some_bits, no_value, Header, to_member}
+use Rattle.v1_core.specs.Frames.{Moment, Reference, Hit, ticked, is_stopped, put_at, with_inner, whole, stepped, of_variables}
+use Rattle.v1_core.specs.Surroundings.{Setting, Surroundings, World, action_named, table_named}
+use Rattle.v1_core.specs.Expressions.{value_of}
+use Rattle.v1_core.specs.Externs.Packets.{bits_of_field, octets_in, octets_of_header, octets_of}
+use Rattle.v1_core.specs.Statements.{no_label}
+use Rattle.v1_core.specs.Tables.{found, Chosen, chosen, bound_numbers, hit_of, run_action, run_chosen, with_application, applied_in}
+use Rattle.v1_core.specs.Signatures.{table_sig, table_number}
+use Rattle.v1_core.specs.Blocks.{act, control_world, with_value, variables_of, with_variables, with_initial, begun, control_at, around_control, var_in, run_control, run_block, control16}
 use Rattle.v1_statement_laws.specs.Meeting.{StatementMeets}
 use Rattle.v1_control_laws.specs.Laws.{OctetsEmitted}
 use Rattle.v1_control_laws.specs.Erring.{MayTell, MayRead, FreeIn, AllFree, FreeCallee, FreeCall, FreeAt, BodiesFree}

@@ -2,31 +2,31 @@
 -- (T1).
 use Rattle.std.proofs.Common.{◌≡◌, ℕ, Bool, true, false, cond, Option, Some, None, List, [], ◌∷◌, ◌++◌, map, flat_map, refl, sym, ap, ◌∙◌, subst, append_assoc, bytes_eq}
 use Rattle.std.specs.List.{list_any}
-use Rattle.p416_ast.specs.declared.parts.Type16.{Type16}
-use Rattle.p416_ast.specs.declared.parts.Type16.TheVariants.{Bit, Bool as BoolType, Named}
-use Rattle.p416_ast.specs.declared.parts.Direction.{Direction}
-use Rattle.p416_ast.specs.declared.parts.Direction.TheVariants.{In, Out, InOut}
-use Rattle.p416_ast.specs.declared.parts.Param.{Param}
-use Rattle.p416_ast.specs.declared.controls.Action16.{Action16}
-use Rattle.p416_ast.specs.declared.controls.Instance.{Instance}
-use Rattle.p416_ast.specs.declared.controls.Instance.TheVariants as instance
-use Rattle.p416_ast.specs.declared.controls.Local.{Local}
-use Rattle.p416_ast.specs.declared.controls.Local.TheVariants as local
-use Rattle.p416_ast.specs.declared.controls.Control16.{Control16}
-use Rattle.p416_ast.specs.declared.program.Decl16.{Decl16}
-use Rattle.p416_ast.specs.declared.program.Decl16.TheVariants as decl
-use Rattle.p416_rules.specs.Names.{Name, has_name, repeats}
-use Rattle.p416_rules.specs.BuiltIn.{built_in}
-use Rattle.p416_rules.specs.Kinds.{Kind, bits, unsized, boolean, error_code, header, stack, struct, packet_in, packet_out, errors, enumeration, one_of, table, applied, object, items, nothing, unknown}
-use Rattle.p416_rules.specs.Scopes.{Handed, Sort, an_action, Known, Scope, sort_in, type_sort, stack_kind, kind_of_type, is_written, handed, known_parameter}
-use Rattle.p416_rules.specs.Uses.{names_of_scope, some_parameters, some_action, type_numbers, of_action_parameter}
-use Rattle.p416_rules.specs.Unknown.{is_unknown_type, is_wanted, is_misnamed}
-use Rattle.p416_rules.specs.Declarations.{instance_sort, top_name, known_local, control_names, note_uses, parameter_name, parameter_uses, body_uses, action_scope}
-use Rattle.p416_rules.specs.Breaks.{scope_of, program_rules, BreaksNone}
-use Rattle.v1_sem.specs.declared.block.Block.{Block}
-use Rattle.v1_sem.specs.Surroundings.{Setting, action_called}
-use Rattle.v1_sem.specs.Blocks.{control_at}
-use Rattle.v1_frame_values.specs.Seats.{Content, slot_form, form_of}
+use Rattle.p416_syntax.specs.declared.parts.Type16.{Type16}
+use Rattle.p416_syntax.specs.declared.parts.Type16.TheVariants.{Bit, Bool as BoolType, Named}
+use Rattle.p416_syntax.specs.declared.parts.Direction.{Direction}
+use Rattle.p416_syntax.specs.declared.parts.Direction.TheVariants.{In, Out, InOut}
+use Rattle.p416_syntax.specs.declared.parts.Param.{Param}
+use Rattle.p416_syntax.specs.declared.controls.Action16.{Action16}
+use Rattle.p416_syntax.specs.declared.controls.Instance.{Instance}
+use Rattle.p416_syntax.specs.declared.controls.Instance.TheVariants as instance
+use Rattle.p416_syntax.specs.declared.controls.Local.{Local}
+use Rattle.p416_syntax.specs.declared.controls.Local.TheVariants as local
+use Rattle.p416_syntax.specs.declared.controls.Control16.{Control16}
+use Rattle.p416_syntax.specs.declared.program.Decl16.{Decl16}
+use Rattle.p416_syntax.specs.declared.program.Decl16.TheVariants as decl
+use Rattle.p416_syntax.specs.Names.{Name, has_name, repeats}
+use Rattle.p416_syntax.specs.BuiltIn.{built_in}
+use Rattle.p416_syntax.specs.Kinds.{Kind, bits, unsized, boolean, error_code, header, stack, struct, packet_in, packet_out, errors, enumeration, one_of, table, applied, object, items, nothing, unknown}
+use Rattle.p416_syntax.specs.Scopes.{Handed, Sort, an_action, Known, Scope, sort_in, type_sort, stack_kind, kind_of_type, is_written, handed, known_parameter}
+use Rattle.p416_syntax.specs.Uses.{names_of_scope, some_parameters, some_action, type_numbers, of_action_parameter}
+use Rattle.p416_syntax.specs.Unknown.{is_unknown_type, is_wanted, is_misnamed}
+use Rattle.p416_syntax.specs.Declarations.{instance_sort, top_name, known_local, control_names, note_uses, parameter_name, parameter_uses, body_uses, action_scope}
+use Rattle.p416_syntax.specs.Breaks.{scope_of, program_rules, BreaksNone}
+use Rattle.v1_core.specs.declared.block.Block.{Block}
+use Rattle.v1_core.specs.Surroundings.{Setting, action_called}
+use Rattle.v1_core.specs.Blocks.{control_at}
+use Rattle.v1_core.specs.Seats.{Content, slot_form, form_of}
 use Rattle.v1_block_laws.specs.Variables.{scope_in_control, control_from}
 use Rattle.v1_block_laws.proofs.Tests.{first_false, second_false, in_front, at_end}
 use Rattle.v1_ready_statements.specs.Around.{Found, action_found}

@@ -2,26 +2,26 @@
 use Rattle.std.proofs.Common.{◌≡◌, inr, ℕ, ◌+◌, Bool, true, Option, Some, None, List, [], ◌∷◌, length, filter_map, refl, sym, ap, ◌∙◌, subst}
 use Rattle.std.proofs.lemmas.List.{length-map}
 use Rattle.digraph.specs.Graphs.{Reaches}
-use Rattle.p416_ast.specs.declared.controls.Action16.{Action16}
-use Rattle.p416_ast.specs.declared.controls.Local.TheVariants as local
-use Rattle.p416_ast.specs.declared.controls.Control16.{Control16}
-use Rattle.p416_ast.specs.declared.program.Decl16.TheVariants as decl
-use Rattle.p416_rules.specs.Names.{Name}
-use Rattle.p416_rules.specs.Scopes.{Scope}
-use Rattle.p416_rules.specs.Uses.{Use}
-use Rattle.p416_rules.specs.Declarations.{action_in}
-use Rattle.p416_rules.specs.Applications.{call_graph}
-use Rattle.p416_rules.specs.Breaks.{scope_of, program_rules, BreaksNone}
-use Rattle.v1_sem.specs.declared.block.Block.{Block as BlockName}
-use Rattle.v1_sem.specs.Frames as sem
-use Rattle.v1_sem.specs.Slots.{variable_kinds, local_kinds, kinds_in}
-use Rattle.v1_sem.specs.Surroundings as meaning
-use Rattle.v1_sem.specs.Surroundings.{Setting, Root}
-use Rattle.v1_sem.specs.Numbered.{Variable, nobody}
-use Rattle.v1_sem.specs.Tables.{applied}
-use Rattle.v1_sem.specs.Blocks.{act, control_world, around_control, run_block, control_at, control16}
-use Rattle.v1_frames.specs.Cells.{Cells}
-use Rattle.v1_frame_values.specs.Frames.{IsFrameOf}
+use Rattle.p416_syntax.specs.declared.controls.Action16.{Action16}
+use Rattle.p416_syntax.specs.declared.controls.Local.TheVariants as local
+use Rattle.p416_syntax.specs.declared.controls.Control16.{Control16}
+use Rattle.p416_syntax.specs.declared.program.Decl16.TheVariants as decl
+use Rattle.p416_syntax.specs.Names.{Name}
+use Rattle.p416_syntax.specs.Scopes.{Scope}
+use Rattle.p416_syntax.specs.Uses.{Use}
+use Rattle.p416_syntax.specs.Declarations.{action_in}
+use Rattle.p416_syntax.specs.Applications.{call_graph}
+use Rattle.p416_syntax.specs.Breaks.{scope_of, program_rules, BreaksNone}
+use Rattle.v1_core.specs.declared.block.Block.{Block as BlockName}
+use Rattle.v1_core.specs.Frames as sem
+use Rattle.v1_core.specs.Slots.{variable_kinds, local_kinds, kinds_in}
+use Rattle.v1_core.specs.Surroundings as meaning
+use Rattle.v1_core.specs.Surroundings.{Setting, Root}
+use Rattle.v1_core.specs.Numbered.{Variable, nobody}
+use Rattle.v1_core.specs.Tables.{applied}
+use Rattle.v1_core.specs.Blocks.{act, control_world, around_control, run_block, control_at, control16}
+use Rattle.v1_core.specs.Cells.{Cells}
+use Rattle.v1_core.specs.PackedFrames.{IsFrameOf}
 use Rattle.v1_ready_blocks.specs.Moments.{Moment}
 use Rattle.v1_ready_blocks.specs.Tests.{World}
 use Rattle.v1_ready_blocks.specs.Tables.{Fill}

@@ -1,21 +1,21 @@
 -- The keys of a table of an accepted program keep the rules on types and sizes, and no stack tells anything in them.
 use Rattle.std.proofs.Common.{◌≡◌, Bool, true, false, cond, Some, List, [], ◌∷◌, ◌++◌, map, flat_map, filter_map, refl, subst, bytes_eq}
 use Rattle.std.specs.Prelude.{option_to_list}
-use Rattle.p416_ast.specs.declared.controls.TableKey.{TableKey}
-use Rattle.p416_ast.specs.declared.controls.Table16.{Table16}
-use Rattle.p416_ast.specs.declared.controls.Local.{Local}
-use Rattle.p416_ast.specs.declared.controls.Local.TheVariants as local
-use Rattle.p416_ast.specs.declared.controls.Control16.{Control16}
-use Rattle.p416_ast.specs.Properties.{keys_of, actions_of, size_of, counters_of, default_action_of, default_arguments_of}
-use Rattle.p416_rules.specs.Names.{Name}
-use Rattle.p416_rules.specs.Scopes.{Scope, in_key}
-use Rattle.p416_rules.specs.Calls.{table_key}
-use Rattle.p416_rules.specs.Uses.{a_name, some_direct_counter, a_number, a_table_of, uses}
-use Rattle.p416_rules.specs.Declarations.{note_uses, is_exact, key_uses, action_name_uses, defaults_of, table_in, local_uses}
-use Rattle.p416_rules.specs.Breaks.{program_rules, BreaksNone}
-use Rattle.v1_sem.specs.declared.block.Block.{Block}
-use Rattle.v1_sem.specs.Surroundings.{Setting, table_called}
-use Rattle.v1_sem.specs.Blocks.{control_at}
+use Rattle.p416_syntax.specs.declared.controls.TableKey.{TableKey}
+use Rattle.p416_syntax.specs.declared.controls.Table16.{Table16}
+use Rattle.p416_syntax.specs.declared.controls.Local.{Local}
+use Rattle.p416_syntax.specs.declared.controls.Local.TheVariants as local
+use Rattle.p416_syntax.specs.declared.controls.Control16.{Control16}
+use Rattle.p416_syntax.specs.Properties.{keys_of, actions_of, size_of, counters_of, default_action_of, default_arguments_of}
+use Rattle.p416_syntax.specs.Names.{Name}
+use Rattle.p416_syntax.specs.Scopes.{Scope, in_key}
+use Rattle.p416_syntax.specs.Calls.{table_key}
+use Rattle.p416_syntax.specs.Uses.{a_name, some_direct_counter, a_number, a_table_of, uses}
+use Rattle.p416_syntax.specs.Declarations.{note_uses, is_exact, key_uses, action_name_uses, defaults_of, table_in, local_uses}
+use Rattle.p416_syntax.specs.Breaks.{program_rules, BreaksNone}
+use Rattle.v1_core.specs.declared.block.Block.{Block}
+use Rattle.v1_core.specs.Surroundings.{Setting, table_called}
+use Rattle.v1_core.specs.Blocks.{control_at}
 use Rattle.v1_block_laws.specs.Variables.{scope_in_control}
 use Rattle.v1_block_laws.specs.Keeping.{Each}
 use Rattle.v1_statement_laws.specs.Meeting.{FindNothing}

@@ -2,34 +2,34 @@
 use Rattle.std.proofs.Common.{◌≡◌, ◌≢◌, ◌⊎◌, inl, inr, ℕ, zero, suc, ◌+◌, ◌≤◌, Bool, Option, Some, None, IfSome, List, [], ◌∷◌, ◌++◌, length, map, get_or, refl, sym, ap, ◌∙◌, subst, arith, append_assoc, length-append}
 use Rattle.std.proofs.lemmas.List.{length-map}
 use Rattle.digraph.specs.Graphs.{successors, IsEdge, Reaches}
-use Rattle.p416_ast.specs.declared.node.CaseLabel.{CaseLabel}
-use Rattle.p416_ast.specs.declared.parts.Param.{Param}
-use Rattle.p416_ast.specs.declared.controls.Action16.{Action16}
-use Rattle.p416_ast.specs.declared.controls.Control16.{Control16}
-use Rattle.p416_ast.specs.declared.program.Decl16.TheVariants as decl
-use Rattle.p416_rules.specs.Names.{Name}
-use Rattle.p416_rules.specs.Kinds.{Kind}
-use Rattle.p416_rules.specs.Scopes.{Scope}
-use Rattle.p416_rules.specs.Uses.{Use}
-use Rattle.p416_rules.specs.Applications.{call_graph}
-use Rattle.p416_rules.specs.Declarations.{parameter_name, action_scope}
-use Rattle.p416_rules.specs.Breaks.{scope_of, program_rules, BreaksNone}
-use Rattle.p416_rules.specs.Main.{positions_of}
-use Rattle.p416_rules.specs.Unknown.{declared_name}
-use Rattle.v1_sem.specs.declared.block.Block.{Block as BlockName}
-use Rattle.v1_sem.specs.Values.{Value}
-use Rattle.v1_sem.specs.Frames as sem
-use Rattle.v1_sem.specs.Frames.{Frame}
-use Rattle.v1_sem.specs.Slots.{variable_kinds, parameter_kind, kinds_in}
-use Rattle.v1_sem.specs.Surroundings as meaning
-use Rattle.v1_sem.specs.Surroundings.{Setting, Root, action_named, action_called}
-use Rattle.v1_sem.specs.Numbered.{Variable, InScope, named_values, frame_in}
-use Rattle.v1_sem.specs.Statements.{no_label}
-use Rattle.v1_sem.specs.Statements as sem_statements
-use Rattle.v1_sem.specs.Blocks.{act_at, around_control, control_at}
-use Rattle.v1_frames.specs.Cells.{Cells}
-use Rattle.v1_frame_values.specs.Programs.{numbered16}
-use Rattle.v1_frame_values.specs.Scopes.{AreApart}
+use Rattle.p416_syntax.specs.declared.node.CaseLabel.{CaseLabel}
+use Rattle.p416_syntax.specs.declared.parts.Param.{Param}
+use Rattle.p416_syntax.specs.declared.controls.Action16.{Action16}
+use Rattle.p416_syntax.specs.declared.controls.Control16.{Control16}
+use Rattle.p416_syntax.specs.declared.program.Decl16.TheVariants as decl
+use Rattle.p416_syntax.specs.Names.{Name}
+use Rattle.p416_syntax.specs.Kinds.{Kind}
+use Rattle.p416_syntax.specs.Scopes.{Scope}
+use Rattle.p416_syntax.specs.Uses.{Use}
+use Rattle.p416_syntax.specs.Applications.{call_graph}
+use Rattle.p416_syntax.specs.Declarations.{parameter_name, action_scope}
+use Rattle.p416_syntax.specs.Breaks.{scope_of, program_rules, BreaksNone}
+use Rattle.p416_syntax.specs.Main.{positions_of}
+use Rattle.p416_syntax.specs.Unknown.{declared_name}
+use Rattle.v1_core.specs.declared.block.Block.{Block as BlockName}
+use Rattle.v1_core.specs.Values.{Value}
+use Rattle.v1_core.specs.Frames as sem
+use Rattle.v1_core.specs.Frames.{Frame}
+use Rattle.v1_core.specs.Slots.{variable_kinds, parameter_kind, kinds_in}
+use Rattle.v1_core.specs.Surroundings as meaning
+use Rattle.v1_core.specs.Surroundings.{Setting, Root, action_named, action_called}
+use Rattle.v1_core.specs.Numbered.{Variable, InScope, named_values, frame_in}
+use Rattle.v1_core.specs.Statements.{no_label}
+use Rattle.v1_core.specs.Statements as sem_statements
+use Rattle.v1_core.specs.Blocks.{act_at, around_control, control_at}
+use Rattle.v1_core.specs.Cells.{Cells}
+use Rattle.v1_core.specs.Programs.{numbered16}
+use Rattle.v1_core.specs.Scopes.{AreApart}
 use Rattle.v1_ready_forms.specs.Named.{NamedSeat, seat_of_name, seat_of_root, seat_of_variable, seats_in}
 use Rattle.v1_ready_laws.specs.Rules.{NamesSeated}
 use Rattle.v1_ready_blocks.specs.Moments.{Moment}

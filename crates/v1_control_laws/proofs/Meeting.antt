@@ -10,40 +10,40 @@ use Rattle.std.proofs.lemmas.Iterator.Adapters.{position_from-zero}
 use Rattle.std.proofs.lemmas.Bool.Decides.{Decides-eqb}
 use Rattle.std.proofs.lemmas.Slice.Eq.{bytes_eq-Decides}
 use Rattle.digraph.specs.Graphs.{successors}
-use Rattle.p416_ast.specs.declared.controls.Action16.{Action16}
-use Rattle.p416_ast.specs.declared.controls.Local.{Local}
-use Rattle.p416_ast.specs.declared.controls.Local.TheVariants as local
-use Rattle.p416_ast.specs.declared.controls.Control16.{Control16}
-use Rattle.p416_ast.specs.declared.program.Decl16.{Decl16}
-use Rattle.p416_ast.specs.declared.program.Decl16.TheVariants as decl
-use Rattle.p416_ast.specs.declared.program.Syntax16.{Syntax16}
-use Rattle.p416_ast.specs.Tree.{Exp16, literal, truth, error, name, member, index, slice, call, lookahead, cast, unary, binary, choice, parenthesized, no_arguments, argument, listed, Stmt16, no_statements, then, block, empty, var, var_is, assign, expression, if_then, if_else, switch, no_cases, case_of}
-use Rattle.p416_rules.specs.Names.{Name}
-use Rattle.p416_rules.specs.Kinds.{Kind, boolean, is_packet}
-use Rattle.p416_rules.specs.Scopes.{called_of, Scope, Part, in_action, kind_of_type, sort_of}
-use Rattle.p416_rules.specs.Calls.{Place, value, target, statement, callee, unasked, parser_position}
-use Rattle.p416_rules.specs.Expressions.{kind_of, signature_of, is_chosen}
-use Rattle.p416_rules.specs.Uses.{Use, an_expression, names_of_scope, some_parameters, some_counters, a_body, of_variable, of_action_parameter, of_block_parameter, type_uses, uses, uses_at, many, wanted_by}
-use Rattle.p416_rules.specs.Statements.{Visit, visit, visits, behind, declared_in, nesting, assigned_place, own_uses, visit_uses, statement_uses}
-use Rattle.p416_rules.specs.Declarations.{note_uses, parameter_name, parameter_uses, body_uses, action_scope, action_in, action_uses, local_uses, control_names, control_uses, counters_in, tables_in}
-use Rattle.p416_rules.specs.Applications.{applies_nothing, action_name_of, action_number, if_action, called_name, called_action, calls_of, call_graph}
-use Rattle.p416_rules.specs.Main.{positions_of}
-use Rattle.p416_rules.specs.Breaks.{has_use, SomeDeclaration, DeclarationBreaks, scope_of, uses_in, program_uses, IsBroken, program_rules, BreaksNone}
-use Rattle.p416_rules.specs.declared.rule.ProgramRule.TheVariants.{T8}
-use Rattle.p416_rules.specs.Unknown.{is_misnamed}
-use Rattle.p416_rules.specs.Sizes.{leaves_size}
-use Rattle.p416_rules.specs.Types.{is_mistyped}
-use Rattle.p416_rules.specs.Literals.{overflows}
-use Rattle.p416_rules.specs.Writes.{writes_constant}
-use Rattle.p416_rules.specs.Arguments.{is_miscounted}
-use Rattle.p416_rules.specs.Applications.{applies_wrongly}
-use Rattle.p416_rules.specs.Tables.{is_bad_in_table}
-use Rattle.p416_rules.specs.Externs.{is_outside_block, is_parser_part, are_allowed}
-use Rattle.p416_rules.specs.Totals.{is_too_deep}
-use Rattle.v1_sem.specs.declared.block.Block.{Block as BlockName}
-use Rattle.v1_sem.specs.Surroundings as meaning
-use Rattle.v1_sem.specs.Surroundings.{Setting, action_called}
-use Rattle.v1_sem.specs.Blocks.{around_control, control_at}
+use Rattle.p416_syntax.specs.declared.controls.Action16.{Action16}
+use Rattle.p416_syntax.specs.declared.controls.Local.{Local}
+use Rattle.p416_syntax.specs.declared.controls.Local.TheVariants as local
+use Rattle.p416_syntax.specs.declared.controls.Control16.{Control16}
+use Rattle.p416_syntax.specs.declared.program.Decl16.{Decl16}
+use Rattle.p416_syntax.specs.declared.program.Decl16.TheVariants as decl
+use Rattle.p416_syntax.specs.declared.program.Syntax16.{Syntax16}
+use Rattle.p416_syntax.specs.Tree.{Exp16, literal, truth, error, name, member, index, slice, call, lookahead, cast, unary, binary, choice, parenthesized, no_arguments, argument, listed, Stmt16, no_statements, then, block, empty, var, var_is, assign, expression, if_then, if_else, switch, no_cases, case_of}
+use Rattle.p416_syntax.specs.Names.{Name}
+use Rattle.p416_syntax.specs.Kinds.{Kind, boolean, is_packet}
+use Rattle.p416_syntax.specs.Scopes.{called_of, Scope, Part, in_action, kind_of_type, sort_of}
+use Rattle.p416_syntax.specs.Calls.{Place, value, target, statement, callee, unasked, parser_position}
+use Rattle.p416_syntax.specs.Expressions.{kind_of, signature_of, is_chosen}
+use Rattle.p416_syntax.specs.Uses.{Use, an_expression, names_of_scope, some_parameters, some_counters, a_body, of_variable, of_action_parameter, of_block_parameter, type_uses, uses, uses_at, many, wanted_by}
+use Rattle.p416_syntax.specs.Statements.{Visit, visit, visits, behind, declared_in, nesting, assigned_place, own_uses, visit_uses, statement_uses}
+use Rattle.p416_syntax.specs.Declarations.{note_uses, parameter_name, parameter_uses, body_uses, action_scope, action_in, action_uses, local_uses, control_names, control_uses, counters_in, tables_in}
+use Rattle.p416_syntax.specs.Applications.{applies_nothing, action_name_of, action_number, if_action, called_name, called_action, calls_of, call_graph}
+use Rattle.p416_syntax.specs.Main.{positions_of}
+use Rattle.p416_syntax.specs.Breaks.{has_use, SomeDeclaration, DeclarationBreaks, scope_of, uses_in, program_uses, IsBroken, program_rules, BreaksNone}
+use Rattle.p416_syntax.specs.declared.rule.ProgramRule.TheVariants.{T8}
+use Rattle.p416_syntax.specs.Unknown.{is_misnamed}
+use Rattle.p416_syntax.specs.Sizes.{leaves_size}
+use Rattle.p416_syntax.specs.Types.{is_mistyped}
+use Rattle.p416_syntax.specs.Literals.{overflows}
+use Rattle.p416_syntax.specs.Writes.{writes_constant}
+use Rattle.p416_syntax.specs.Arguments.{is_miscounted}
+use Rattle.p416_syntax.specs.Applications.{applies_wrongly}
+use Rattle.p416_syntax.specs.Tables.{is_bad_in_table}
+use Rattle.p416_syntax.specs.Externs.{is_outside_block, is_parser_part, are_allowed}
+use Rattle.p416_syntax.specs.Totals.{is_too_deep}
+use Rattle.v1_core.specs.declared.block.Block.{Block as BlockName}
+use Rattle.v1_core.specs.Surroundings as meaning
+use Rattle.v1_core.specs.Surroundings.{Setting, action_called}
+use Rattle.v1_core.specs.Blocks.{around_control, control_at}
 use Rattle.v1_block_laws.specs.Variables.{scope_in_control, control_from, is_control}
 use Rattle.v1_block_laws.proofs.Tests.{first_false, second_false, not_false, in_front, at_end}
 use Rattle.v1_block_laws.proofs.Accepted.{none_within}

@@ -3,21 +3,21 @@ use Rattle.std.proofs.Common.{◌≡◌, ℕ, zero, suc, ◌+◌, ◌<◌, ◌&&
 use Rattle.std.specs.List.{list_all}
 use Rattle.std.proofs.Math.Dec.{eqb-suc-zero}
 use Rattle.std.proofs.lemmas.Slice.Eq.{bytes_eq-Decides}
-use Rattle.p416_ast.specs.declared.controls.Control16.{Control16}
-use Rattle.p416_ast.specs.declared.program.Decl16.{Decl16}
-use Rattle.p416_ast.specs.declared.program.Decl16.TheVariants as decl
-use Rattle.p416_ast.specs.declared.program.Syntax16.{Syntax16}
-use Rattle.p416_rules.specs.Names.{Name}
-use Rattle.p416_rules.specs.Scopes.{Known}
-use Rattle.p416_rules.specs.Calls.{parser_position}
-use Rattle.p416_rules.specs.Declarations.{top_names}
-use Rattle.p416_rules.specs.Main.{positions_from, positions_of, BlockShape, is_block, block_of, wanted_blocks, are_blocks, are_headers, is_metadata, headers_kind, metadata_kind}
-use Rattle.p416_rules.specs.Declarations.{layouts_of}
-use Rattle.p416_rules.specs.Externs.{is_some_position, is_allowed_at, are_allowed}
-use Rattle.p416_rules.specs.Breaks.{program_rules, BreaksNone}
-use Rattle.v1_sem.specs.declared.block.Block.{Block}
-use Rattle.v1_sem.specs.declared.block.Block.TheVariants.{Verify, Ingress, Egress, Compute, Deparse}
-use Rattle.v1_sem.specs.Blocks.{control_called, control_at, position_of}
+use Rattle.p416_syntax.specs.declared.controls.Control16.{Control16}
+use Rattle.p416_syntax.specs.declared.program.Decl16.{Decl16}
+use Rattle.p416_syntax.specs.declared.program.Decl16.TheVariants as decl
+use Rattle.p416_syntax.specs.declared.program.Syntax16.{Syntax16}
+use Rattle.p416_syntax.specs.Names.{Name}
+use Rattle.p416_syntax.specs.Scopes.{Known}
+use Rattle.p416_syntax.specs.Calls.{parser_position}
+use Rattle.p416_syntax.specs.Declarations.{top_names}
+use Rattle.p416_syntax.specs.Main.{positions_from, positions_of, BlockShape, is_block, block_of, wanted_blocks, are_blocks, are_headers, is_metadata, headers_kind, metadata_kind}
+use Rattle.p416_syntax.specs.Declarations.{layouts_of}
+use Rattle.p416_syntax.specs.Externs.{is_some_position, is_allowed_at, are_allowed}
+use Rattle.p416_syntax.specs.Breaks.{program_rules, BreaksNone}
+use Rattle.v1_core.specs.declared.block.Block.{Block}
+use Rattle.v1_core.specs.declared.block.Block.TheVariants.{Verify, Ingress, Egress, Compute, Deparse}
+use Rattle.v1_core.specs.Blocks.{control_called, control_at, position_of}
 use Rattle.v1_block_laws.proofs.Tests.{left_true}
 use Rattle.v1_block_laws.proofs.Accepted.{main_kept}
 

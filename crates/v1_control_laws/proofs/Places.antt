@@ -4,24 +4,24 @@ use Rattle.std.proofs.Common.{◌≡◌, ◌≢◌, ◌⊎◌, inl, inr, ℕ, su
 use Rattle.std.proofs.lemmas.Bool.Decides.{Decides-eqb}
 use Rattle.std.proofs.lemmas.Slice.Eq.{bytes_eq-Decides}
 use Rattle.digraph.specs.Graphs.{Among, IsEdge, Edge, Onward, Reaches, OnCycle}
-use Rattle.p416_ast.specs.declared.controls.Action16.{Action16}
-use Rattle.p416_ast.specs.declared.controls.Local.{Local}
-use Rattle.p416_ast.specs.declared.controls.Local.TheVariants as local
-use Rattle.p416_ast.specs.declared.controls.Control16.{Control16}
-use Rattle.p416_ast.specs.declared.program.Decl16.{Decl16}
-use Rattle.p416_ast.specs.declared.program.Decl16.TheVariants as decl
-use Rattle.p416_ast.specs.declared.program.Syntax16.{Syntax16}
-use Rattle.p416_rules.specs.Names.{Name}
-use Rattle.p416_rules.specs.Kinds.{Kind}
-use Rattle.p416_rules.specs.Scopes.{Scope}
-use Rattle.p416_rules.specs.Declarations.{action_in}
-use Rattle.p416_rules.specs.Applications.{call_graph}
-use Rattle.p416_rules.specs.Breaks.{scope_of, SomeDeclaration, DeclarationBreaks, IsBroken, program_rules, BreaksNone}
-use Rattle.p416_rules.specs.declared.rule.ProgramRule.TheVariants.{T8}
-use Rattle.v1_sem.specs.declared.block.Block.{Block}
-use Rattle.v1_sem.specs.Slots.{local_kinds}
-use Rattle.v1_sem.specs.Surroundings.{action_called}
-use Rattle.v1_sem.specs.Blocks.{control_at}
+use Rattle.p416_syntax.specs.declared.controls.Action16.{Action16}
+use Rattle.p416_syntax.specs.declared.controls.Local.{Local}
+use Rattle.p416_syntax.specs.declared.controls.Local.TheVariants as local
+use Rattle.p416_syntax.specs.declared.controls.Control16.{Control16}
+use Rattle.p416_syntax.specs.declared.program.Decl16.{Decl16}
+use Rattle.p416_syntax.specs.declared.program.Decl16.TheVariants as decl
+use Rattle.p416_syntax.specs.declared.program.Syntax16.{Syntax16}
+use Rattle.p416_syntax.specs.Names.{Name}
+use Rattle.p416_syntax.specs.Kinds.{Kind}
+use Rattle.p416_syntax.specs.Scopes.{Scope}
+use Rattle.p416_syntax.specs.Declarations.{action_in}
+use Rattle.p416_syntax.specs.Applications.{call_graph}
+use Rattle.p416_syntax.specs.Breaks.{scope_of, SomeDeclaration, DeclarationBreaks, IsBroken, program_rules, BreaksNone}
+use Rattle.p416_syntax.specs.declared.rule.ProgramRule.TheVariants.{T8}
+use Rattle.v1_core.specs.declared.block.Block.{Block}
+use Rattle.v1_core.specs.Slots.{local_kinds}
+use Rattle.v1_core.specs.Surroundings.{action_called}
+use Rattle.v1_core.specs.Blocks.{control_at}
 use Rattle.v1_block_laws.specs.Variables.{action_from}
 use Rattle.v1_block_laws.specs.Standing.{AreOfKinds}
 use Rattle.v1_block_laws.proofs.Standing.{apart}

@@ -1,22 +1,22 @@
 -- A control of an accepted program has parameters, the first of which is a name of one of the packet's values.
 use Rattle.std.proofs.Common.{◌≡◌, ℕ, zero, suc, ◌<◌, ◌&&◌, Bool, true, false, cond, Some, None, List, [], ◌∷◌, length, map, get_or, refl, subst, arith, bytes_eq}
-use Rattle.p416_ast.specs.declared.parts.Param.{Param}
-use Rattle.p416_ast.specs.declared.parts.Direction.TheVariants.{In}
-use Rattle.p416_ast.specs.declared.controls.Control16.{Control16}
-use Rattle.p416_ast.specs.declared.program.Decl16.{Decl16}
-use Rattle.p416_ast.specs.declared.program.Decl16.TheVariants as decl
-use Rattle.p416_ast.specs.declared.program.Syntax16.{Syntax16}
-use Rattle.p416_rules.specs.Names.{Name}
-use Rattle.p416_rules.specs.Kinds.{packet_out}
-use Rattle.p416_rules.specs.Scopes.{Known}
-use Rattle.p416_rules.specs.Declarations.{parameter_name, top_names, layouts_of}
-use Rattle.p416_rules.specs.Main.{a_parser, Shape, shape, parameter_shape, BlockShape, or_else, block_of, are_same_shapes, is_block, a_control_of, checksum_block, pipeline_block, wanted_blocks, are_blocks, are_headers, is_metadata, headers_kind, metadata_kind, is_main}
-use Rattle.p416_rules.specs.Breaks.{program_rules, BreaksNone}
-use Rattle.v1_sem.specs.declared.block.Block.{Block}
-use Rattle.v1_sem.specs.declared.block.Block.TheVariants.{Verify, Ingress, Egress, Compute, Deparse}
-use Rattle.v1_sem.specs.Frames.{Owner}
-use Rattle.v1_sem.specs.Surroundings.{Root, rooted}
-use Rattle.v1_sem.specs.Blocks.{control_called, control_at, owners_of, position_of}
+use Rattle.p416_syntax.specs.declared.parts.Param.{Param}
+use Rattle.p416_syntax.specs.declared.parts.Direction.TheVariants.{In}
+use Rattle.p416_syntax.specs.declared.controls.Control16.{Control16}
+use Rattle.p416_syntax.specs.declared.program.Decl16.{Decl16}
+use Rattle.p416_syntax.specs.declared.program.Decl16.TheVariants as decl
+use Rattle.p416_syntax.specs.declared.program.Syntax16.{Syntax16}
+use Rattle.p416_syntax.specs.Names.{Name}
+use Rattle.p416_syntax.specs.Kinds.{packet_out}
+use Rattle.p416_syntax.specs.Scopes.{Known}
+use Rattle.p416_syntax.specs.Declarations.{parameter_name, top_names, layouts_of}
+use Rattle.p416_syntax.specs.Main.{a_parser, Shape, shape, parameter_shape, BlockShape, or_else, block_of, are_same_shapes, is_block, a_control_of, checksum_block, pipeline_block, wanted_blocks, are_blocks, are_headers, is_metadata, headers_kind, metadata_kind, is_main}
+use Rattle.p416_syntax.specs.Breaks.{program_rules, BreaksNone}
+use Rattle.v1_core.specs.declared.block.Block.{Block}
+use Rattle.v1_core.specs.declared.block.Block.TheVariants.{Verify, Ingress, Egress, Compute, Deparse}
+use Rattle.v1_core.specs.Frames.{Owner}
+use Rattle.v1_core.specs.Surroundings.{Root, rooted}
+use Rattle.v1_core.specs.Blocks.{control_called, control_at, owners_of, position_of}
 use Rattle.v1_block_laws.specs.Variables.{control_roots}
 use Rattle.v1_block_laws.proofs.Tests.{left_true, right_true}
 use Rattle.v1_block_laws.proofs.Accepted.{main_kept}

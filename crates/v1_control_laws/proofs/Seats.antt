@@ -2,20 +2,20 @@
 use Rattle.std.proofs.Common.{◌≡◌, ℕ, suc, Bool, true, false, cond, ◌||◌, codes, Option, Some, None, option_map, List, [], ◌∷◌, refl, ap, bytes_eq}
 use Rattle.std.specs.Prelude.{option_and_then}
 use Rattle.fabric.specs.declared.items.RequestKind.TheVariants.{CloneI2E, CloneE2E, Resubmit, Recirculate}
-use Rattle.p416_ast.specs.declared.parts.Param.{Param}
-use Rattle.p416_ast.specs.declared.node.CaseLabel.TheVariants as label
-use Rattle.p416_ast.specs.Tree.{Exp16, literal, truth, error, name, member, index, slice, call, lookahead, cast, unary, binary, choice, parenthesized, no_arguments, argument, listed, Stmt16, no_statements, then, block, empty, var, var_is, assign, expression, if_then, if_else, switch, no_cases, case_of}
-use Rattle.p416_rules.specs.Names.{Name}
-use Rattle.p416_rules.specs.Kinds.{ObjectKind, counter, direct_counter, register, meter, Kind, bits, unsized, boolean, error_code, header, stack, struct, packet_in, packet_out, errors, enumeration, one_of, table, applied, object, items, nothing, unknown}
-use Rattle.p416_rules.specs.Scopes.{Sort, a_type, a_value, an_enumeration, a_function, an_object, an_action, a_table, a_state, a_block, undeclared, Scope, sort_of, kind_of_type}
-use Rattle.p416_rules.specs.Calls.{Place, value, any_bits, owner, a_stack, index_place}
-use Rattle.p416_rules.specs.Expressions.{kind_of}
-use Rattle.p416_rules.specs.Uses.{unary_place, left_place, right_place, cast_place, chosen_place, arguments_of}
-use Rattle.p416_rules.specs.Statements.{behind, assigned_place}
-use Rattle.v1_sem.specs.Values.{to_member, to_element}
-use Rattle.v1_sem.specs.Expressions.{slice_of}
-use Rattle.v1_frame_values.specs.Seats.{Form, slot_form, header_form, stack_form, struct_form, no_form, Seat}
-use Rattle.v1_ready_expressions.specs.Ready as ready
+use Rattle.p416_syntax.specs.declared.parts.Param.{Param}
+use Rattle.p416_syntax.specs.declared.node.CaseLabel.TheVariants as label
+use Rattle.p416_syntax.specs.Tree.{Exp16, literal, truth, error, name, member, index, slice, call, lookahead, cast, unary, binary, choice, parenthesized, no_arguments, argument, listed, Stmt16, no_statements, then, block, empty, var, var_is, assign, expression, if_then, if_else, switch, no_cases, case_of}
+use Rattle.p416_syntax.specs.Names.{Name}
+use Rattle.p416_syntax.specs.Kinds.{ObjectKind, counter, direct_counter, register, meter, Kind, bits, unsized, boolean, error_code, header, stack, struct, packet_in, packet_out, errors, enumeration, one_of, table, applied, object, items, nothing, unknown}
+use Rattle.p416_syntax.specs.Scopes.{Sort, a_type, a_value, an_enumeration, a_function, an_object, an_action, a_table, a_state, a_block, undeclared, Scope, sort_of, kind_of_type}
+use Rattle.p416_syntax.specs.Calls.{Place, value, any_bits, owner, a_stack, index_place}
+use Rattle.p416_syntax.specs.Expressions.{kind_of}
+use Rattle.p416_syntax.specs.Uses.{unary_place, left_place, right_place, cast_place, chosen_place, arguments_of}
+use Rattle.p416_syntax.specs.Statements.{behind, assigned_place}
+use Rattle.v1_core.specs.Values.{to_member, to_element}
+use Rattle.v1_core.specs.Expressions.{slice_of}
+use Rattle.v1_core.specs.Seats.{Form, slot_form, header_form, stack_form, struct_form, no_form, Seat}
+use Rattle.v1_core.specs.Ready as ready
 use Rattle.v1_ready_forms.specs.Named.{NamedSeat, seat_of_name}
 use Rattle.v1_ready_forms.specs.Ways.{Way, its_value, its_validity, through_element}
 use Rattle.v1_ready_forms.specs.Spots.{spot_with, spot_behind, ready_behind, way_ready}

@@ -18,22 +18,22 @@ use Rattle.match_core.specs.declared.signatures.TableSig.{TableSig}
 use Rattle.match_core.specs.Best.{Filled}
 use Rattle.match_core.specs.Fits.{FitsFill, Fits}
 use Rattle.match_core.specs.Tables.{filled_of, filled_tables, tables_of}
-use Rattle.p416_ast.specs.declared.controls.Table16.{Table16}
-use Rattle.p416_ast.specs.declared.controls.Local.{Local}
-use Rattle.p416_ast.specs.declared.controls.Control16.{Control16}
-use Rattle.p416_ast.specs.declared.program.Decl16.{Decl16}
-use Rattle.p416_ast.specs.declared.program.Decl16.TheVariants as decl
-use Rattle.p416_ast.specs.declared.program.Syntax16.{Syntax16}
-use Rattle.p416_rules.specs.Names.{Name, has_name, repeats}
-use Rattle.p416_rules.specs.Scopes.{Scope}
-use Rattle.p416_rules.specs.Declarations.{tables_in}
-use Rattle.p416_rules.specs.Tables.{table_plane, tables_of as program_tables, objects_of, outer_counters}
-use Rattle.p416_rules.specs.Breaks.{IsBroken, program_rules, BreaksNone}
-use Rattle.v1_sem.specs.declared.block.Block.{Block}
-use Rattle.v1_sem.specs.Signatures.{place_among, Placed, placed, placed_in, placed_tables, table_with, table_names, table_number, table_sig, placed_sig, tables_in_order, signature16}
-use Rattle.v1_sem.specs.Surroundings.{Setting, table_called, table_named}
-use Rattle.v1_sem.specs.Blocks.{around_control, control_at}
-use Rattle.v1_sem.specs.Tables.{fill_of}
+use Rattle.p416_syntax.specs.declared.controls.Table16.{Table16}
+use Rattle.p416_syntax.specs.declared.controls.Local.{Local}
+use Rattle.p416_syntax.specs.declared.controls.Control16.{Control16}
+use Rattle.p416_syntax.specs.declared.program.Decl16.{Decl16}
+use Rattle.p416_syntax.specs.declared.program.Decl16.TheVariants as decl
+use Rattle.p416_syntax.specs.declared.program.Syntax16.{Syntax16}
+use Rattle.p416_syntax.specs.Names.{Name, has_name, repeats}
+use Rattle.p416_syntax.specs.Scopes.{Scope}
+use Rattle.p416_syntax.specs.Declarations.{tables_in}
+use Rattle.p416_syntax.specs.Tables.{table_plane, tables_of as program_tables, objects_of, outer_counters}
+use Rattle.p416_syntax.specs.Breaks.{IsBroken, program_rules, BreaksNone}
+use Rattle.v1_core.specs.declared.block.Block.{Block}
+use Rattle.v1_core.specs.Signatures.{place_among, Placed, placed, placed_in, placed_tables, table_with, table_names, table_number, table_sig, placed_sig, tables_in_order, signature16}
+use Rattle.v1_core.specs.Surroundings.{Setting, table_called, table_named}
+use Rattle.v1_core.specs.Blocks.{around_control, control_at}
+use Rattle.v1_core.specs.Tables.{fill_of}
 use Rattle.v1_ready_blocks.specs.Tables as ready
 use Rattle.v1_block_laws.specs.Variables.{scope_in_control}
 use Rattle.v1_block_laws.proofs.Tests.{first_false, second_false}

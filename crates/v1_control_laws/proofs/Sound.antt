@@ -3,22 +3,22 @@
 use Rattle.std.proofs.Common.{◌≡◌, ℕ, zero, suc, ◌&&◌, not, nat_eq, Bool, true, false, cond, codes, Option, Some, None, is_none, List, [], ◌∷◌, ◌++◌, map, get_or, refl, sym, ◌∙◌, bytes_eq}
 use Rattle.std.specs.List.{list_any}
 use Rattle.std.specs.Option.{option_map_or}
-use Rattle.p416_ast.specs.declared.node.CastType.{CastType}
-use Rattle.p416_ast.specs.declared.node.CastType.TheVariants as cast_to
-use Rattle.p416_ast.specs.declared.node.UnaryOperator.{UnaryOperator}
-use Rattle.p416_ast.specs.declared.node.UnaryOperator.TheVariants.{Not, Complement, Negate}
-use Rattle.p416_ast.specs.declared.node.BinaryOperator.{BinaryOperator}
-use Rattle.p416_ast.specs.declared.node.BinaryOperator.TheVariants.{Multiply, Add, Subtract, SaturatingAdd, SaturatingSubtract, Concatenate, ShiftLeft, ShiftRight, BitAnd, BitXor, BitOr, Less, LessEqual, Greater, GreaterEqual, Equal, NotEqual, And, Or}
-use Rattle.p416_ast.specs.Tree.{Exp16, literal, truth, error, name, member, index, slice, call, lookahead, cast, unary, binary, choice, parenthesized, no_arguments, argument, listed}
-use Rattle.p416_rules.specs.Names.{Name}
-use Rattle.p416_rules.specs.Kinds.{hash_algorithm, counter, direct_counter, register, meter, Kind, bits, unsized, boolean, error_code, header, stack, struct, packet_in, packet_out, errors, enumeration, one_of, table, applied, object, items, nothing, unknown, is_unsized, is_plain, is_stack}
-use Rattle.p416_rules.specs.Scopes.{Handed, Sort, a_type, a_value, an_enumeration, a_function, an_object, an_action, a_table, a_state, a_block, undeclared, Scope, sort_of}
-use Rattle.p416_rules.specs.BuiltIn.{standard}
-use Rattle.p416_rules.specs.Calls.{Place, extern_at, in_pipelines, checksum_places, list_number, index_place, clone_signature, method, counts_by_entry, verify_position, ingress_position, egress_position, compute_position, deparser_position, value, written, any_bits, written_bits, one_bit, bits_or_boolean, written_header, emitted, literal_of, any_literal, item_list, member_place, select_key, table_key, target, owner, written_owner, a_stack, callee, statement, unasked, Signature, parser_position, place_of, function_signature, method_signature}
-use Rattle.p416_rules.specs.Expressions.{kind_of, member_kind, sort_signature, signature_of, argument_count, is_chosen}
-use Rattle.p416_rules.specs.Uses.{Use, an_expression, joint_place, compared_place, chosen_place, unary_place, left_place, right_place, cast_place, owner_by, owner_place, wanted_by, Places, one, many, uses, uses_at, type_uses, of_lookahead, cast_numbers, a_number, arguments_of}
-use Rattle.p416_rules.specs.Unknown.{is_misnamed, is_unknown_member}
-use Rattle.p416_rules.specs.Externs.{is_outside_block, stands_elsewhere, is_parser_part, is_place_word, are_allowed}
+use Rattle.p416_syntax.specs.declared.node.CastType.{CastType}
+use Rattle.p416_syntax.specs.declared.node.CastType.TheVariants as cast_to
+use Rattle.p416_syntax.specs.declared.node.UnaryOperator.{UnaryOperator}
+use Rattle.p416_syntax.specs.declared.node.UnaryOperator.TheVariants.{Not, Complement, Negate}
+use Rattle.p416_syntax.specs.declared.node.BinaryOperator.{BinaryOperator}
+use Rattle.p416_syntax.specs.declared.node.BinaryOperator.TheVariants.{Multiply, Add, Subtract, SaturatingAdd, SaturatingSubtract, Concatenate, ShiftLeft, ShiftRight, BitAnd, BitXor, BitOr, Less, LessEqual, Greater, GreaterEqual, Equal, NotEqual, And, Or}
+use Rattle.p416_syntax.specs.Tree.{Exp16, literal, truth, error, name, member, index, slice, call, lookahead, cast, unary, binary, choice, parenthesized, no_arguments, argument, listed}
+use Rattle.p416_syntax.specs.Names.{Name}
+use Rattle.p416_syntax.specs.Kinds.{hash_algorithm, counter, direct_counter, register, meter, Kind, bits, unsized, boolean, error_code, header, stack, struct, packet_in, packet_out, errors, enumeration, one_of, table, applied, object, items, nothing, unknown, is_unsized, is_plain, is_stack}
+use Rattle.p416_syntax.specs.Scopes.{Handed, Sort, a_type, a_value, an_enumeration, a_function, an_object, an_action, a_table, a_state, a_block, undeclared, Scope, sort_of}
+use Rattle.p416_syntax.specs.BuiltIn.{standard}
+use Rattle.p416_syntax.specs.Calls.{Place, extern_at, in_pipelines, checksum_places, list_number, index_place, clone_signature, method, counts_by_entry, verify_position, ingress_position, egress_position, compute_position, deparser_position, value, written, any_bits, written_bits, one_bit, bits_or_boolean, written_header, emitted, literal_of, any_literal, item_list, member_place, select_key, table_key, target, owner, written_owner, a_stack, callee, statement, unasked, Signature, parser_position, place_of, function_signature, method_signature}
+use Rattle.p416_syntax.specs.Expressions.{kind_of, member_kind, sort_signature, signature_of, argument_count, is_chosen}
+use Rattle.p416_syntax.specs.Uses.{Use, an_expression, joint_place, compared_place, chosen_place, unary_place, left_place, right_place, cast_place, owner_by, owner_place, wanted_by, Places, one, many, uses, uses_at, type_uses, of_lookahead, cast_numbers, a_number, arguments_of}
+use Rattle.p416_syntax.specs.Unknown.{is_misnamed, is_unknown_member}
+use Rattle.p416_syntax.specs.Externs.{is_outside_block, stands_elsewhere, is_parser_part, is_place_word, are_allowed}
 use Rattle.v1_block_laws.proofs.Tests.{first_false, second_false, in_front, at_end}
 use Rattle.v1_control_laws.specs.Erring.{MayTell, MayRead, FreeIn, Free, AllFree, FreeCallee, FreeCall, FreeAt}
 use Rattle.v1_control_laws.proofs.Values.{either}

@@ -1,14 +1,14 @@
 -- In an accepted program the type of standard metadata is that of `v1model.p4`.
 use Rattle.std.proofs.Common.{◌≡◌, inl, inr, ◌||◌, IsTrue, Bool, true, false, cond, List, [], ◌∷◌, ◌++◌, map, flat_map, refl, ap, ◌∙◌, bytes_eq}
 use Rattle.std.specs.List.{list_any}
-use Rattle.p416_ast.specs.declared.program.Decl16.{Decl16}
-use Rattle.p416_ast.specs.declared.program.Decl16.TheVariants as decl
-use Rattle.p416_ast.specs.declared.program.Syntax16.{Syntax16}
-use Rattle.p416_rules.specs.Names.{Name, has_name, repeats}
-use Rattle.p416_rules.specs.BuiltIn.{built_in, standard_name, standard_layout}
-use Rattle.p416_rules.specs.Scopes.{Known, called_of, fields_in}
-use Rattle.p416_rules.specs.Declarations.{bit_field, struct_field, top_name, top_names, layout_in}
-use Rattle.p416_rules.specs.Breaks.{is_no_block, IsBroken, program_rules, BreaksNone}
+use Rattle.p416_syntax.specs.declared.program.Decl16.{Decl16}
+use Rattle.p416_syntax.specs.declared.program.Decl16.TheVariants as decl
+use Rattle.p416_syntax.specs.declared.program.Syntax16.{Syntax16}
+use Rattle.p416_syntax.specs.Names.{Name, has_name, repeats}
+use Rattle.p416_syntax.specs.BuiltIn.{built_in, standard_name, standard_layout}
+use Rattle.p416_syntax.specs.Scopes.{Known, called_of, fields_in}
+use Rattle.p416_syntax.specs.Declarations.{bit_field, struct_field, top_name, top_names, layout_in}
+use Rattle.p416_syntax.specs.Breaks.{is_no_block, IsBroken, program_rules, BreaksNone}
 use Rattle.v1_block_laws.proofs.Tests.{first_false, second_false}
 use Rattle.v1_control_laws.specs.TableLaws.{StandardsOwn}
 use Rattle.v1_control_laws.proofs.Signed.{Mem}

@@ -1,22 +1,22 @@
 -- What statements keep, and the bodies of actions.
 use Rattle.std.proofs.Common.{◌≡◌, ℕ, zero, suc, Bool, cond, Some, refl}
-use Rattle.p416_ast.specs.declared.controls.Action16.{Action16}
-use Rattle.p416_ast.specs.declared.node.CaseLabel.{CaseLabel}
-use Rattle.p416_ast.specs.Tree.{Exp16, Stmt16, no_statements, then, block, empty, var, var_is, assign, expression, if_then, if_else, switch, no_cases, case_of}
-use Rattle.p416_rules.specs.Kinds.{boolean}
-use Rattle.p416_rules.specs.Scopes.{Scope, kind_of_type}
-use Rattle.p416_rules.specs.Names.{Name}
-use Rattle.p416_rules.specs.Calls.{value, statement}
-use Rattle.p416_rules.specs.Expressions.{kind_of}
-use Rattle.p416_rules.specs.Statements.{behind, assigned_place}
-use Rattle.p416_rules.specs.Declarations.{action_scope}
-use Rattle.v1_sem.specs.Values.{is_true, fitted, a_member}
-use Rattle.v1_sem.specs.Frames.{Moment, Reference, ticked, is_stopped, declared, put_at, closed, without}
-use Rattle.v1_sem.specs.Surroundings.{Surroundings, World, no_table_applies, action_named}
-use Rattle.v1_sem.specs.Expressions.{value_of, reference_of}
-use Rattle.v1_sem.specs.Calls.{call_statement}
-use Rattle.v1_sem.specs.Statements.{starts, initialized, assigned, condition, has_label, chosen_label, no_label, run}
-use Rattle.v1_sem.specs.Blocks.{act_at}
+use Rattle.p416_syntax.specs.declared.controls.Action16.{Action16}
+use Rattle.p416_syntax.specs.declared.node.CaseLabel.{CaseLabel}
+use Rattle.p416_syntax.specs.Tree.{Exp16, Stmt16, no_statements, then, block, empty, var, var_is, assign, expression, if_then, if_else, switch, no_cases, case_of}
+use Rattle.p416_syntax.specs.Kinds.{boolean}
+use Rattle.p416_syntax.specs.Scopes.{Scope, kind_of_type}
+use Rattle.p416_syntax.specs.Names.{Name}
+use Rattle.p416_syntax.specs.Calls.{value, statement}
+use Rattle.p416_syntax.specs.Expressions.{kind_of}
+use Rattle.p416_syntax.specs.Statements.{behind, assigned_place}
+use Rattle.p416_syntax.specs.Declarations.{action_scope}
+use Rattle.v1_core.specs.Values.{is_true, fitted, a_member}
+use Rattle.v1_core.specs.Frames.{Moment, Reference, ticked, is_stopped, declared, put_at, closed, without}
+use Rattle.v1_core.specs.Surroundings.{Surroundings, World, no_table_applies, action_named}
+use Rattle.v1_core.specs.Expressions.{value_of, reference_of}
+use Rattle.v1_core.specs.Calls.{call_statement}
+use Rattle.v1_core.specs.Statements.{starts, initialized, assigned, condition, has_label, chosen_label, no_label, run}
+use Rattle.v1_core.specs.Blocks.{act_at}
 use Rattle.v1_statement_laws.specs.Meeting.{StatementMeets}
 use Rattle.v1_control_laws.specs.Erring.{Free, FreeAt, BodiesFree}
 use Rattle.v1_control_laws.proofs.Values.{either, Kept, Keeps, reference_means, value_kept}

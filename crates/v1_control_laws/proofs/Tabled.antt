@@ -1,19 +1,19 @@
 -- The tables of a control apply as those of its ready block, where its actions do the same; so the control runs as that block.
 use Rattle.std.proofs.Common.{◌≡◌, ℕ, suc, ◌+◌, Bool, true, false, cond, Option, Some, None, IfSome, List, [], ◌∷◌, filter_map, get_or, refl, sym, ap, ◌∙◌, subst, arith, bytes_eq}
-use Rattle.p416_ast.specs.declared.controls.Table16.{Table16}
-use Rattle.p416_ast.specs.declared.controls.Control16.{Control16}
-use Rattle.p416_rules.specs.Names.{Name}
-use Rattle.p416_rules.specs.Scopes.{Scope}
-use Rattle.p416_rules.specs.Declarations.{table_in}
-use Rattle.p416_rules.specs.Breaks.{program_rules, BreaksNone}
-use Rattle.v1_sem.specs.declared.block.Block.{Block as BlockName}
-use Rattle.v1_sem.specs.Frames as sem
-use Rattle.v1_sem.specs.Surroundings as meaning
-use Rattle.v1_sem.specs.Surroundings.{Setting, table_called}
-use Rattle.v1_sem.specs.Numbered.{Variable, InScope}
-use Rattle.v1_sem.specs.Tables.{applied}
-use Rattle.v1_sem.specs.Blocks.{act, control_world, around_control, control_at}
-use Rattle.v1_frames.specs.Cells.{Cells}
+use Rattle.p416_syntax.specs.declared.controls.Table16.{Table16}
+use Rattle.p416_syntax.specs.declared.controls.Control16.{Control16}
+use Rattle.p416_syntax.specs.Names.{Name}
+use Rattle.p416_syntax.specs.Scopes.{Scope}
+use Rattle.p416_syntax.specs.Declarations.{table_in}
+use Rattle.p416_syntax.specs.Breaks.{program_rules, BreaksNone}
+use Rattle.v1_core.specs.declared.block.Block.{Block as BlockName}
+use Rattle.v1_core.specs.Frames as sem
+use Rattle.v1_core.specs.Surroundings as meaning
+use Rattle.v1_core.specs.Surroundings.{Setting, table_called}
+use Rattle.v1_core.specs.Numbered.{Variable, InScope}
+use Rattle.v1_core.specs.Tables.{applied}
+use Rattle.v1_core.specs.Blocks.{act, control_world, around_control, control_at}
+use Rattle.v1_core.specs.Cells.{Cells}
 use Rattle.v1_ready_forms.specs.Named.{NamedSeat}
 use Rattle.v1_ready_blocks.specs.Moments.{Moment}
 use Rattle.v1_ready_blocks.specs.Tests.{World}

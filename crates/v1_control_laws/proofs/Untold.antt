@@ -3,22 +3,22 @@
 -- asked for.
 use Rattle.std.proofs.Common.{◌≡◌, ◌⊎◌, inl, inr, ℕ, ◌&&◌, ◌||◌, not, nat_eq, Bool, true, false, cond, codes, Option, Some, None, is_none, List, [], ◌∷◌, ◌++◌, refl, sym, ap, ◌∙◌, bytes_eq}
 use Rattle.std.specs.List.{list_any}
-use Rattle.p416_ast.specs.declared.node.CastType.{CastType}
-use Rattle.p416_ast.specs.declared.node.CastType.TheVariants as cast_to
-use Rattle.p416_ast.specs.declared.node.UnaryOperator.{UnaryOperator}
-use Rattle.p416_ast.specs.declared.node.UnaryOperator.TheVariants.{Not, Complement, Negate}
-use Rattle.p416_ast.specs.declared.node.BinaryOperator.{BinaryOperator}
-use Rattle.p416_ast.specs.declared.node.BinaryOperator.TheVariants.{Multiply, Add, Subtract, SaturatingAdd, SaturatingSubtract, Concatenate, ShiftLeft, ShiftRight, BitAnd, BitXor, BitOr, Less, LessEqual, Greater, GreaterEqual, Equal, NotEqual, And, Or}
-use Rattle.p416_ast.specs.Tree.{Exp16, literal, truth, error, name, member, index, slice, call, lookahead, cast, unary, binary, choice, parenthesized, no_arguments, argument, listed}
-use Rattle.p416_rules.specs.Names.{Name}
-use Rattle.p416_rules.specs.Kinds.{Kind, bits, unsized, boolean, error_code, header, stack, struct, packet_in, packet_out, errors, enumeration, one_of, table, applied, object, items, nothing, unknown, is_unsized, is_plain, is_stack}
-use Rattle.p416_rules.specs.Scopes.{Scope}
-use Rattle.p416_rules.specs.Calls.{Place, value, written, any_bits, written_bits, one_bit, bits_or_boolean, written_header, emitted, literal_of, any_literal, item_list, member_place, select_key, table_key, target, owner, written_owner, a_stack, callee, statement, unasked, Signature, method, parser_position, method_signature}
-use Rattle.p416_rules.specs.Expressions.{kind_of, member_kind, signature_of, is_chosen, call_kind}
-use Rattle.p416_rules.specs.Uses.{Use, an_expression, joint_place, compared_place, chosen_place, unary_place, left_place, right_place, cast_place, owner_by, owner_place, wanted_by, many, uses, uses_at, type_uses, of_lookahead, cast_numbers, a_number}
-use Rattle.p416_rules.specs.Types.{is_literal, is_named_callee, takes_kind, takes, is_mistyped}
-use Rattle.p416_rules.specs.Unknown.{is_misnamed, is_unknown_member}
-use Rattle.p416_rules.specs.Externs.{is_outside_block, is_parser_part, is_place_word, are_allowed}
+use Rattle.p416_syntax.specs.declared.node.CastType.{CastType}
+use Rattle.p416_syntax.specs.declared.node.CastType.TheVariants as cast_to
+use Rattle.p416_syntax.specs.declared.node.UnaryOperator.{UnaryOperator}
+use Rattle.p416_syntax.specs.declared.node.UnaryOperator.TheVariants.{Not, Complement, Negate}
+use Rattle.p416_syntax.specs.declared.node.BinaryOperator.{BinaryOperator}
+use Rattle.p416_syntax.specs.declared.node.BinaryOperator.TheVariants.{Multiply, Add, Subtract, SaturatingAdd, SaturatingSubtract, Concatenate, ShiftLeft, ShiftRight, BitAnd, BitXor, BitOr, Less, LessEqual, Greater, GreaterEqual, Equal, NotEqual, And, Or}
+use Rattle.p416_syntax.specs.Tree.{Exp16, literal, truth, error, name, member, index, slice, call, lookahead, cast, unary, binary, choice, parenthesized, no_arguments, argument, listed}
+use Rattle.p416_syntax.specs.Names.{Name}
+use Rattle.p416_syntax.specs.Kinds.{Kind, bits, unsized, boolean, error_code, header, stack, struct, packet_in, packet_out, errors, enumeration, one_of, table, applied, object, items, nothing, unknown, is_unsized, is_plain, is_stack}
+use Rattle.p416_syntax.specs.Scopes.{Scope}
+use Rattle.p416_syntax.specs.Calls.{Place, value, written, any_bits, written_bits, one_bit, bits_or_boolean, written_header, emitted, literal_of, any_literal, item_list, member_place, select_key, table_key, target, owner, written_owner, a_stack, callee, statement, unasked, Signature, method, parser_position, method_signature}
+use Rattle.p416_syntax.specs.Expressions.{kind_of, member_kind, signature_of, is_chosen, call_kind}
+use Rattle.p416_syntax.specs.Uses.{Use, an_expression, joint_place, compared_place, chosen_place, unary_place, left_place, right_place, cast_place, owner_by, owner_place, wanted_by, many, uses, uses_at, type_uses, of_lookahead, cast_numbers, a_number}
+use Rattle.p416_syntax.specs.Types.{is_literal, is_named_callee, takes_kind, takes, is_mistyped}
+use Rattle.p416_syntax.specs.Unknown.{is_misnamed, is_unknown_member}
+use Rattle.p416_syntax.specs.Externs.{is_outside_block, is_parser_part, is_place_word, are_allowed}
 use Rattle.v1_block_laws.proofs.Tests.{first_false, second_false, not_false, in_front, at_end}
 use Rattle.v1_call_laws.specs.Telling.{IsTold, ToldNone}
 use Rattle.v1_control_laws.proofs.Values.{either}

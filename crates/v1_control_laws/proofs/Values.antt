@@ -1,26 +1,26 @@
 -- What evaluating expressions and arguments keeps, where applying tables keeps it.
 use Rattle.std.proofs.Common.{◌≡◌, ℕ, zero, suc, Bool, true, false, cond, Option, Some, List, [], ◌∷◌, length, take}
 use Rattle.p4x_bits.specs.BitLists.{num, octet_bits}
-use Rattle.p416_ast.specs.declared.controls.Action16.{Action16}
-use Rattle.p416_ast.specs.declared.node.BinaryOperator.TheVariants.{Multiply, Add, Subtract, SaturatingAdd, SaturatingSubtract, Concatenate, ShiftLeft, ShiftRight, BitAnd, BitXor, BitOr, Less, LessEqual, Greater, GreaterEqual, Equal, NotEqual, And, Or}
-use Rattle.p416_ast.specs.Tree.{Exp16, literal, truth, error, name, member, index, slice, call, lookahead, cast, unary, binary, choice, parenthesized, no_arguments, argument, listed}
-use Rattle.p416_rules.specs.Names.{Name}
-use Rattle.p416_rules.specs.Kinds.{Kind, bits, unsized, boolean, error_code, header, stack, struct, packet_in, packet_out, errors, enumeration, one_of, table, applied, object, items, nothing, unknown}
-use Rattle.p416_rules.specs.Scopes.{Scope, kind_of_type}
-use Rattle.p416_rules.specs.Calls.{Place, value, any_bits, owner, a_stack}
-use Rattle.p416_rules.specs.Expressions.{kind_of}
-use Rattle.p416_rules.specs.Uses.{unary_place, left_place, right_place, cast_place, chosen_place}
-use Rattle.p416_rules.specs.Writes.{is_written_place}
+use Rattle.p416_syntax.specs.declared.controls.Action16.{Action16}
+use Rattle.p416_syntax.specs.declared.node.BinaryOperator.TheVariants.{Multiply, Add, Subtract, SaturatingAdd, SaturatingSubtract, Concatenate, ShiftLeft, ShiftRight, BitAnd, BitXor, BitOr, Less, LessEqual, Greater, GreaterEqual, Equal, NotEqual, And, Or}
+use Rattle.p416_syntax.specs.Tree.{Exp16, literal, truth, error, name, member, index, slice, call, lookahead, cast, unary, binary, choice, parenthesized, no_arguments, argument, listed}
+use Rattle.p416_syntax.specs.Names.{Name}
+use Rattle.p416_syntax.specs.Kinds.{Kind, bits, unsized, boolean, error_code, header, stack, struct, packet_in, packet_out, errors, enumeration, one_of, table, applied, object, items, nothing, unknown}
+use Rattle.p416_syntax.specs.Scopes.{Scope, kind_of_type}
+use Rattle.p416_syntax.specs.Calls.{Place, value, any_bits, owner, a_stack}
+use Rattle.p416_syntax.specs.Expressions.{kind_of}
+use Rattle.p416_syntax.specs.Uses.{unary_place, left_place, right_place, cast_place, chosen_place}
+use Rattle.p416_syntax.specs.Writes.{is_written_place}
 use Rattle.fabric.specs.declared.items.RequestKind.{RequestKind}
-use Rattle.v1_sem.specs.declared.parser_error.ParserError.{ParserError}
-use Rattle.v1_sem.specs.declared.parser_error.ParserError.TheVariants.{PacketTooShort, StackOutOfBounds}
-use Rattle.v1_sem.specs.Values.{Value, a_number, is_true, place_in, elements_in, Step, to_element, to_member, Slice}
-use Rattle.v1_sem.specs.Frames.{Frame, Request, Moment, raised, Reference, nowhere, stepped, sliced_to, read, put_at, with_inner, with_frame, with_request, with_standard}
-use Rattle.v1_sem.specs.Surroundings.{Surroundings, World, named, action_named}
-use Rattle.v1_sem.specs.Expressions.{Valued, valued, element_by, is_beyond, bounded, member_value, method_value, has_bits, lookahead_bits, lookahead_value, slice_of, value_of, Referred, member_reference, reference_of}
-use Rattle.v1_sem.specs.Externs.Packets.{emit}
+use Rattle.v1_core.specs.declared.parser_error.ParserError.{ParserError}
+use Rattle.v1_core.specs.declared.parser_error.ParserError.TheVariants.{PacketTooShort, StackOutOfBounds}
+use Rattle.v1_core.specs.Values.{Value, a_number, is_true, place_in, elements_in, Step, to_element, to_member, Slice}
+use Rattle.v1_core.specs.Frames.{Frame, Request, Moment, raised, Reference, nowhere, stepped, sliced_to, read, put_at, with_inner, with_frame, with_request, with_standard}
+use Rattle.v1_core.specs.Surroundings.{Surroundings, World, named, action_named}
+use Rattle.v1_core.specs.Expressions.{Valued, valued, element_by, is_beyond, bounded, member_value, method_value, has_bits, lookahead_bits, lookahead_value, slice_of, value_of, Referred, member_reference, reference_of}
+use Rattle.v1_core.specs.Externs.Packets.{emit}
 use Rattle.v1_control_laws.specs.Erring.{MayTell, FreeIn, Free, AllFree}
-use Rattle.v1_sem.specs.Calls.{items_of, by_value, by_reference, Given, argument_at, arguments_from, target_at}
+use Rattle.v1_core.specs.Calls.{items_of, by_value, by_reference, Given, argument_at, arguments_from, target_at}
 
 pub either : {A : Type 0} (P : A → Type 0) (b : Bool) (x y : A) → P x → P y → P (cond b x y)
 either P true x y h k = h

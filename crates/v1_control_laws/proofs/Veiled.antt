@@ -1,20 +1,20 @@
 -- Variables of the block that are called as its first parameter: no name means them, so that nothing changes them.
 use Rattle.std.proofs.Common.{◌≡◌, ◌⊎◌, inl, inr, ℕ, ◌<◌, ◌≤◌, ◌≢◌, Bool, true, false, cond, Option, Some, List, [], ◌∷◌, ◌++◌, map, get_or, refl, sym, ap, ◌∙◌, subst, arith, bytes_eq, append_assoc}
 use Rattle.std.proofs.lemmas.Slice.Eq.{bytes_eq-Decides}
-use Rattle.p416_ast.specs.declared.program.Syntax16.{Syntax16}
-use Rattle.p416_rules.specs.Names.{Name}
-use Rattle.p416_rules.specs.Scopes.{Scope, sort_of}
+use Rattle.p416_syntax.specs.declared.program.Syntax16.{Syntax16}
+use Rattle.p416_syntax.specs.Names.{Name}
+use Rattle.p416_syntax.specs.Scopes.{Scope, sort_of}
 use Rattle.fabric.specs.declared.items.RequestKind.{RequestKind}
 use Rattle.fabric.specs.declared.items.RequestKind.TheVariants.{CloneI2E, CloneE2E, Resubmit, Recirculate}
-use Rattle.v1_sem.specs.declared.block.Block.{Block}
-use Rattle.v1_sem.specs.declared.block.Block.TheVariants.{Verify, Ingress, Egress, Compute, Deparse}
-use Rattle.v1_sem.specs.Values.{Value, a_number, a_truth, an_error, a_header, a_stack, no_members, a_member, a_symbol, some_bits, no_value, has_member, Step, to_member, to_element, part_of, with_member, with_part, with_part_at}
-use Rattle.v1_sem.specs.Frames.{Frame, Request, Moment, is_stopped, Owner, of_headers, of_metadata, of_standard, of_variables, of_inner, of_nothing, Reference, whole, stepped, owned, with_owned, place_value, around_slice, with_request}
-use Rattle.v1_sem.specs.Surroundings.{Root, rooted, Surroundings, by_root}
-use Rattle.v1_sem.specs.Numbered.{Variable, named_values}
-use Rattle.v1_sem.specs.Blocks.{owners_of}
-use Rattle.v1_frame_values.specs.Seats.{Seat}
-use Rattle.v1_frame_values.specs.Scopes.{AreAway, AreApart}
+use Rattle.v1_core.specs.declared.block.Block.{Block}
+use Rattle.v1_core.specs.declared.block.Block.TheVariants.{Verify, Ingress, Egress, Compute, Deparse}
+use Rattle.v1_core.specs.Values.{Value, a_number, a_truth, an_error, a_header, a_stack, no_members, a_member, a_symbol, some_bits, no_value, has_member, Step, to_member, to_element, part_of, with_member, with_part, with_part_at}
+use Rattle.v1_core.specs.Frames.{Frame, Request, Moment, is_stopped, Owner, of_headers, of_metadata, of_standard, of_variables, of_inner, of_nothing, Reference, whole, stepped, owned, with_owned, place_value, around_slice, with_request}
+use Rattle.v1_core.specs.Surroundings.{Root, rooted, Surroundings, by_root}
+use Rattle.v1_core.specs.Numbered.{Variable, named_values}
+use Rattle.v1_core.specs.Blocks.{owners_of}
+use Rattle.v1_core.specs.Seats.{Seat}
+use Rattle.v1_core.specs.Scopes.{AreAway, AreApart}
 use Rattle.v1_ready_forms.specs.Named.{NamedSeat, seat_of_name, seat_of_root, seat_of_variable, seats_in}
 use Rattle.v1_ready_laws.specs.Rules.{SortSeated, NamesSeated}
 use Rattle.v1_block_laws.specs.Apart.{AreBetween, AreOutside}

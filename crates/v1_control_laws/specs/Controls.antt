@@ -3,35 +3,35 @@
 use Rattle.std.specs.Prelude.{◌≡◌, ℕ, suc, ◌+◌, ◌==◌, Bool, true, List, [], ◌∷◌, length, IfSome, Option, Some, None}
 use Rattle.std.specs.List.{list_any}
 use Rattle.digraph.specs.Graphs.{successors}
-use Rattle.p416_ast.specs.declared.parts.Type16.{Type16}
-use Rattle.p416_ast.specs.declared.controls.Local.{Local}
-use Rattle.p416_ast.specs.declared.controls.Local.TheVariants as local
-use Rattle.p416_ast.specs.declared.controls.Control16.{Control16}
-use Rattle.p416_ast.specs.declared.program.Syntax16.{Syntax16}
-use Rattle.p416_ast.specs.Tree.{Exp16, call}
-use Rattle.p416_rules.specs.Names.{Name}
-use Rattle.p416_rules.specs.Scopes.{Scope, kind_of_type}
-use Rattle.p416_rules.specs.Calls.{Place, callee}
-use Rattle.p416_rules.specs.Uses.{Use}
-use Rattle.p416_rules.specs.Declarations.{action_scope}
-use Rattle.p416_rules.specs.Unknown.{is_misnamed}
-use Rattle.p416_rules.specs.Sizes.{leaves_size}
-use Rattle.p416_rules.specs.Types.{is_mistyped}
-use Rattle.p416_rules.specs.Literals.{overflows}
-use Rattle.p416_rules.specs.Writes.{writes_constant}
-use Rattle.p416_rules.specs.Arguments.{is_miscounted}
-use Rattle.p416_rules.specs.Applications.{applies_nothing, applies_wrongly, called_name}
-use Rattle.p416_rules.specs.Tables.{is_bad_in_table}
-use Rattle.p416_rules.specs.Externs.{is_outside_block}
-use Rattle.p416_rules.specs.Totals.{is_too_deep}
-use Rattle.v1_sem.specs.declared.block.Block.{Block}
-use Rattle.v1_sem.specs.Frames as sem
-use Rattle.v1_sem.specs.Slots.{local_kinds, kinds_in}
-use Rattle.v1_sem.specs.Surroundings as meaning
-use Rattle.v1_sem.specs.Surroundings.{Setting}
-use Rattle.v1_sem.specs.Numbered.{Variable, InScope}
-use Rattle.v1_sem.specs.Blocks.{around_control, control_world, with_initial}
-use Rattle.v1_frames.specs.Cells.{Cells}
+use Rattle.p416_syntax.specs.declared.parts.Type16.{Type16}
+use Rattle.p416_syntax.specs.declared.controls.Local.{Local}
+use Rattle.p416_syntax.specs.declared.controls.Local.TheVariants as local
+use Rattle.p416_syntax.specs.declared.controls.Control16.{Control16}
+use Rattle.p416_syntax.specs.declared.program.Syntax16.{Syntax16}
+use Rattle.p416_syntax.specs.Tree.{Exp16, call}
+use Rattle.p416_syntax.specs.Names.{Name}
+use Rattle.p416_syntax.specs.Scopes.{Scope, kind_of_type}
+use Rattle.p416_syntax.specs.Calls.{Place, callee}
+use Rattle.p416_syntax.specs.Uses.{Use}
+use Rattle.p416_syntax.specs.Declarations.{action_scope}
+use Rattle.p416_syntax.specs.Unknown.{is_misnamed}
+use Rattle.p416_syntax.specs.Sizes.{leaves_size}
+use Rattle.p416_syntax.specs.Types.{is_mistyped}
+use Rattle.p416_syntax.specs.Literals.{overflows}
+use Rattle.p416_syntax.specs.Writes.{writes_constant}
+use Rattle.p416_syntax.specs.Arguments.{is_miscounted}
+use Rattle.p416_syntax.specs.Applications.{applies_nothing, applies_wrongly, called_name}
+use Rattle.p416_syntax.specs.Tables.{is_bad_in_table}
+use Rattle.p416_syntax.specs.Externs.{is_outside_block}
+use Rattle.p416_syntax.specs.Totals.{is_too_deep}
+use Rattle.v1_core.specs.declared.block.Block.{Block}
+use Rattle.v1_core.specs.Frames as sem
+use Rattle.v1_core.specs.Slots.{local_kinds, kinds_in}
+use Rattle.v1_core.specs.Surroundings as meaning
+use Rattle.v1_core.specs.Surroundings.{Setting}
+use Rattle.v1_core.specs.Numbered.{Variable, InScope}
+use Rattle.v1_core.specs.Blocks.{around_control, control_world, with_initial}
+use Rattle.v1_core.specs.Cells.{Cells}
 use Rattle.v1_ready_blocks.specs.Moments.{Moment}
 use Rattle.v1_ready_blocks.specs.Tests.{World}
 use Rattle.v1_ready_blocks.specs.Statements.{run}

@@ -2,15 +2,15 @@
 -- `packet_out.emit`).
 use Rattle.std.specs.Prelude.{◌≡◌, Option, Some, None}
 use Rattle.p4x_bits.specs.BitLists.{IsOctets}
-use Rattle.p416_ast.specs.declared.controls.Control16.{Control16}
-use Rattle.p416_rules.specs.Breaks.{BreaksNone, program_rules}
-use Rattle.v1_sem.specs.declared.block.Block.{Block}
-use Rattle.v1_sem.specs.Frames.{Moment}
-use Rattle.v1_sem.specs.Surroundings.{Setting}
-use Rattle.v1_sem.specs.Numbered.{nobody}
-use Rattle.v1_sem.specs.Blocks.{around_control, control_world, control_at, control16}
-use Rattle.v1_frames.specs.Cells.{Cells}
-use Rattle.v1_frame_values.specs.Frames.{IsFrameOf}
+use Rattle.p416_syntax.specs.declared.controls.Control16.{Control16}
+use Rattle.p416_syntax.specs.Breaks.{BreaksNone, program_rules}
+use Rattle.v1_core.specs.declared.block.Block.{Block}
+use Rattle.v1_core.specs.Frames.{Moment}
+use Rattle.v1_core.specs.Surroundings.{Setting}
+use Rattle.v1_core.specs.Numbered.{nobody}
+use Rattle.v1_core.specs.Blocks.{around_control, control_world, control_at, control16}
+use Rattle.v1_core.specs.Cells.{Cells}
+use Rattle.v1_core.specs.PackedFrames.{IsFrameOf}
 use Rattle.v1_ready_blocks.specs.Moments as blocks
 use Rattle.v1_ready_blocks.specs.Tables.{Fill}
 use Rattle.v1_ready_blocks.specs.Blocks as blocks_of

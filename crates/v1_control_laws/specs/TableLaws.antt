@@ -4,32 +4,32 @@ use Rattle.std.specs.Prelude.{◌≡◌, ℕ, false, List, [], ◌∷◌, ◌++�
 use Rattle.std.specs.List.{list_any}
 use Rattle.match_core.specs.Fits.{Fits}
 use Rattle.match_core.specs.Tables.{tables_of}
-use Rattle.p416_ast.specs.declared.controls.Action16.{Action16}
-use Rattle.p416_ast.specs.declared.controls.Control16.{Control16}
-use Rattle.p416_ast.specs.declared.program.Decl16.{Decl16}
-use Rattle.p416_ast.specs.declared.program.Syntax16.{Syntax16}
-use Rattle.p416_ast.specs.declared.controls.Table16.{Table16}
-use Rattle.p416_ast.specs.Tree.{Exp16, Stmt16}
-use Rattle.p416_rules.specs.Names.{Name}
-use Rattle.p416_rules.specs.Scopes.{Handed, an_action, Known, Scope, sort_of}
-use Rattle.p416_rules.specs.Calls.{Place, parser_position}
-use Rattle.p416_rules.specs.Uses.{some_action, uses}
-use Rattle.p416_rules.specs.Unknown.{is_wanted, is_misnamed}
-use Rattle.p416_rules.specs.Types.{is_mistyped}
-use Rattle.p416_rules.specs.Externs.{is_parser_part, are_allowed, is_outside_block}
-use Rattle.p416_rules.specs.Statements.{behind}
-use Rattle.p416_rules.specs.Declarations.{layouts_of, top_scope, control_scope, action_scope}
-use Rattle.p416_rules.specs.Breaks.{BreaksNone, program_rules}
-use Rattle.v1_sem.specs.declared.block.Block.{Block}
-use Rattle.v1_sem.specs.Frames as sem
-use Rattle.v1_sem.specs.Signatures.{signature16}
-use Rattle.v1_sem.specs.Surroundings as meaning
-use Rattle.v1_sem.specs.Surroundings.{Setting, table_named}
-use Rattle.v1_sem.specs.Blocks.{around_control, control_world, control_at, control16}
-use Rattle.v1_sem.specs.Tables.{applied}
-use Rattle.v1_sem.specs.Numbered.{Variable, InScope, nobody}
-use Rattle.v1_frames.specs.Cells.{Cells}
-use Rattle.v1_frame_values.specs.Frames.{IsFrameOf}
+use Rattle.p416_syntax.specs.declared.controls.Action16.{Action16}
+use Rattle.p416_syntax.specs.declared.controls.Control16.{Control16}
+use Rattle.p416_syntax.specs.declared.program.Decl16.{Decl16}
+use Rattle.p416_syntax.specs.declared.program.Syntax16.{Syntax16}
+use Rattle.p416_syntax.specs.declared.controls.Table16.{Table16}
+use Rattle.p416_syntax.specs.Tree.{Exp16, Stmt16}
+use Rattle.p416_syntax.specs.Names.{Name}
+use Rattle.p416_syntax.specs.Scopes.{Handed, an_action, Known, Scope, sort_of}
+use Rattle.p416_syntax.specs.Calls.{Place, parser_position}
+use Rattle.p416_syntax.specs.Uses.{some_action, uses}
+use Rattle.p416_syntax.specs.Unknown.{is_wanted, is_misnamed}
+use Rattle.p416_syntax.specs.Types.{is_mistyped}
+use Rattle.p416_syntax.specs.Externs.{is_parser_part, are_allowed, is_outside_block}
+use Rattle.p416_syntax.specs.Statements.{behind}
+use Rattle.p416_syntax.specs.Declarations.{layouts_of, top_scope, control_scope, action_scope}
+use Rattle.p416_syntax.specs.Breaks.{BreaksNone, program_rules}
+use Rattle.v1_core.specs.declared.block.Block.{Block}
+use Rattle.v1_core.specs.Frames as sem
+use Rattle.v1_core.specs.Signatures.{signature16}
+use Rattle.v1_core.specs.Surroundings as meaning
+use Rattle.v1_core.specs.Surroundings.{Setting, table_named}
+use Rattle.v1_core.specs.Blocks.{around_control, control_world, control_at, control16}
+use Rattle.v1_core.specs.Tables.{applied}
+use Rattle.v1_core.specs.Numbered.{Variable, InScope, nobody}
+use Rattle.v1_core.specs.Cells.{Cells}
+use Rattle.v1_core.specs.PackedFrames.{IsFrameOf}
 use Rattle.v1_ready_forms.specs.Named.{seats_in}
 use Rattle.v1_ready_laws.specs.Rules.{NamesSeated}
 use Rattle.v1_ready_blocks.specs.Moments.{Moment}

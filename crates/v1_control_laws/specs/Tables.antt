@@ -2,24 +2,24 @@
 use Rattle.std.specs.Prelude.{◌≡◌, ℕ, ◌<◌, List, [], ◌∷◌, length, map, filter_map, Some, option_and_then}
 use Rattle.match_core.specs.Fits.{FitsFill, action_at}
 use Rattle.match_core.specs.Tables.{filled_of}
-use Rattle.p416_ast.specs.declared.controls.Action16.{Action16}
-use Rattle.p416_ast.specs.declared.controls.TableKey.{TableKey}
-use Rattle.p416_ast.specs.declared.controls.Table16.{Table16}
-use Rattle.p416_ast.specs.declared.controls.Control16.{Control16}
-use Rattle.p416_ast.specs.declared.parts.Param.{Param}
-use Rattle.p416_ast.specs.Properties.{keys_of, default_action_of}
-use Rattle.p416_rules.specs.Names.{Name}
-use Rattle.p416_rules.specs.Kinds.{bits}
-use Rattle.p416_rules.specs.Scopes.{Scope}
-use Rattle.p416_rules.specs.Declarations.{action_in}
-use Rattle.v1_sem.specs.Slots.{parameter_kind}
-use Rattle.v1_sem.specs.Signatures.{key_scope, planes_of, table_sig}
-use Rattle.v1_sem.specs.declared.block.Block.{Block}
-use Rattle.v1_sem.specs.Surroundings as meaning
-use Rattle.v1_sem.specs.Surroundings.{Setting}
-use Rattle.v1_sem.specs.Tables as meaning_tables
-use Rattle.v1_sem.specs.Tables.{name_of_number, own_default, fill_of}
-use Rattle.v1_sem.specs.Blocks.{around_control}
+use Rattle.p416_syntax.specs.declared.controls.Action16.{Action16}
+use Rattle.p416_syntax.specs.declared.controls.TableKey.{TableKey}
+use Rattle.p416_syntax.specs.declared.controls.Table16.{Table16}
+use Rattle.p416_syntax.specs.declared.controls.Control16.{Control16}
+use Rattle.p416_syntax.specs.declared.parts.Param.{Param}
+use Rattle.p416_syntax.specs.Properties.{keys_of, default_action_of}
+use Rattle.p416_syntax.specs.Names.{Name}
+use Rattle.p416_syntax.specs.Kinds.{bits}
+use Rattle.p416_syntax.specs.Scopes.{Scope}
+use Rattle.p416_syntax.specs.Declarations.{action_in}
+use Rattle.v1_core.specs.Slots.{parameter_kind}
+use Rattle.v1_core.specs.Signatures.{key_scope, planes_of, table_sig}
+use Rattle.v1_core.specs.declared.block.Block.{Block}
+use Rattle.v1_core.specs.Surroundings as meaning
+use Rattle.v1_core.specs.Surroundings.{Setting}
+use Rattle.v1_core.specs.Tables as meaning_tables
+use Rattle.v1_core.specs.Tables.{name_of_number, own_default, fill_of}
+use Rattle.v1_core.specs.Blocks.{around_control}
 use Rattle.v1_ready_blocks.specs.Tables as ready
 use Rattle.v1_ready_statements.specs.Around.{ActionPlace, Around, Found, action_found}
 use Rattle.v1_ready_statements.specs.Blocks as ready_blocks

@@ -3,14 +3,14 @@ use Rattle.std.proofs.Common.{◌≡◌, ℕ, List, [], ◌∷◌, length, Optio
 use Rattle.p4x_bits.specs.BitLists.{octet_bits, IsOctets}
 use Rattle.p4x_bits.proofs.BitLists.{length-octet_bits, same_octets}
 use Rattle.state_store.specs.State.{Contents}
-use Rattle.p416_ast.specs.declared.program.Syntax16.{Syntax16}
-use Rattle.v1_sem.specs.declared.parser_error.ParserError.{ParserError}
-use Rattle.v1_sem.specs.Frames.{Frame, Hit, Moment}
-use Rattle.v1_sem.specs.Numbered.{nobody}
-use Rattle.v1_frames.specs.Cells.{Cells}
-use Rattle.v1_frame_values.specs.Frames.{IsFrameOf}
-use Rattle.v1_ready_externs.specs.declared.run.Run.{Run}
-use Rattle.v1_ready_externs.specs.Seen.{moment, seen_hit}
+use Rattle.p416_syntax.specs.declared.program.Syntax16.{Syntax16}
+use Rattle.v1_core.specs.declared.parser_error.ParserError.{ParserError}
+use Rattle.v1_core.specs.Frames.{Frame, Hit, Moment}
+use Rattle.v1_core.specs.Numbered.{nobody}
+use Rattle.v1_core.specs.Cells.{Cells}
+use Rattle.v1_core.specs.PackedFrames.{IsFrameOf}
+use Rattle.v1_statement_run.specs.declared.run.Run.{Run}
+use Rattle.v1_statement_run.specs.Seen.{moment, seen_hit}
 use Rattle.v1_packets.specs.Packets.{packet_frame}
 use Rattle.v1_passes.specs.Moments.{moment_at}
 use Rattle.v1_parser_laws.specs.Shown.{Shows}

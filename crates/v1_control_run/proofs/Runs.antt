@@ -2,24 +2,24 @@
 use Rattle.std.proofs.Common.{◌≡◌, ℕ, List, [], Bool, true, false, drop, refl, sym, ap, subst, ◌∙◌, arith}
 use Rattle.p4x_bits.specs.BitLists.{octet_bits, IsOctets}
 use Rattle.state_store.specs.State.{Contents}
-use Rattle.v1_sem.specs.declared.block.Block.{Block}
-use Rattle.v1_sem.specs.declared.block.Block.TheVariants.{Verify, Ingress, Egress, Compute, Deparse}
-use Rattle.v1_sem.specs.declared.parser_error.ParserError.{ParserError}
-use Rattle.v1_sem.specs.Frames as sem
-use Rattle.v1_sem.specs.Surroundings.{Setting}
-use Rattle.v1_sem.specs.Numbered.{nobody}
-use Rattle.v1_sem.specs.Parsing.{Parsed, parse16}
-use Rattle.v1_sem.specs.Blocks.{control16}
-use Rattle.v1_frames.specs.Cells.{AreWhole, Cells}
-use Rattle.v1_frame_values.specs.Programs.{layout16}
-use Rattle.v1_frame_values.specs.Frames.{IsFrameOf}
+use Rattle.v1_core.specs.declared.block.Block.{Block}
+use Rattle.v1_core.specs.declared.block.Block.TheVariants.{Verify, Ingress, Egress, Compute, Deparse}
+use Rattle.v1_core.specs.declared.parser_error.ParserError.{ParserError}
+use Rattle.v1_core.specs.Frames as sem
+use Rattle.v1_core.specs.Surroundings.{Setting}
+use Rattle.v1_core.specs.Numbered.{nobody}
+use Rattle.v1_core.specs.Parsing.{Parsed, parse16}
+use Rattle.v1_core.specs.Blocks.{control16}
+use Rattle.v1_core.specs.Cells.{AreWhole, Cells}
+use Rattle.v1_core.specs.Programs.{layout16}
+use Rattle.v1_core.specs.PackedFrames.{IsFrameOf}
 use Rattle.v1_ready_blocks.specs.Moments.{Moment}
 use Rattle.v1_ready_blocks.specs.Nodes.{Ground}
 use Rattle.v1_ready_blocks.specs.Tables.{Fill}
 use Rattle.v1_ready_blocks.specs.Blocks.{ready_run}
-use Rattle.v1_ready_externs.specs.declared.run.Run.{Run}
-use Rattle.v1_ready_externs.specs.Seen.{moment}
-use Rattle.v1_ready_steps.specs.Steps.{Comes, IsOver, ground_of}
+use Rattle.v1_statement_run.specs.declared.run.Run.{Run}
+use Rattle.v1_statement_run.specs.Seen.{moment}
+use Rattle.v1_statement_run.specs.Steps.{Comes, IsOver, ground_of}
 use Rattle.v1_ready_states.specs.States.{ready_parse}
 use Rattle.v1_parse_run.specs.Made.{made_parser}
 use Rattle.v1_parse_run.specs.declared.machine.ParserMachine.{ParserMachine}

@@ -2,19 +2,19 @@
 use Rattle.std.proofs.Common.{◌≡◌, ℕ, List, [], None, Result, OnOk, ap, sym, subst, ◌∙◌}
 use Rattle.p4x_bits.specs.BitLists.{octet_bits}
 use Rattle.state_store.specs.State.{Contents}
-use Rattle.v1_sem.specs.declared.block.Block.{Block}
-use Rattle.v1_sem.specs.Frames as sem
-use Rattle.v1_sem.specs.Surroundings.{Setting}
-use Rattle.v1_sem.specs.Parsing.{Parsed, parse16}
-use Rattle.v1_sem.specs.Blocks.{control16}
-use Rattle.v1_frames.specs.Cells.{Cells}
+use Rattle.v1_core.specs.declared.block.Block.{Block}
+use Rattle.v1_core.specs.Frames as sem
+use Rattle.v1_core.specs.Surroundings.{Setting}
+use Rattle.v1_core.specs.Parsing.{Parsed, parse16}
+use Rattle.v1_core.specs.Blocks.{control16}
+use Rattle.v1_core.specs.Cells.{Cells}
 use Rattle.v1_ready_blocks.specs.Moments.{Moment}
 use Rattle.v1_ready_blocks.specs.Nodes.{statement_at}
 use Rattle.v1_ready_blocks.specs.Statements.{Statement, nothing, run}
 use Rattle.v1_ready_blocks.specs.Tables.{Fill}
 use Rattle.v1_ready_blocks.specs.Blocks.{ready_run, world_of}
-use Rattle.v1_ready_externs.specs.declared.run.Run.{Run}
-use Rattle.v1_ready_steps.specs.Steps.{Comes, ground_of, trees_of}
+use Rattle.v1_statement_run.specs.declared.run.Run.{Run}
+use Rattle.v1_statement_run.specs.Steps.{Comes, ground_of, trees_of}
 use Rattle.v1_block_run.specs.declared.block.ReadyBlock.{ReadyBlock}
 use Rattle.v1_block_run.specs.Blocks.{seen_block}
 use Rattle.v1_block_tables.specs.declared.parts.FilledBlock.{FilledBlock}

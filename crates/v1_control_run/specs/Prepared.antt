@@ -4,21 +4,21 @@ use Rattle.std.specs.Prelude.{◌≡◌, ℕ, List, None}
 use Rattle.p4x_bits.specs.BitLists.{IsOctets}
 use Rattle.state_store.specs.declared.shapes.Shape.{Shape}
 use Rattle.match_core.specs.Stores.{shapes_of}
-use Rattle.v1_sem.specs.declared.block.Block.{Block}
-use Rattle.v1_sem.specs.declared.block.Block.TheVariants.{Verify, Ingress, Egress, Compute, Deparse}
-use Rattle.v1_sem.specs.Frames as sem
-use Rattle.v1_sem.specs.Surroundings.{Setting}
-use Rattle.v1_sem.specs.Numbered.{nobody}
-use Rattle.v1_sem.specs.Signatures.{signature16}
-use Rattle.v1_sem.specs.Parsing.{parse16}
-use Rattle.v1_sem.specs.Blocks.{control16}
-use Rattle.v1_frame_values.specs.Programs.{layout16}
-use Rattle.v1_frame_values.specs.Frames.{IsFrameOf}
+use Rattle.v1_core.specs.declared.block.Block.{Block}
+use Rattle.v1_core.specs.declared.block.Block.TheVariants.{Verify, Ingress, Egress, Compute, Deparse}
+use Rattle.v1_core.specs.Frames as sem
+use Rattle.v1_core.specs.Surroundings.{Setting}
+use Rattle.v1_core.specs.Numbered.{nobody}
+use Rattle.v1_core.specs.Signatures.{signature16}
+use Rattle.v1_core.specs.Parsing.{parse16}
+use Rattle.v1_core.specs.Blocks.{control16}
+use Rattle.v1_core.specs.Programs.{layout16}
+use Rattle.v1_core.specs.PackedFrames.{IsFrameOf}
 use Rattle.v1_ready_blocks.specs.Moments.{Moment}
 use Rattle.v1_ready_blocks.specs.Nodes.{Ground}
 use Rattle.v1_ready_blocks.specs.Tables.{Fill}
 use Rattle.v1_ready_blocks.specs.Blocks.{ready_run}
-use Rattle.v1_ready_steps.specs.Steps.{expressions_in, ground_of, trees_of}
+use Rattle.v1_statement_run.specs.Steps.{expressions_in, ground_of, trees_of}
 use Rattle.v1_ready_states.specs.declared.states.ReadyParser.{ReadyParser}
 use Rattle.v1_ready_states.specs.States.{ready_parse}
 use Rattle.v1_ready_states.specs.Rows.{parser_of}

@@ -5,9 +5,9 @@ use Rattle.state_store.specs.contracts.state.Store as objects
 use Rattle.state_store.specs.State.{Contents}
 use Rattle.match_core.specs.contracts.entries.Entries as fills
 use Rattle.match_core.specs.declared.entries.Entries.{Entries}
-use Rattle.p416_ast.specs.contracts.program.Syntax16 as declaration
-use Rattle.p416_ast.specs.declared.program.Syntax16.{Syntax16}
-use Rattle.v1_sem.specs.Surroundings.{Setting}
+use Rattle.p416_syntax.specs.contracts.program.Syntax16 as declaration
+use Rattle.p416_syntax.specs.declared.program.Syntax16.{Syntax16}
+use Rattle.v1_core.specs.Surroundings.{Setting}
 
 -- the program with what stands in its tables; and its counters, registers and meters as the packets so far left them
 pub record Running : Type 0 where

@@ -10,17 +10,15 @@ use p4x_bits::{Octets, OutOfMemory};
 use state_store::Store;
 use std::alloc::Global;
 use std::marker::Model;
-use v1_frames::Frame;
+use v1_core::{Block, Frame};
 use v1_packets::Packets;
 use v1_parse_run::ParserMachine;
 use v1_passes::{Blocks, ParseEnd};
-use v1_sem::Block;
 
 /// What runs the parser and the five controls of a prepared program on one packet after another (P4_16 1.2, "Packet parsing",
 /// "Control blocks"; `v1model.p4`): `parse` is `parse16` and `control` is `control16` of the definitions. Its room stays from
 /// packet to packet; memory is taken where it grows, for notes of applications of tables, and for octets that are emitted.
 /// Contracts see the program with its entries, and the counters, registers and meters.
-#[derive(Drop)]
 pub struct PreparedBlocks<'r> {
     program: Prepared<'r>,
     counted: Store,
@@ -28,6 +26,18 @@ pub struct PreparedBlocks<'r> {
     spare: ParserMachine<'r>,
     // Not after want of memory in a block.
     usable: bool,
+}
+
+impl Drop for PreparedBlocks<'_> {
+    fn drop(self) {
+        let PreparedBlocks {
+            program: _program,
+            counted: _counted,
+            runners: _runners,
+            spare: _spare,
+            usable: _usable,
+        } = self;
+    }
 }
 
 impl<'r> Model for PreparedBlocks<'r> {
@@ -78,7 +88,14 @@ impl<'r> Blocks<'r> for PreparedBlocks<'r> {
     }
 
     fn into_store(self) -> Store {
-        self.counted
+        let PreparedBlocks {
+            program: _program,
+            counted,
+            runners: _runners,
+            spare: _spare,
+            usable: _usable,
+        } = self;
+        counted
     }
 
     #[tactic(auto, using(crate::proofs::Runs::can_begin, crate::proofs::Runs::ready_without, crate::proofs::Runs::ready_again))]

@@ -1,9 +1,9 @@
 // A packet is parsed, and a control runs on it.
 ghost use Rattle.std.specs.Prelude.{◌≡◌, ◌≤◌, [], length, drop, IfOk, OnOk};
-ghost use Rattle.v1_sem.specs.declared.block.Block.{Block as Control};
-ghost use Rattle.v1_sem.specs.Parsing.{parse16};
-ghost use Rattle.v1_sem.specs.Blocks.{control16};
-ghost use Rattle.v1_frame_values.specs.Frames.{IsFrameOf};
+ghost use Rattle.v1_core.specs.declared.block.Block.{Block as Control};
+ghost use Rattle.v1_core.specs.Parsing.{parse16};
+ghost use Rattle.v1_core.specs.Blocks.{control16};
+ghost use Rattle.v1_core.specs.PackedFrames.{IsFrameOf};
 ghost use Rattle.v1_passes.specs.Moments.{moment_at};
 ghost use Rattle.v1_control_run.specs.Prepared.{IsPrepared, setting_of};
 ghost use Rattle.v1_control_run.specs.internal.Runs.{AreRunners, CanBegin, filled_of};
@@ -13,10 +13,9 @@ use crate::runners::{Runners, is_empty};
 use crate::spare::{are_octets, begin, end, end_silently};
 use p4x_bits::{Octets, OutOfMemory};
 use state_store::Store;
-use v1_frames::Frame;
+use v1_core::{Block, Frame};
 use v1_parse_run::{ParserMachine, parse_ready};
 use v1_passes::ParseEnd;
-use v1_sem::Block;
 
 /// Parses a packet: what `parse16` of the definitions says. The one error is want of memory.
 pub fn parse_packet(

@@ -2,7 +2,7 @@
 use match_core::Entries;
 use v1_block_run::ReadyBlock;
 use v1_block_tables::FilledTables;
-use v1_frames::FrameLayout;
+use v1_core::FrameLayout;
 use v1_packets::Packets;
 use v1_ready_states::ReadyParser;
 

@@ -1,10 +1,10 @@
 // The controls of a program, each with the room that its statements take.
 ghost use Rattle.std.specs.Prelude.{◌≡◌, true, OnOk};
-ghost use Rattle.v1_sem.specs.declared.block.Block.{Block as Control};
+ghost use Rattle.v1_core.specs.declared.block.Block.{Block as Control};
 ghost use Rattle.v1_ready_blocks.specs.Moments.{Moment};
 ghost use Rattle.v1_ready_blocks.specs.Blocks.{ready_run};
-ghost use Rattle.v1_ready_externs.specs.Seen.{moment};
-ghost use Rattle.v1_ready_steps.specs.Steps.{Comes, IsOver, ground_of};
+ghost use Rattle.v1_statement_run.specs.Seen.{moment};
+ghost use Rattle.v1_statement_run.specs.Steps.{Comes, IsOver, ground_of};
 ghost use Rattle.v1_block_run.specs.Blocks.{seen_block};
 ghost use Rattle.v1_block_tables.specs.Parts.{CanApply};
 ghost use Rattle.v1_control_run.specs.Prepared.{IsPrepared};
@@ -16,12 +16,10 @@ use state_store::Store;
 use std::alloc::Global;
 use v1_block_run::{ReadyBlock, is_nothing};
 use v1_block_tables::{BlockRunner, FilledBlock, FilledTables};
-use v1_frames::Frame;
-use v1_ready_externs::Run;
-use v1_sem::Block;
+use v1_core::{Block, Frame};
+use v1_statement_run::Run;
 
 /// What runs the controls of a program on one packet after another.
-#[derive(Drop)]
 pub struct Runners<'r> {
     /// The control that verifies checksums.
     pub verify: BlockRunner<'r, 'r>,
@@ -33,6 +31,18 @@ pub struct Runners<'r> {
     pub compute: BlockRunner<'r, 'r>,
     /// The deparser.
     pub deparse: BlockRunner<'r, 'r>,
+}
+
+impl Drop for Runners<'_> {
+    fn drop(self) {
+        let Runners {
+            verify: _verify,
+            ingress: _ingress,
+            egress: _egress,
+            compute: _compute,
+            deparse: _deparse,
+        } = self;
+    }
 }
 
 /// What runs a block with the tables of its program. It takes no memory.

@@ -1,14 +1,14 @@
 // What a packet is run with besides its frame and the store, and how a run begins and ends.
 ghost use Rattle.std.specs.Prelude.{◌≡◌, [], OnOk, IfOk};
 ghost use Rattle.p4x_bits.specs.BitLists.{octet_bits, IsOctets};
-ghost use Rattle.v1_frames.specs.Cells.{AreWhole};
+ghost use Rattle.v1_core.specs.Cells.{AreWhole};
 ghost use Rattle.v1_control_run.specs.internal.Runs.{begun_run, HasEnded};
 
 use p4x_bits::{Bits, Octets, OutOfMemory, Rows};
 use std::alloc::Global;
-use v1_frames::{Frame, FrameLayout};
+use v1_core::{Frame, FrameLayout};
 use v1_parse_run::{ParserMachine, ParserRoom};
-use v1_ready_externs::Run;
+use v1_statement_run::Run;
 
 /// What packets are run with whose frames have this layout, besides their frames and the store. Its room stays from packet to packet.
 /// The one error is want of memory.

@@ -1,12 +1,12 @@
 -- Values of one form are one where their parts read alike, wherever they stand.
 use Rattle.std.proofs.Common.{◌≡◌, ℕ, zero, suc, ◌+◌, ◌*◌, ◌<◌, ◌≤◌, Bool, List, [], ◌∷◌, length, refl, ap, ◌∙◌, arith}
-use Rattle.p416_rules.specs.Scopes.{Layout, FieldKind, fields_in}
-use Rattle.p416_rules.specs.Totals.{bits_in}
-use Rattle.v1_sem.specs.Values.{Field, Header, Value, a_header, a_stack, a_member}
-use Rattle.v1_frames.specs.Cells.{Cells, slot_value, header_valid, stack_place}
-use Rattle.v1_frame_values.specs.Seats.{Form, slot_form, header_form, stack_form, struct_form, no_form, form_of, Start, moved, behind_members, behind}
-use Rattle.v1_frame_values.specs.Values.{content_value, field_values, header_value, element_values, member_values, value_from}
-use Rattle.v1_frame_values.proofs.Starts.{Before, at_once, members_before, ends_behind}
+use Rattle.p416_syntax.specs.Scopes.{Layout, FieldKind, fields_in}
+use Rattle.p416_syntax.specs.Totals.{bits_in}
+use Rattle.v1_core.specs.Values.{Field, Header, Value, a_header, a_stack, a_member}
+use Rattle.v1_core.specs.Cells.{Cells, slot_value, header_valid, stack_place}
+use Rattle.v1_core.specs.Seats.{Form, slot_form, header_form, stack_form, struct_form, no_form, form_of, Start, moved, behind_members, behind}
+use Rattle.v1_core.specs.PackedValues.{content_value, field_values, header_value, element_values, member_values, value_from}
+use Rattle.v1_core.proofs.Starts.{Before, at_once, members_before, ends_behind}
 
 -- y stands from b on as x stands from a on
 pub record Offset (a b x y : Start) : Type 0 where

@@ -1,18 +1,18 @@
 -- Two parts of a frame are apart, or one of them is within the other one; so those that reach equally far are apart, or one.
 use Rattle.std.proofs.Common.{◌≡◌, ◌⊎◌, inl, inr, ℕ, zero, suc, ◌+◌, ◌*◌, Bool, true, false, cond, Option, Some, None, IfSome, List, [], ◌∷◌, length, refl, subst, arith}
 use Rattle.std.specs.Str.{bytes_eq}
-use Rattle.p416_ast.specs.declared.program.Syntax16.{Syntax16}
-use Rattle.p416_rules.specs.Names.{Name}
-use Rattle.p416_rules.specs.Kinds.{Kind}
-use Rattle.p416_rules.specs.Scopes.{Layout as TypeLayout, FieldKind, fields_in}
-use Rattle.p416_rules.specs.Declarations.{layouts_of}
-use Rattle.v1_sem.specs.Values.{Step, to_member, to_element}
-use Rattle.v1_sem.specs.Slots.{FramePart}
-use Rattle.v1_frame_values.specs.Seats.{Form, slot_form, header_form, stack_form, struct_form, no_form, form_of, Start, moved, behind_members, behind, Seat, seat, behind_seat, member_seat, field_form, field_seat, element_seat, stepped_seat, seat_behind, seat_at}
-use Rattle.v1_frame_values.specs.Programs.{frame_kinds, first_start, seat_in, owner_number, owner_seat, part_seat}
-use Rattle.v1_frame_values.proofs.Starts.{Before, at_once, before_both, before_moved, members_before, ends_behind}
-use Rattle.v1_frame_values.proofs.Reading.{by_truth}
-use Rattle.v1_frame_values.proofs.Making.{same_start}
+use Rattle.p416_syntax.specs.declared.program.Syntax16.{Syntax16}
+use Rattle.p416_syntax.specs.Names.{Name}
+use Rattle.p416_syntax.specs.Kinds.{Kind}
+use Rattle.p416_syntax.specs.Scopes.{Layout as TypeLayout, FieldKind, fields_in}
+use Rattle.p416_syntax.specs.Declarations.{layouts_of}
+use Rattle.v1_core.specs.Values.{Step, to_member, to_element}
+use Rattle.v1_core.specs.Slots.{FramePart}
+use Rattle.v1_core.specs.Seats.{Form, slot_form, header_form, stack_form, struct_form, no_form, form_of, Start, moved, behind_members, behind, Seat, seat, behind_seat, member_seat, field_form, field_seat, element_seat, stepped_seat, seat_behind, seat_at}
+use Rattle.v1_core.specs.Programs.{frame_kinds, first_start, seat_in, owner_number, owner_seat, part_seat}
+use Rattle.v1_core.proofs.Starts.{Before, at_once, before_both, before_moved, members_before, ends_behind}
+use Rattle.v1_core.proofs.Reading.{by_truth}
+use Rattle.v1_core.proofs.Making.{same_start}
 use Rattle.v1_deed_laws.proofs.Alike.{Offset}
 
 -- where both are there

@@ -3,13 +3,13 @@ use Rattle.std.proofs.Common.{◌≡◌, ◌⊎◌, inl, inr, ℕ, zero, suc, �
 use Rattle.std.proofs.Math.Nat.{mod-eq_of_lt, mod-lt}
 use Rattle.std.proofs.lemmas.Bool.{cases_eq}
 use Rattle.std.proofs.lemmas.List.{get_or-set_same, get_or-set_other}
-use Rattle.v1_frames.specs.Layouts.{Layout}
-use Rattle.v1_frames.specs.Cells.{Cells, owner_valid, is_live, slot_value, header_valid, with_validity, stack_place, stack_size, AreWhole}
-use Rattle.v1_frames.proofs.Frames.{set_got, set_others}
-use Rattle.v1_frame_values.specs.Seats.{Start}
-use Rattle.v1_frame_values.specs.Laid.{OwnersAgree}
-use Rattle.v1_frame_values.proofs.Starts.{Before}
-use Rattle.v1_frame_values.proofs.Kept.{validity_others}
+use Rattle.v1_core.specs.Layouts.{Layout}
+use Rattle.v1_core.specs.Cells.{Cells, owner_valid, is_live, slot_value, header_valid, with_validity, stack_place, stack_size, AreWhole}
+use Rattle.v1_core.proofs.Frames.{set_got, set_others}
+use Rattle.v1_core.specs.Seats.{Start}
+use Rattle.v1_core.specs.Laid.{OwnersAgree}
+use Rattle.v1_core.proofs.Starts.{Before}
+use Rattle.v1_core.proofs.Kept.{validity_others}
 use Rattle.v1_ready_blocks.specs.declared.places.Range.{Range}
 use Rattle.v1_ready_blocks.specs.Places.{slot_width, all_copied, validity_taken, number_taken, place_taken, copied}
 use Rattle.v1_parser_laws.proofs.Parts.{below_or, HeaderThere, whole_number, whole_stack, whole_marked}

@@ -4,15 +4,15 @@ use Rattle.std.proofs.Math.Nat.{mul-div_cancel}
 use Rattle.std.proofs.lemmas.List.{append-nil}
 use Rattle.p4x_bits.specs.BitLists.{bits, octet_bits}
 use Rattle.p4x_bits.proofs.BitLists.{length-bits, bits-num, octet_bits-append}
-use Rattle.p416_rules.specs.Scopes.{Layout as TypeLayout, FieldKind, fields_in}
-use Rattle.p416_rules.specs.Totals.{bits_in}
-use Rattle.p416_rules.specs.Declarations.{layouts_of}
-use Rattle.v1_sem.specs.Values.{Value}
-use Rattle.v1_sem.specs.Externs.Packets.{bits_of_field, octets_in, octets_of_header, octets_of}
-use Rattle.v1_frames.specs.Cells.{Cells, slot_value, header_valid}
-use Rattle.v1_frame_values.specs.Seats.{Form, slot_form, header_form, stack_form, struct_form, no_form, Start, moved}
-use Rattle.v1_frame_values.specs.Values.{field_values, header_value, element_values, value_from}
-use Rattle.v1_frame_values.proofs.Making.{same_start}
+use Rattle.p416_syntax.specs.Scopes.{Layout as TypeLayout, FieldKind, fields_in}
+use Rattle.p416_syntax.specs.Totals.{bits_in}
+use Rattle.p416_syntax.specs.Declarations.{layouts_of}
+use Rattle.v1_core.specs.Values.{Value}
+use Rattle.v1_core.specs.Externs.Packets.{bits_of_field, octets_in, octets_of_header, octets_of}
+use Rattle.v1_core.specs.Cells.{Cells, slot_value, header_valid}
+use Rattle.v1_core.specs.Seats.{Form, slot_form, header_form, stack_form, struct_form, no_form, Start, moved}
+use Rattle.v1_core.specs.PackedValues.{field_values, header_value, element_values, value_from}
+use Rattle.v1_core.proofs.Making.{same_start}
 use Rattle.v1_ready_laws.specs.Widths.{FieldsWide, ElementsWide, IsWide, FieldsNarrow}
 use Rattle.v1_ready_laws.proofs.Accepted.{accepted_narrow}
 use Rattle.v1_ready_laws.proofs.Steps.{Stands}

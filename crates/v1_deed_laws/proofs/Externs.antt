@@ -9,25 +9,25 @@ use Rattle.state_store.specs.State.{Contents, count as count_in_store, read as r
 use Rattle.state_store.specs.Ports.{drop_port}
 use Rattle.fabric.specs.declared.items.RequestKind.{RequestKind}
 use Rattle.fabric.specs.declared.items.RequestKind.TheVariants.{CloneI2E, CloneE2E, Resubmit, Recirculate}
-use Rattle.p416_ast.specs.declared.program.Syntax16.{Syntax16}
-use Rattle.p416_rules.specs.Names.{Name}
-use Rattle.p416_rules.specs.Breaks.{BreaksNone, program_rules}
-use Rattle.v1_sem.specs.Values.{Value, a_number, number_in, width_in, to_member}
-use Rattle.v1_sem.specs.Frames as sem
-use Rattle.v1_sem.specs.Frames.{Frame, Hit, Reference, number_put_at, stepped, with_standard}
-use Rattle.v1_sem.specs.Slots.{the_standard, part_with, variable_kinds}
-use Rattle.v1_sem.specs.Numbered.{InScope, frame_in}
-use Rattle.v1_sem.specs.Externs.Objects as objects
-use Rattle.v1_sem.specs.Externs.Hashes as hashes
-use Rattle.v1_sem.specs.Externs.Hashes.{in_range}
-use Rattle.v1_sem.specs.Externs.Checksums as checksums
-use Rattle.v1_sem.specs.Externs.Requests as requests
-use Rattle.v1_frames.specs.Cells.{Cells, is_live, slot_value, with_slot, with_request, AreWhole}
-use Rattle.v1_frame_values.specs.Seats.{Form, some_bits, slot_form, Seat}
-use Rattle.v1_frame_values.specs.Programs.{part_seat, numbered16}
-use Rattle.v1_frame_values.specs.Frames.{IsFrameOf}
-use Rattle.v1_frame_values.specs.Scopes.{IsScope}
-use Rattle.v1_frame_values.proofs.Laws.{part_read, slot_put, request_put}
+use Rattle.p416_syntax.specs.declared.program.Syntax16.{Syntax16}
+use Rattle.p416_syntax.specs.Names.{Name}
+use Rattle.p416_syntax.specs.Breaks.{BreaksNone, program_rules}
+use Rattle.v1_core.specs.Values.{Value, a_number, number_in, width_in, to_member}
+use Rattle.v1_core.specs.Frames as sem
+use Rattle.v1_core.specs.Frames.{Frame, Hit, Reference, number_put_at, stepped, with_standard}
+use Rattle.v1_core.specs.Slots.{the_standard, part_with, variable_kinds}
+use Rattle.v1_core.specs.Numbered.{InScope, frame_in}
+use Rattle.v1_core.specs.Externs.Objects as objects
+use Rattle.v1_core.specs.Externs.Hashes as hashes
+use Rattle.v1_core.specs.Externs.Hashes.{in_range}
+use Rattle.v1_core.specs.Externs.Checksums as checksums
+use Rattle.v1_core.specs.Externs.Requests as requests
+use Rattle.v1_core.specs.Cells.{Cells, is_live, slot_value, with_slot, with_request, AreWhole}
+use Rattle.v1_core.specs.Seats.{Form, some_bits, slot_form, Seat}
+use Rattle.v1_core.specs.Programs.{part_seat, numbered16}
+use Rattle.v1_core.specs.PackedFrames.{IsFrameOf}
+use Rattle.v1_core.specs.Scopes.{IsScope}
+use Rattle.v1_core.proofs.Laws.{part_read, slot_put, request_put}
 use Rattle.v1_ready_laws.proofs.Accepted.{accepted_narrow}
 use Rattle.v1_ready_laws.proofs.Steps.{Stands}
 use Rattle.v1_ready_blocks.specs.declared.places.Slice.{Slice}

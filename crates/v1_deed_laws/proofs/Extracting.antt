@@ -4,30 +4,30 @@ use Rattle.std.proofs.lemmas.List.{get_or-set_same, get_or-set_other}
 use Rattle.std.proofs.lemmas.List.Sums.{sum_by-cons}
 use Rattle.p4x_bits.specs.BitLists.{num, octet_bits}
 use Rattle.p4x_bits.proofs.BitLists.{num_of_take_below}
-use Rattle.p416_ast.specs.declared.program.Syntax16.{Syntax16}
-use Rattle.p416_rules.specs.Names.{Name}
-use Rattle.p416_rules.specs.Scopes.{Layout as TypeLayout, FieldKind, fields_in}
-use Rattle.p416_rules.specs.Totals.{bits_in}
-use Rattle.p416_rules.specs.Declarations.{layouts_of}
-use Rattle.v1_sem.specs.declared.parser_error.ParserError.TheVariants.{PacketTooShort}
-use Rattle.v1_sem.specs.Values.{Value, a_header, a_stack, Field, header_in, place_in, elements_in}
-use Rattle.v1_sem.specs.Frames as sem
-use Rattle.v1_sem.specs.Frames.{Frame, Reference, read, write}
-use Rattle.v1_sem.specs.Slots.{variable_kinds}
-use Rattle.v1_sem.specs.Numbered.{InScope, frame_in, part_value, with_part_value}
-use Rattle.v1_sem.specs.Externs.Packets as packets
-use Rattle.v1_sem.specs.Externs.Packets.{field_width, header_width, fields_filled}
-use Rattle.v1_frames.specs.Layouts.{Layout}
-use Rattle.v1_frames.specs.Cells.{Cells, owner_valid, is_live, slot_value, with_slot, header_valid, with_validity, stack_place, stack_size, with_stack_place, AreWhole}
-use Rattle.v1_frames.proofs.Frames.{set_got, set_others}
-use Rattle.v1_frame_values.specs.Seats.{Form, header_form, stack_form, Start, moved, Seat}
-use Rattle.v1_frame_values.specs.Values.{field_values, header_value, seat_value}
-use Rattle.v1_frame_values.specs.Laid.{AreFields, IsHeader, OwnersAgree}
-use Rattle.v1_frame_values.specs.Programs.{part_seat, numbered16, of_values}
-use Rattle.v1_frame_values.specs.Scopes.{IsScope}
-use Rattle.v1_frame_values.proofs.Kept.{validity_others}
-use Rattle.v1_frame_values.proofs.Laws.{part_read, place_put, program_laid}
-use Rattle.v1_ready_expressions.specs.declared.node.Which.{Which}
+use Rattle.p416_syntax.specs.declared.program.Syntax16.{Syntax16}
+use Rattle.p416_syntax.specs.Names.{Name}
+use Rattle.p416_syntax.specs.Scopes.{Layout as TypeLayout, FieldKind, fields_in}
+use Rattle.p416_syntax.specs.Totals.{bits_in}
+use Rattle.p416_syntax.specs.Declarations.{layouts_of}
+use Rattle.v1_core.specs.declared.parser_error.ParserError.TheVariants.{PacketTooShort}
+use Rattle.v1_core.specs.Values.{Value, a_header, a_stack, Field, header_in, place_in, elements_in}
+use Rattle.v1_core.specs.Frames as sem
+use Rattle.v1_core.specs.Frames.{Frame, Reference, read, write}
+use Rattle.v1_core.specs.Slots.{variable_kinds}
+use Rattle.v1_core.specs.Numbered.{InScope, frame_in, part_value, with_part_value}
+use Rattle.v1_core.specs.Externs.Packets as packets
+use Rattle.v1_core.specs.Externs.Packets.{field_width, header_width, fields_filled}
+use Rattle.v1_core.specs.Layouts.{Layout}
+use Rattle.v1_core.specs.Cells.{Cells, owner_valid, is_live, slot_value, with_slot, header_valid, with_validity, stack_place, stack_size, with_stack_place, AreWhole}
+use Rattle.v1_core.proofs.Frames.{set_got, set_others}
+use Rattle.v1_core.specs.Seats.{Form, header_form, stack_form, Start, moved, Seat}
+use Rattle.v1_core.specs.PackedValues.{field_values, header_value, seat_value}
+use Rattle.v1_core.specs.Laid.{AreFields, IsHeader, OwnersAgree}
+use Rattle.v1_core.specs.Programs.{part_seat, numbered16, of_values}
+use Rattle.v1_core.specs.Scopes.{IsScope}
+use Rattle.v1_core.proofs.Kept.{validity_others}
+use Rattle.v1_core.proofs.Laws.{part_read, place_put, program_laid}
+use Rattle.v1_core.specs.declared.node.Which.{Which}
 use Rattle.v1_ready_laws.specs.Widths.{FieldsWide, FieldsNarrow}
 use Rattle.v1_ready_laws.proofs.Accepted.{accepted_narrow}
 use Rattle.v1_ready_laws.proofs.Steps.{Stands}

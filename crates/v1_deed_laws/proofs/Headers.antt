@@ -1,20 +1,20 @@
 -- A header that becomes valid or invalid.
 use Rattle.std.proofs.Common.{◌≡◌, ℕ, Bool, true, false, length, Some, None, refl, sym, ap, ◌∙◌, subst}
-use Rattle.p416_ast.specs.declared.program.Syntax16.{Syntax16}
-use Rattle.p416_rules.specs.Names.{Name}
-use Rattle.p416_rules.specs.Scopes.{fields_in}
-use Rattle.p416_rules.specs.Declarations.{layouts_of}
-use Rattle.v1_sem.specs.Frames as sem
-use Rattle.v1_sem.specs.Frames.{Reference}
-use Rattle.v1_sem.specs.Numbered.{InScope}
-use Rattle.v1_frames.specs.Cells.{Cells, with_validity}
-use Rattle.v1_frame_values.specs.Seats.{Form, header_form, Seat}
-use Rattle.v1_frame_values.specs.Laid.{IsHeader}
-use Rattle.v1_frame_values.specs.Programs.{part_seat}
-use Rattle.v1_frame_values.specs.Frames.{IsFrameOf}
-use Rattle.v1_frame_values.proofs.Laws.{part_put}
-use Rattle.v1_sem.specs.Values.{no_value}
-use Rattle.v1_sem.specs.HeaderCalls.{set_valid, set_invalid}
+use Rattle.p416_syntax.specs.declared.program.Syntax16.{Syntax16}
+use Rattle.p416_syntax.specs.Names.{Name}
+use Rattle.p416_syntax.specs.Scopes.{fields_in}
+use Rattle.p416_syntax.specs.Declarations.{layouts_of}
+use Rattle.v1_core.specs.Frames as sem
+use Rattle.v1_core.specs.Frames.{Reference}
+use Rattle.v1_core.specs.Numbered.{InScope}
+use Rattle.v1_core.specs.Cells.{Cells, with_validity}
+use Rattle.v1_core.specs.Seats.{Form, header_form, Seat}
+use Rattle.v1_core.specs.Laid.{IsHeader}
+use Rattle.v1_core.specs.Programs.{part_seat}
+use Rattle.v1_core.specs.PackedFrames.{IsFrameOf}
+use Rattle.v1_core.proofs.Laws.{part_put}
+use Rattle.v1_core.specs.Values.{no_value}
+use Rattle.v1_core.specs.HeaderCalls.{set_valid, set_invalid}
 use Rattle.v1_parser_laws.specs.Shown.{Shows}
 use Rattle.v1_parser_laws.proofs.Parts.{whole_marked}
 use Rattle.v1_place_laws.specs.Finding.{IsAt}

@@ -1,13 +1,13 @@
 -- The parts of two values of one form have the same widths, the same owners and the same sizes, part by part.
 use Rattle.std.proofs.Common.{◌≡◌, ◌⊎◌, inl, inr, ℕ, zero, suc, ◌+◌, ◌*◌, ◌<◌, ◌≤◌, Option, Some, None, List, [], ◌∷◌, length, get_or, sym, ap, ◌∙◌, subst, arith}
-use Rattle.p416_rules.specs.Scopes.{Layout as TypeLayout, FieldKind, fields_in}
-use Rattle.v1_frames.specs.Layouts.{Layout}
-use Rattle.v1_frames.specs.Cells.{Cells}
-use Rattle.v1_frame_values.specs.Seats.{Form, slot_form, header_form, stack_form, struct_form, no_form, form_of, Start, moved, behind_members, behind}
-use Rattle.v1_frame_values.specs.Laid.{IsHeader, AreElements, AreMembers, IsLaid}
-use Rattle.v1_frame_values.proofs.Starts.{Before, before_moved, members_before, ends_behind}
-use Rattle.v1_frame_values.proofs.Writing.{split_first}
-use Rattle.v1_frame_values.proofs.Kept.{field_owner}
+use Rattle.p416_syntax.specs.Scopes.{Layout as TypeLayout, FieldKind, fields_in}
+use Rattle.v1_core.specs.Layouts.{Layout}
+use Rattle.v1_core.specs.Cells.{Cells}
+use Rattle.v1_core.specs.Seats.{Form, slot_form, header_form, stack_form, struct_form, no_form, form_of, Start, moved, behind_members, behind}
+use Rattle.v1_core.specs.Laid.{IsHeader, AreElements, AreMembers, IsLaid}
+use Rattle.v1_core.proofs.Starts.{Before, before_moved, members_before, ends_behind}
+use Rattle.v1_core.proofs.Writing.{split_first}
+use Rattle.v1_core.proofs.Kept.{field_owner}
 use Rattle.v1_ready_laws.specs.Widths.{FieldsWide, ElementsWide, IsWide}
 use Rattle.v1_parser_laws.proofs.Parts.{below_or}
 use Rattle.v1_deed_laws.proofs.Alike.{Offset, offset_moved, behind_offset}

@@ -2,21 +2,21 @@
 use Rattle.std.proofs.Common.{◌≡◌, ◌⊎◌, inl, inr, ℕ, zero, suc, ◌+◌, ◌%◌, ◌^◌, min, ◌<◌, ◌≤◌, Bool, true, false, cond, Option, Some, List, [], ◌∷◌, length, get_or, set, refl, sym, ap, ◌∙◌, subst, arith, pow_pos}
 use Rattle.std.proofs.Math.Nat.{mod-eq_of_lt}
 use Rattle.std.proofs.lemmas.List.{get_or_past}
-use Rattle.p416_ast.specs.declared.program.Syntax16.{Syntax16}
-use Rattle.p416_rules.specs.Scopes.{Layout as TypeLayout, FieldKind, fields_in}
-use Rattle.p416_rules.specs.Declarations.{layouts_of}
-use Rattle.v1_sem.specs.Values.{Value, fitted}
-use Rattle.v1_sem.specs.Numbers.{is_same_truth}
-use Rattle.v1_sem.specs.Slots.{FramePart}
-use Rattle.v1_frames.specs.Layouts.{Layout}
-use Rattle.v1_frames.specs.Cells.{Cells, is_live, header_valid, header_slots, cleared_numbers, with_validity, stack_place, stack_size, with_stack_place, AreWhole}
-use Rattle.v1_frame_values.specs.Seats.{Form, slot_form, header_form, stack_form, struct_form, no_form, Start, behind, Seat, behind_seat}
-use Rattle.v1_frame_values.specs.Values.{value_from, member_values, seat_value}
-use Rattle.v1_frame_values.specs.Laid.{IsLaid, IsLaidAt, OwnersAgree}
-use Rattle.v1_frame_values.specs.Programs.{frame_kinds, part_seat}
-use Rattle.v1_frame_values.specs.Frames.{IsFrameOf}
-use Rattle.v1_frame_values.proofs.Starts.{Before}
-use Rattle.v1_frame_values.proofs.Laws.{program_laid}
+use Rattle.p416_syntax.specs.declared.program.Syntax16.{Syntax16}
+use Rattle.p416_syntax.specs.Scopes.{Layout as TypeLayout, FieldKind, fields_in}
+use Rattle.p416_syntax.specs.Declarations.{layouts_of}
+use Rattle.v1_core.specs.Values.{Value, fitted}
+use Rattle.v1_core.specs.Numbers.{is_same_truth}
+use Rattle.v1_core.specs.Slots.{FramePart}
+use Rattle.v1_core.specs.Layouts.{Layout}
+use Rattle.v1_core.specs.Cells.{Cells, is_live, header_valid, header_slots, cleared_numbers, with_validity, stack_place, stack_size, with_stack_place, AreWhole}
+use Rattle.v1_core.specs.Seats.{Form, slot_form, header_form, stack_form, struct_form, no_form, Start, behind, Seat, behind_seat}
+use Rattle.v1_core.specs.PackedValues.{value_from, member_values, seat_value}
+use Rattle.v1_core.specs.Laid.{IsLaid, IsLaidAt, OwnersAgree}
+use Rattle.v1_core.specs.Programs.{frame_kinds, part_seat}
+use Rattle.v1_core.specs.PackedFrames.{IsFrameOf}
+use Rattle.v1_core.proofs.Starts.{Before}
+use Rattle.v1_core.proofs.Laws.{program_laid}
 use Rattle.v1_ready_laws.specs.Widths.{IsWide, KindsNarrow, TypesNarrow}
 use Rattle.v1_ready_laws.proofs.Steps.{Stands}
 use Rattle.v1_ready_laws.proofs.Accepted.{accepted_narrow}

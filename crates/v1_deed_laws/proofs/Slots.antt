@@ -1,12 +1,12 @@
 -- Writing a single value to an l-value, and a number that is cut to it, is writing a number to a slot.
 use Rattle.std.proofs.Common.{ℕ, ◌^◌, ◌%◌, Option, refl, pow_pos}
 use Rattle.std.proofs.Math.Nat.{mod-lt}
-use Rattle.p416_ast.specs.declared.program.Syntax16.{Syntax16}
-use Rattle.v1_sem.specs.Values.{a_number, width_in}
-use Rattle.v1_sem.specs.Frames.{read}
-use Rattle.v1_frames.specs.Cells.{Cells, slot_value}
-use Rattle.v1_frame_values.specs.Seats.{some_bits}
-use Rattle.v1_frame_values.specs.Frames.{IsFrameOf}
+use Rattle.p416_syntax.specs.declared.program.Syntax16.{Syntax16}
+use Rattle.v1_core.specs.Values.{a_number, width_in}
+use Rattle.v1_core.specs.Frames.{read}
+use Rattle.v1_core.specs.Cells.{Cells, slot_value}
+use Rattle.v1_core.specs.Seats.{some_bits}
+use Rattle.v1_core.specs.PackedFrames.{IsFrameOf}
 use Rattle.v1_ready_blocks.specs.declared.places.Slice.{Slice}
 use Rattle.v1_ready_blocks.specs.Places.{around, slot_width, put, put_value}
 use Rattle.v1_parser_laws.proofs.Parts.{whole_number}

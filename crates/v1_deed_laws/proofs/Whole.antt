@@ -1,20 +1,20 @@
 -- A write to an l-value that changes one part of a frame, and moments that stay one where the frame changes.
 use Rattle.std.proofs.Common.{◌≡◌, ◌⊎◌, inl, inr, ℕ, ◌<◌, ◌≤◌, true, Option, None, List, length, sym, ap, ◌∙◌, subst}
-use Rattle.p416_ast.specs.declared.program.Syntax16.{Syntax16}
-use Rattle.p416_rules.specs.Declarations.{layouts_of}
-use Rattle.v1_sem.specs.Values.{Value, fitted, Slice}
-use Rattle.v1_sem.specs.Frames as sem
-use Rattle.v1_sem.specs.Frames.{Reference, around_slice, write}
-use Rattle.v1_sem.specs.Slots.{variable_kinds}
-use Rattle.v1_sem.specs.Numbered.{Numbered, InScope, frame_in, part_value, with_part_value}
-use Rattle.v1_frames.specs.Cells.{Cells, owner_valid, slot_value, header_valid, stack_place}
-use Rattle.v1_frame_values.specs.Seats.{Start, Seat, behind_seat}
-use Rattle.v1_frame_values.specs.Values.{seat_value}
-use Rattle.v1_frame_values.specs.Programs.{numbered16, of_values}
-use Rattle.v1_frame_values.specs.Frames.{IsFrameOf}
-use Rattle.v1_frame_values.specs.Scopes.{IsScope}
-use Rattle.v1_frame_values.proofs.Named.{meant_write}
-use Rattle.v1_frame_values.proofs.Laws.{part_put}
+use Rattle.p416_syntax.specs.declared.program.Syntax16.{Syntax16}
+use Rattle.p416_syntax.specs.Declarations.{layouts_of}
+use Rattle.v1_core.specs.Values.{Value, fitted, Slice}
+use Rattle.v1_core.specs.Frames as sem
+use Rattle.v1_core.specs.Frames.{Reference, around_slice, write}
+use Rattle.v1_core.specs.Slots.{variable_kinds}
+use Rattle.v1_core.specs.Numbered.{Numbered, InScope, frame_in, part_value, with_part_value}
+use Rattle.v1_core.specs.Cells.{Cells, owner_valid, slot_value, header_valid, stack_place}
+use Rattle.v1_core.specs.Seats.{Start, Seat, behind_seat}
+use Rattle.v1_core.specs.PackedValues.{seat_value}
+use Rattle.v1_core.specs.Programs.{numbered16, of_values}
+use Rattle.v1_core.specs.PackedFrames.{IsFrameOf}
+use Rattle.v1_core.specs.Scopes.{IsScope}
+use Rattle.v1_core.proofs.Named.{meant_write}
+use Rattle.v1_core.proofs.Laws.{part_put}
 use Rattle.v1_ready_blocks.specs.Moments.{Moment, with_cells}
 use Rattle.v1_parser_laws.specs.Shown.{Shows}
 use Rattle.v1_place_laws.specs.Finding.{IsAt}

@@ -1,24 +1,24 @@
 -- That each extern does to a packed frame, to the store and to the requests what it does to the frame of the program (`core.p4`,
 -- `v1model.p4`). Indices and sessions are below 2 ^ 32, as the rules on types want them.
 use Rattle.std.specs.Prelude.{◌≡◌, ℕ, ◌^◌, ◌<◌, ◌≤◌, Bool, List, [], ◌∷◌, length, if◌then◌else◌, Some, None, option_map, IfSome, codes}
-use Rattle.p416_ast.specs.declared.parts.HashAlgorithm.{HashAlgorithm}
+use Rattle.p416_syntax.specs.declared.parts.HashAlgorithm.{HashAlgorithm}
 use Rattle.fabric.specs.declared.items.RequestKind.{RequestKind}
-use Rattle.p416_ast.specs.declared.program.Syntax16.{Syntax16}
-use Rattle.p416_rules.specs.Names.{Name}
-use Rattle.p416_rules.specs.Breaks.{BreaksNone, program_rules}
-use Rattle.v1_sem.specs.Values.{to_member}
-use Rattle.v1_sem.specs.Frames as sem
-use Rattle.v1_sem.specs.Frames.{Reference, stepped}
-use Rattle.v1_sem.specs.Slots.{the_standard, part_with, variable_kinds}
-use Rattle.v1_sem.specs.Numbered.{InScope}
-use Rattle.v1_sem.specs.Externs.Objects as objects
-use Rattle.v1_sem.specs.Externs.Hashes as hashes
-use Rattle.v1_sem.specs.Externs.Checksums as checksums
-use Rattle.v1_sem.specs.Externs.Ports as ports
-use Rattle.v1_sem.specs.Externs.Requests as requests
-use Rattle.v1_frame_values.specs.Seats.{some_bits, slot_form, Seat}
-use Rattle.v1_frame_values.specs.Programs.{part_seat}
-use Rattle.v1_frame_values.specs.Scopes.{IsScope}
+use Rattle.p416_syntax.specs.declared.program.Syntax16.{Syntax16}
+use Rattle.p416_syntax.specs.Names.{Name}
+use Rattle.p416_syntax.specs.Breaks.{BreaksNone, program_rules}
+use Rattle.v1_core.specs.Values.{to_member}
+use Rattle.v1_core.specs.Frames as sem
+use Rattle.v1_core.specs.Frames.{Reference, stepped}
+use Rattle.v1_core.specs.Slots.{the_standard, part_with, variable_kinds}
+use Rattle.v1_core.specs.Numbered.{InScope}
+use Rattle.v1_core.specs.Externs.Objects as objects
+use Rattle.v1_core.specs.Externs.Hashes as hashes
+use Rattle.v1_core.specs.Externs.Checksums as checksums
+use Rattle.v1_core.specs.Externs.Ports as ports
+use Rattle.v1_core.specs.Externs.Requests as requests
+use Rattle.v1_core.specs.Seats.{some_bits, slot_form, Seat}
+use Rattle.v1_core.specs.Programs.{part_seat}
+use Rattle.v1_core.specs.Scopes.{IsScope}
 use Rattle.v1_ready_blocks.specs.declared.places.Target.{Target}
 use Rattle.v1_ready_blocks.specs.declared.externs.Extern.TheVariants as extern
 use Rattle.v1_ready_blocks.specs.Moments.{Moment}

@@ -1,13 +1,13 @@
 -- Seats of values of one form: a header, a stack or a struct of one type. A struct is looked into through so many structs within
 -- each other at either seat that all of it is seen (this project's own).
 use Rattle.std.specs.Prelude.{◌≡◌, ℕ, ◌+◌, ◌*◌, List, [], ◌∷◌}
-use Rattle.p416_rules.specs.Scopes.{Layout as TypeLayout, FieldKind, fields_in}
-use Rattle.p416_rules.specs.Totals.{bits_in}
-use Rattle.v1_frames.specs.Layouts.{Layout}
-use Rattle.v1_frames.specs.Cells.{Cells}
-use Rattle.v1_frame_values.specs.Seats.{Form, slot_form, header_form, stack_form, no_form, Start, behind, Seat, behind_seat}
-use Rattle.v1_frame_values.specs.Values.{value_from}
-use Rattle.v1_frame_values.specs.Laid.{IsLaid}
+use Rattle.p416_syntax.specs.Scopes.{Layout as TypeLayout, FieldKind, fields_in}
+use Rattle.p416_syntax.specs.Totals.{bits_in}
+use Rattle.v1_core.specs.Layouts.{Layout}
+use Rattle.v1_core.specs.Cells.{Cells}
+use Rattle.v1_core.specs.Seats.{Form, slot_form, header_form, stack_form, no_form, Start, behind, Seat, behind_seat}
+use Rattle.v1_core.specs.PackedValues.{value_from}
+use Rattle.v1_core.specs.Laid.{IsLaid}
 use Rattle.v1_ready_laws.specs.Widths.{IsWide}
 
 -- a header, a stack or a struct

@@ -1,23 +1,23 @@
 -- That what a ready statement does by itself to a packed frame is what the statement of the program does to its frame: from moments
 -- that are one (`Shows`) both come to moments that are one.
 use Rattle.std.specs.Prelude.{◌≡◌, ◌<◌, ℕ, true, false, length, Option, Some, None, option_map}
-use Rattle.p416_ast.specs.declared.program.Syntax16.{Syntax16}
-use Rattle.p416_rules.specs.Names.{Name}
-use Rattle.p416_rules.specs.Declarations.{layouts_of}
-use Rattle.p416_rules.specs.Breaks.{BreaksNone, program_rules}
-use Rattle.v1_sem.specs.Values.{Value}
-use Rattle.v1_sem.specs.Frames as sem
-use Rattle.v1_sem.specs.Frames.{Reference, put_at, number_put_at}
-use Rattle.v1_sem.specs.Slots.{FramePart, variable_kinds}
-use Rattle.v1_sem.specs.Numbered.{InScope}
-use Rattle.v1_sem.specs.HeaderCalls.{set_valid, set_invalid}
-use Rattle.v1_sem.specs.Externs.Packets as packets
-use Rattle.v1_frames.specs.Cells.{Cells, stack_place, stack_size}
-use Rattle.v1_frame_values.specs.Seats.{Content, some_bits, slot_form, header_form, stack_form, Seat}
-use Rattle.v1_frame_values.specs.Values.{seat_value}
-use Rattle.v1_frame_values.specs.Programs.{part_seat}
-use Rattle.v1_frame_values.specs.Scopes.{IsScope}
-use Rattle.v1_ready_expressions.specs.declared.node.Which.TheVariants.{Next}
+use Rattle.p416_syntax.specs.declared.program.Syntax16.{Syntax16}
+use Rattle.p416_syntax.specs.Names.{Name}
+use Rattle.p416_syntax.specs.Declarations.{layouts_of}
+use Rattle.p416_syntax.specs.Breaks.{BreaksNone, program_rules}
+use Rattle.v1_core.specs.Values.{Value}
+use Rattle.v1_core.specs.Frames as sem
+use Rattle.v1_core.specs.Frames.{Reference, put_at, number_put_at}
+use Rattle.v1_core.specs.Slots.{FramePart, variable_kinds}
+use Rattle.v1_core.specs.Numbered.{InScope}
+use Rattle.v1_core.specs.HeaderCalls.{set_valid, set_invalid}
+use Rattle.v1_core.specs.Externs.Packets as packets
+use Rattle.v1_core.specs.Cells.{Cells, stack_place, stack_size}
+use Rattle.v1_core.specs.Seats.{Content, some_bits, slot_form, header_form, stack_form, Seat}
+use Rattle.v1_core.specs.PackedValues.{seat_value}
+use Rattle.v1_core.specs.Programs.{part_seat}
+use Rattle.v1_core.specs.Scopes.{IsScope}
+use Rattle.v1_core.specs.declared.node.Which.TheVariants.{Next}
 use Rattle.v1_ready_blocks.specs.declared.places.Slice.{Slice}
 use Rattle.v1_ready_blocks.specs.declared.places.Range.{Range}
 use Rattle.v1_ready_blocks.specs.declared.places.ToldRange.{ToldRange}

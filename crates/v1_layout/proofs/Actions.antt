@@ -1,10 +1,10 @@
 -- Behind an action the scope of its control is what it was.
 use Rattle.std.proofs.Common.{◌≡◌, ℕ, ◌-◌, List, ◌++◌, length, map, drop, sym, ap, ◌∙◌, arith, length-append}
 use Rattle.std.proofs.Math.Seq.{drop-append_seam}
-use Rattle.p416_ast.specs.declared.program.Decl16.{Decl16}
-use Rattle.p416_ast.specs.declared.controls.Action16.{Action16}
-use Rattle.p416_rules.specs.Scopes.{Scope, Part, known_parameter}
-use Rattle.p416_rules.specs.Declarations.{action_scope}
+use Rattle.p416_syntax.specs.declared.program.Decl16.{Decl16}
+use Rattle.p416_syntax.specs.declared.controls.Action16.{Action16}
+use Rattle.p416_syntax.specs.Scopes.{Scope, Part, known_parameter}
+use Rattle.p416_syntax.specs.Declarations.{action_scope}
 use Rattle.p416_scopes.specs.declared.scope.Scope.{Scope as CodeScope}
 use Rattle.p416_scopes.specs.Seen.{seen_scope, seen_part}
 use Rattle.p416_visits.specs.Left.{height, shortened}

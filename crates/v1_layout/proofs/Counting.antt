@@ -1,11 +1,11 @@
 -- How many types a program has.
 use Rattle.std.proofs.Common.{◌≡◌, ℕ, ◌+◌, List, [], ◌∷◌, length, refl, arith, length-append}
 use Rattle.std.specs.Prelude.{flat_map}
-use Rattle.p416_ast.specs.declared.program.Decl16.{Decl16}
-use Rattle.p416_ast.specs.declared.program.Decl16.TheVariants as decl
-use Rattle.p416_rules.specs.Scopes.{Known}
-use Rattle.p416_rules.specs.BuiltIn.{standard_layout}
-use Rattle.p416_rules.specs.Declarations.{top_names, layout_in, layouts_of}
+use Rattle.p416_syntax.specs.declared.program.Decl16.{Decl16}
+use Rattle.p416_syntax.specs.declared.program.Decl16.TheVariants as decl
+use Rattle.p416_syntax.specs.Scopes.{Known}
+use Rattle.p416_syntax.specs.BuiltIn.{standard_layout}
+use Rattle.p416_syntax.specs.Declarations.{top_names, layout_in, layouts_of}
 use Rattle.v1_layout.specs.Left.{type_count, counted}
 
 one_counted : (names : List Known) (d : Decl16) → length (layout_in names d) ≡ type_count d

@@ -1,12 +1,12 @@
 -- A struct that is taken apart.
 use Rattle.std.proofs.Common.{◌≡◌, ℕ, zero, suc, ◌+◌, ◌<◌, List, [], ◌∷◌, ◌++◌, map, refl, sym, ap, ◌∙◌, arith}
-use Rattle.p416_rules.specs.Kinds.{Kind}
-use Rattle.p416_rules.specs.Scopes.{Layout as TypeLayout, FieldKind, fields_in}
-use Rattle.p416_kinds.specs.declared.kind.Kind.{Kind as CodeKind}
-use Rattle.p416_kinds.specs.Seen.{seen_kind}
-use Rattle.v1_frames.specs.Layouts.{Layout, with_header_part}
-use Rattle.v1_frame_values.specs.Seats.{struct_form, form_of}
-use Rattle.v1_frame_values.specs.Programs.{field_width, with_elements, with_members, with_value}
+use Rattle.p416_syntax.specs.Kinds.{Kind}
+use Rattle.p416_syntax.specs.Scopes.{Layout as TypeLayout, FieldKind, fields_in}
+use Rattle.p416_names.specs.declared.kind.Kind.{Kind as CodeKind}
+use Rattle.p416_names.specs.SeenKinds.{seen_kind}
+use Rattle.v1_core.specs.Layouts.{Layout, with_header_part}
+use Rattle.v1_core.specs.Seats.{struct_form, form_of}
+use Rattle.v1_core.specs.Programs.{field_width, with_elements, with_members, with_value}
 use Rattle.v1_layout.specs.declared.values.Left.{Left}
 use Rattle.v1_layout.specs.Left.{kind_of_field, kind_width, left_at, laid_out, member_steps, steps_of, steps}
 

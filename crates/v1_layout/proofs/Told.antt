@@ -1,19 +1,19 @@
 -- The kinds of variables, one declaration behind another.
 use Rattle.std.proofs.Common.{◌≡◌, ℕ, List, [], ◌∷◌, ◌++◌, map, ap, ◌∙◌, append_assoc}
 use Rattle.std.specs.Prelude.{flat_map}
-use Rattle.p416_ast.specs.declared.parsers.Parser16.{Parser16}
-use Rattle.p416_ast.specs.declared.controls.Control16.{Control16}
-use Rattle.p416_ast.specs.declared.program.Decl16.{Decl16}
-use Rattle.p416_ast.specs.declared.program.Decl16.TheVariants as decl
-use Rattle.p416_ast.specs.declared.program.Syntax16.{Syntax16}
-use Rattle.p416_ast.specs.Tree.{Stmt16}
-use Rattle.p416_rules.specs.Kinds.{Kind}
-use Rattle.p416_rules.specs.Scopes.{Scope}
-use Rattle.p416_rules.specs.BuiltIn.{standard}
-use Rattle.p416_rules.specs.Declarations.{top_scope, parser_scope, control_scope}
-use Rattle.p416_rules.specs.Main.{positions_from, headers_kind, metadata_kind}
-use Rattle.v1_sem.specs.Slots.{kinds_in, var_kind, state_kinds, local_kinds, parser_kinds, control_kinds, kinds_of}
-use Rattle.v1_frame_values.specs.Programs.{frame_kinds}
+use Rattle.p416_syntax.specs.declared.parsers.Parser16.{Parser16}
+use Rattle.p416_syntax.specs.declared.controls.Control16.{Control16}
+use Rattle.p416_syntax.specs.declared.program.Decl16.{Decl16}
+use Rattle.p416_syntax.specs.declared.program.Decl16.TheVariants as decl
+use Rattle.p416_syntax.specs.declared.program.Syntax16.{Syntax16}
+use Rattle.p416_syntax.specs.Tree.{Stmt16}
+use Rattle.p416_syntax.specs.Kinds.{Kind}
+use Rattle.p416_syntax.specs.Scopes.{Scope}
+use Rattle.p416_syntax.specs.BuiltIn.{standard}
+use Rattle.p416_syntax.specs.Declarations.{top_scope, parser_scope, control_scope}
+use Rattle.p416_syntax.specs.Main.{positions_from, headers_kind, metadata_kind}
+use Rattle.v1_core.specs.Slots.{kinds_in, var_kind, state_kinds, local_kinds, parser_kinds, control_kinds, kinds_of}
+use Rattle.v1_core.specs.Programs.{frame_kinds}
 
 -- the next of many
 pub next_told : {A : Type 0} (f : A → List Kind) (x : A) (rest : List A) (old new whole y : List Kind) → y ≡ f x → new ≡ old ++ y → old ++ flat_map f (x ∷ rest) ≡ whole → new ++ flat_map f rest ≡ whole

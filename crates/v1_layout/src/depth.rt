@@ -1,11 +1,11 @@
 // How many types a program has.
 ghost use Rattle.std.specs.Prelude.{◌≡◌, ◌≤◌, length, IfOk};
-ghost use Rattle.p416_rules.specs.Declarations.{layouts_of};
+ghost use Rattle.p416_syntax.specs.Declarations.{layouts_of};
 ghost use Rattle.v1_layout.specs.Left.{type_count, counted};
 
 use p4x_bits::OutOfMemory;
-use p416_ast::Decl16;
 use p416_names::Top;
+use p416_syntax::Decl16;
 
 /// How many types a declaration declares.
 fn type_count(decl: &Decl16) -> usize

@@ -1,16 +1,15 @@
 // The kinds of the fields of a type (P4_16 1.2, "Derived types").
 ghost use Rattle.std.specs.Prelude.{◌≡◌, ◌≤◌, map, All, IfOk};
-ghost use Rattle.p416_rules.specs.Scopes.{fields_in};
-ghost use Rattle.p416_rules.specs.BuiltIn.{standard_layout};
-ghost use Rattle.p416_rules.specs.Declarations.{top_names, layouts_of, bit_field, struct_field};
-ghost use Rattle.p416_kinds.specs.Seen.{seen_kind};
-ghost use Rattle.v1_frame_values.specs.Programs.{field_width};
+ghost use Rattle.p416_syntax.specs.Scopes.{fields_in};
+ghost use Rattle.p416_syntax.specs.BuiltIn.{standard_layout};
+ghost use Rattle.p416_syntax.specs.Declarations.{top_names, layouts_of, bit_field, struct_field};
+ghost use Rattle.p416_names.specs.SeenKinds.{seen_kind};
+ghost use Rattle.v1_core.specs.Programs.{field_width};
 ghost use Rattle.v1_layout.specs.Left.{kind_of_field, kind_width};
 
 use p4x_bits::OutOfMemory;
-use p416_ast::{BitField, StructField};
-use p416_kinds::Kind;
-use p416_names::{Fields, Top};
+use p416_names::{Fields, Kind, Top};
+use p416_syntax::{BitField, StructField};
 use std::alloc::Global;
 
 /// The kinds of fields of bits.

@@ -1,15 +1,14 @@
 // The kinds of all values of a frame.
 ghost use Rattle.std.specs.Prelude.{◌≡◌, ◌++◌, map, flat_map, OnOk, IfOk};
-ghost use Rattle.p416_rules.specs.Main.{headers_kind, metadata_kind};
-ghost use Rattle.p416_kinds.specs.Seen.{seen_kind};
-ghost use Rattle.v1_sem.specs.Slots.{kinds_of};
-ghost use Rattle.v1_frame_values.specs.Programs.{frame_kinds};
+ghost use Rattle.p416_syntax.specs.Main.{headers_kind, metadata_kind};
+ghost use Rattle.p416_names.specs.SeenKinds.{seen_kind};
+ghost use Rattle.v1_core.specs.Slots.{kinds_of};
+ghost use Rattle.v1_core.specs.Programs.{frame_kinds};
 
 use crate::variables::{add_control, add_parser, places_of};
 use p4x_bits::OutOfMemory;
-use p416_ast::{Decl16, Syntax16};
-use p416_kinds::Kind;
-use p416_names::Top;
+use p416_names::{Kind, Top};
+use p416_syntax::{Decl16, Syntax16};
 use std::alloc::Global;
 
 const STANDARD_METADATA: &[u8] = b"standard_metadata_t";

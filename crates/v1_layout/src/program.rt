@@ -1,20 +1,19 @@
 // The layout of values one after another.
 ghost use Rattle.std.specs.Prelude.{◌≡◌, map, IfOk};
-ghost use Rattle.p416_rules.specs.Declarations.{layouts_of};
-ghost use Rattle.p416_kinds.specs.Seen.{seen_kind};
-ghost use Rattle.v1_frames.specs.Layouts.{no_parts};
-ghost use Rattle.p416_rules.specs.Main.{headers_kind, metadata_kind};
-ghost use Rattle.v1_frame_values.specs.Programs.{with_values, layout16};
+ghost use Rattle.p416_syntax.specs.Declarations.{layouts_of};
+ghost use Rattle.p416_names.specs.SeenKinds.{seen_kind};
+ghost use Rattle.v1_core.specs.Layouts.{no_parts};
+ghost use Rattle.p416_syntax.specs.Main.{headers_kind, metadata_kind};
+ghost use Rattle.v1_core.specs.Programs.{with_values, layout16};
 
 use crate::depth::depth_of;
 use crate::kinds::frame_kinds;
 use crate::values::add_value;
 use p4x_bits::OutOfMemory;
-use p416_ast::Syntax16;
-use p416_kinds::Kind;
-use p416_names::Top;
+use p416_names::{Kind, Top};
+use p416_syntax::Syntax16;
 use std::alloc::Global;
-use v1_frames::FrameLayout;
+use v1_core::FrameLayout;
 
 /// The layout of values of these kinds, one after another, under a program with these names at the top. The one error is want of
 /// memory, which over 2^32 elements of a stack count as.

@@ -1,19 +1,18 @@
 // The parts of values.
 ghost use Rattle.std.specs.Prelude.{◌≡◌, ◌<◌, ◌≤◌, ◌+◌, ◌∷◌, ◌++◌, map, All, OnOk, IfOk};
-ghost use Rattle.p416_rules.specs.Scopes.{fields_in};
-ghost use Rattle.p416_rules.specs.Declarations.{layouts_of};
-ghost use Rattle.p416_kinds.specs.Seen.{seen_kind};
-ghost use Rattle.v1_frames.specs.Layouts.{Layout, with_header_part, with_stack_part};
-ghost use Rattle.v1_frame_values.specs.Seats.{form_of, struct_form};
-ghost use Rattle.v1_frame_values.specs.Programs.{field_width, with_elements, with_value};
+ghost use Rattle.p416_syntax.specs.Scopes.{fields_in};
+ghost use Rattle.p416_syntax.specs.Declarations.{layouts_of};
+ghost use Rattle.p416_names.specs.SeenKinds.{seen_kind};
+ghost use Rattle.v1_core.specs.Layouts.{Layout, with_header_part, with_stack_part};
+ghost use Rattle.v1_core.specs.Seats.{form_of, struct_form};
+ghost use Rattle.v1_core.specs.Programs.{field_width, with_elements, with_value};
 ghost use Rattle.v1_layout.specs.Left.{left_at, laid_out, steps_of, steps};
 
 use crate::fields::{field_kinds, field_widths};
 use p4x_bits::OutOfMemory;
-use p416_kinds::Kind;
-use p416_names::Top;
+use p416_names::{Kind, Top};
 use std::alloc::Global;
-use v1_frames::FrameLayout;
+use v1_core::FrameLayout;
 use work_stack::Stack;
 
 /// A value that is still to be laid out.

@@ -1,17 +1,16 @@
 // The kinds of variables and of parameters of actions, in the order of the text (P4_16 1.2, "Variable declarations").
 ghost use Rattle.std.specs.Prelude.{◌≡◌, ◌++◌, map, flat_map, option_map, OnOk, IfOk};
-ghost use Rattle.p416_rules.specs.Main.{positions_from};
-ghost use Rattle.p416_rules.specs.Declarations.{top_scope, parser_scope, action_scope, control_scope};
-ghost use Rattle.p416_kinds.specs.Seen.{seen_kind};
+ghost use Rattle.p416_syntax.specs.Main.{positions_from};
+ghost use Rattle.p416_syntax.specs.Declarations.{top_scope, parser_scope, action_scope, control_scope};
+ghost use Rattle.p416_names.specs.SeenKinds.{seen_kind};
 ghost use Rattle.p416_scopes.specs.Seen.{seen_part, seen_scope};
 ghost use Rattle.p416_visits.specs.Left.{height, shortened};
-ghost use Rattle.v1_sem.specs.Slots.{declared_kind, kinds_in, var_kind, parameter_kind, state_kinds, local_kinds, parser_kinds, control_kinds};
+ghost use Rattle.v1_core.specs.Slots.{declared_kind, kinds_in, var_kind, parameter_kind, state_kinds, local_kinds, parser_kinds, control_kinds};
 
 use p4x_bits::{OutOfMemory, Text};
-use p416_ast::{Action16, Control16, Local, Param, Parser16, State, StmtHead, StmtView, Var};
-use p416_kinds::Kind;
-use p416_names::Top;
+use p416_names::{Kind, Top};
 use p416_scopes::{Part, Scope};
+use p416_syntax::{Action16, Control16, Local, Param, Parser16, State, StmtHead, StmtView, Var};
 use p416_visits::Visits;
 use std::alloc::Global;
 

@@ -1,18 +1,18 @@
 -- How a packet's frame begins, and fields of standard metadata.
 use Rattle.std.proofs.Common.{◌≡◌, ℕ, ◌%◌, ◌<◌, ◌≤◌, ◌^◌, None, List, [], ◌∷◌, length, get_or, sym, ap, ◌∙◌, subst, arith, codes}
 use Rattle.std.proofs.Math.Nat.{mod-eq_of_lt}
-use Rattle.p416_ast.specs.declared.program.Syntax16.{Syntax16}
-use Rattle.p416_rules.specs.Names.{Name}
-use Rattle.v1_sem.specs.Values.{Value, a_number, number_in}
-use Rattle.v1_sem.specs.Frames.{Frame, standard_number, with_standard, without_requests_and_events}
-use Rattle.v1_sem.specs.Numbered.{Numbered, nobody, frame_in}
-use Rattle.v1_sem.specs.Passes.{none_preserved, blank_frame, new_frame, preserved}
-use Rattle.v1_frames.specs.Layouts.{Layout}
-use Rattle.v1_frames.specs.Cells.{Cells, slot_value, with_slot, without_requests, without_events, new_cells, AreWhole}
-use Rattle.v1_frame_values.specs.Seats.{some_bits, slot_form}
-use Rattle.v1_frame_values.specs.Programs.{layout16}
-use Rattle.v1_frame_values.specs.Frames.{IsFrameOf}
-use Rattle.v1_frame_values.proofs.Laws.{part_read, slot_put, cleared_put}
+use Rattle.p416_syntax.specs.declared.program.Syntax16.{Syntax16}
+use Rattle.p416_syntax.specs.Names.{Name}
+use Rattle.v1_core.specs.Values.{Value, a_number, number_in}
+use Rattle.v1_core.specs.Frames.{Frame, standard_number, with_standard, without_requests_and_events}
+use Rattle.v1_core.specs.Numbered.{Numbered, nobody, frame_in}
+use Rattle.v1_core.specs.Passes.{none_preserved, blank_frame, new_frame, preserved}
+use Rattle.v1_core.specs.Layouts.{Layout}
+use Rattle.v1_core.specs.Cells.{Cells, slot_value, with_slot, without_requests, without_events, new_cells, AreWhole}
+use Rattle.v1_core.specs.Seats.{some_bits, slot_form}
+use Rattle.v1_core.specs.Programs.{layout16}
+use Rattle.v1_core.specs.PackedFrames.{IsFrameOf}
+use Rattle.v1_core.proofs.Laws.{part_read, slot_put, cleared_put}
 use Rattle.v1_pass_slots.specs.Starts.{metadata_start}
 use Rattle.v1_packets.specs.Packets.{packet_frame, kept_value, with_metadata, with_zero_standard, AreFitting, with_fresh, clone_frame}
 use Rattle.v1_packets.specs.internal.Filled.{AreLone, IsFilled}

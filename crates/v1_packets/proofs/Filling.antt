@@ -2,10 +2,10 @@
 use Rattle.std.proofs.Common.{◌≡◌, ◌⊎◌, inl, inr, ℕ, zero, suc, ◌+◌, ◌-◌, ◌<◌, ◌≤◌, ◌^◌, Bool, true, false, cond, Option, None, List, [], ◌∷◌, length, get_or, set, refl, sym, ap, ◌∙◌, subst, arith, pow_pos}
 use Rattle.std.proofs.lemmas.List.{length-set}
 use Rattle.std.proofs.lemmas.Bool.{cases_lt}
-use Rattle.v1_frames.specs.Layouts.{Layout}
-use Rattle.v1_frames.specs.Cells.{Cells, owner_valid, is_live, slot_value, with_slot}
-use Rattle.v1_frames.proofs.Frames.{set_got, set_others}
-use Rattle.v1_frame_values.specs.Laid.{IsSlot}
+use Rattle.v1_core.specs.Layouts.{Layout}
+use Rattle.v1_core.specs.Cells.{Cells, owner_valid, is_live, slot_value, with_slot}
+use Rattle.v1_core.proofs.Frames.{set_got, set_others}
+use Rattle.v1_core.specs.Laid.{IsSlot}
 use Rattle.v1_packets.specs.Packets.{AreFitting}
 use Rattle.v1_packets.specs.internal.Filled.{AreLone, with_numbers, IsFilled}
 

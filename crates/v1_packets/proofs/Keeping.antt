@@ -2,24 +2,24 @@
 use Rattle.std.proofs.Common.{◌≡◌, inl, inr, ℕ, suc, ◌+◌, ◌-◌, ◌==◌, ◌<◌, ◌≤◌, ◌^◌, nat_lt, Bool, true, false, ◌||◌, cond, None, List, [], ◌∷◌, ◌++◌, length, map, flat_map, get_or, refl, sym, ap, ◌∙◌, subst, arith, pow_pos, All}
 use Rattle.std.specs.List.{list_any}
 use Rattle.std.proofs.lemmas.Bool.{ltb-false, eqb-true}
-use Rattle.p416_lexemes.specs.declared.lexeme.Literal16.{Literal16}
-use Rattle.p416_ast.specs.declared.parts.Type16.{Type16}
-use Rattle.p416_ast.specs.declared.parts.StructField.{StructField}
-use Rattle.p416_ast.specs.declared.program.Decl16.{Decl16}
-use Rattle.p416_ast.specs.declared.program.Syntax16.{Syntax16}
-use Rattle.p416_rules.specs.Kinds.{Kind}
-use Rattle.p416_rules.specs.Scopes.{Layout as TypeLayout, FieldKind, Known, kind_of_type}
-use Rattle.p416_rules.specs.Declarations.{top_names, layouts_of, struct_field, list_numbers}
-use Rattle.p416_rules.specs.Main.{metadata_kind}
-use Rattle.v1_sem.specs.Values.{Value, a_number, a_member}
-use Rattle.v1_sem.specs.Passes.{struct_called, fields_of_type, struct_fields, is_number, number_if_in_list, preserved_in, preserved}
-use Rattle.v1_frames.specs.Layouts.{Layout}
-use Rattle.v1_frames.specs.Cells.{Cells, is_live, slot_value, AreWhole}
-use Rattle.v1_frame_values.specs.Seats.{Form, struct_form, form_of, Start, moved, behind_members, behind}
-use Rattle.v1_frame_values.specs.Values.{member_values, value_from}
-use Rattle.v1_frame_values.specs.Laid.{IsSlot}
-use Rattle.v1_frame_values.specs.Programs.{layout16}
-use Rattle.v1_frame_values.specs.Frames.{IsFrameOf}
+use Rattle.p416_syntax.specs.declared.lexeme.Literal16.{Literal16}
+use Rattle.p416_syntax.specs.declared.parts.Type16.{Type16}
+use Rattle.p416_syntax.specs.declared.parts.StructField.{StructField}
+use Rattle.p416_syntax.specs.declared.program.Decl16.{Decl16}
+use Rattle.p416_syntax.specs.declared.program.Syntax16.{Syntax16}
+use Rattle.p416_syntax.specs.Kinds.{Kind}
+use Rattle.p416_syntax.specs.Scopes.{Layout as TypeLayout, FieldKind, Known, kind_of_type}
+use Rattle.p416_syntax.specs.Declarations.{top_names, layouts_of, struct_field, list_numbers}
+use Rattle.p416_syntax.specs.Main.{metadata_kind}
+use Rattle.v1_core.specs.Values.{Value, a_number, a_member}
+use Rattle.v1_core.specs.Passes.{struct_called, fields_of_type, struct_fields, is_number, number_if_in_list, preserved_in, preserved}
+use Rattle.v1_core.specs.Layouts.{Layout}
+use Rattle.v1_core.specs.Cells.{Cells, is_live, slot_value, AreWhole}
+use Rattle.v1_core.specs.Seats.{Form, struct_form, form_of, Start, moved, behind_members, behind}
+use Rattle.v1_core.specs.PackedValues.{member_values, value_from}
+use Rattle.v1_core.specs.Laid.{IsSlot}
+use Rattle.v1_core.specs.Programs.{layout16}
+use Rattle.v1_core.specs.PackedFrames.{IsFrameOf}
 use Rattle.v1_pass_slots.specs.declared.slots.Slots.{Slots}
 use Rattle.v1_pass_slots.specs.Starts.{metadata_start, standard_start}
 use Rattle.v1_packets.specs.Packets.{packet_frame, numbers_from, kept_value, AreFitting}

@@ -1,25 +1,25 @@
 -- The values of a packed frame between two blocks.
 use Rattle.std.proofs.Common.{◌≡◌, ◌⊎◌, inl, inr, ℕ, zero, suc, ◌-◌, ◌<◌, ◌≤◌, Bool, true, false, cond, Option, None, List, [], ◌∷◌, ◌++◌, length, replicate, get_or, refl, sym, ap, ◌∙◌, subst, arith}
 use Rattle.std.proofs.lemmas.Bool.{cases_lt}
-use Rattle.p416_ast.specs.declared.program.Syntax16.{Syntax16}
-use Rattle.p416_rules.specs.BuiltIn.{standard}
-use Rattle.p416_rules.specs.Scopes.{Layout as TypeLayout, FieldKind, fields_in}
-use Rattle.p416_rules.specs.Declarations.{layouts_of}
-use Rattle.p416_rules.specs.Main.{headers_kind, metadata_kind}
-use Rattle.v1_sem.specs.Values.{Value, no_members, zero_value}
-use Rattle.v1_sem.specs.Frames.{Frame}
-use Rattle.v1_sem.specs.Numbered.{Numbered, nobody, frame_in}
-use Rattle.v1_sem.specs.Passes.{none_preserved, blank_frame}
-use Rattle.v1_frames.specs.Layouts.{Layout}
-use Rattle.v1_frames.specs.Cells.{Cells, owner_valid, is_live, slot_value, header_valid, stack_place, new_cells}
-use Rattle.v1_frame_values.specs.Seats.{Form, slot_form, header_form, stack_form, struct_form, no_form, form_of, Start, behind_members, behind}
-use Rattle.v1_frame_values.specs.Values.{value_from}
-use Rattle.v1_frame_values.specs.Laid.{IsSlot, AreMembers, IsLaid}
-use Rattle.v1_frame_values.specs.Programs.{layout16, first_start}
-use Rattle.v1_frame_values.proofs.Starts.{Before, members_before, ends_behind}
-use Rattle.v1_frame_values.proofs.Same.{value_same}
-use Rattle.v1_frame_values.proofs.Blank.{new_is, blank_is}
-use Rattle.v1_frame_values.proofs.Laws.{program_laid}
+use Rattle.p416_syntax.specs.declared.program.Syntax16.{Syntax16}
+use Rattle.p416_syntax.specs.BuiltIn.{standard}
+use Rattle.p416_syntax.specs.Scopes.{Layout as TypeLayout, FieldKind, fields_in}
+use Rattle.p416_syntax.specs.Declarations.{layouts_of}
+use Rattle.p416_syntax.specs.Main.{headers_kind, metadata_kind}
+use Rattle.v1_core.specs.Values.{Value, no_members, zero_value}
+use Rattle.v1_core.specs.Frames.{Frame}
+use Rattle.v1_core.specs.Numbered.{Numbered, nobody, frame_in}
+use Rattle.v1_core.specs.Passes.{none_preserved, blank_frame}
+use Rattle.v1_core.specs.Layouts.{Layout}
+use Rattle.v1_core.specs.Cells.{Cells, owner_valid, is_live, slot_value, header_valid, stack_place, new_cells}
+use Rattle.v1_core.specs.Seats.{Form, slot_form, header_form, stack_form, struct_form, no_form, form_of, Start, behind_members, behind}
+use Rattle.v1_core.specs.PackedValues.{value_from}
+use Rattle.v1_core.specs.Laid.{IsSlot, AreMembers, IsLaid}
+use Rattle.v1_core.specs.Programs.{layout16, first_start}
+use Rattle.v1_core.proofs.Starts.{Before, members_before, ends_behind}
+use Rattle.v1_core.proofs.Same.{value_same}
+use Rattle.v1_core.proofs.Blank.{new_is, blank_is}
+use Rattle.v1_core.proofs.Laws.{program_laid}
 use Rattle.v1_pass_slots.specs.declared.slots.Slots.{Slots}
 use Rattle.v1_pass_slots.specs.Starts.{metadata_start, standard_start, variables_start}
 use Rattle.v1_packets.specs.Packets.{packet_frame, numbers_from, kept_value}

@@ -1,6 +1,6 @@
 -- What a field list keeps of metadata, by the numbers in its slots (this project's own).
 use Rattle.std.specs.Prelude.{ℕ, ◌+◌, if◌then◌else◌, List, [], ◌∷◌}
-use Rattle.v1_frames.specs.Cells.{Cells, slot_value}
+use Rattle.v1_core.specs.Cells.{Cells, slot_value}
 use Rattle.v1_pass_slots.specs.Lists.{is_listed}
 
 -- what a list keeps of the slots from one on, which are in these lists: 0 in place of the others

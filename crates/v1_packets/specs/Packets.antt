@@ -1,19 +1,19 @@
 -- The frame of a packet between two blocks, as its packed frame has it, and the metadata that is kept for another pass, by the
 -- numbers in its slots (this project's own).
 use Rattle.std.specs.Prelude.{ℕ, ◌+◌, ◌<◌, ◌^◌, List, [], ◌∷◌, ◌++◌, length, replicate, slice_index, None, codes}
-use Rattle.p416_ast.specs.declared.program.Syntax16.{Syntax16}
-use Rattle.p416_rules.specs.BuiltIn.{standard}
-use Rattle.p416_rules.specs.Declarations.{layouts_of}
-use Rattle.p416_rules.specs.Main.{metadata_kind}
-use Rattle.v1_sem.specs.Values.{Value, a_number, zero_value}
-use Rattle.v1_sem.specs.Frames.{Frame, with_standard, without_requests_and_events}
-use Rattle.v1_sem.specs.Numbered.{nobody, frame_in}
-use Rattle.v1_sem.specs.Passes.{frame_of, preserved, fresh_standard}
-use Rattle.v1_frames.specs.Layouts.{no_parts}
-use Rattle.v1_frames.specs.Cells.{Cells}
-use Rattle.v1_frame_values.specs.Seats.{form_of}
-use Rattle.v1_frame_values.specs.Values.{value_from}
-use Rattle.v1_frame_values.specs.Programs.{numbered16}
+use Rattle.p416_syntax.specs.declared.program.Syntax16.{Syntax16}
+use Rattle.p416_syntax.specs.BuiltIn.{standard}
+use Rattle.p416_syntax.specs.Declarations.{layouts_of}
+use Rattle.p416_syntax.specs.Main.{metadata_kind}
+use Rattle.v1_core.specs.Values.{Value, a_number, zero_value}
+use Rattle.v1_core.specs.Frames.{Frame, with_standard, without_requests_and_events}
+use Rattle.v1_core.specs.Numbered.{nobody, frame_in}
+use Rattle.v1_core.specs.Passes.{frame_of, preserved, fresh_standard}
+use Rattle.v1_core.specs.Layouts.{no_parts}
+use Rattle.v1_core.specs.Cells.{Cells}
+use Rattle.v1_core.specs.Seats.{form_of}
+use Rattle.v1_core.specs.PackedValues.{value_from}
+use Rattle.v1_core.specs.Programs.{numbered16}
 use Rattle.v1_pass_slots.specs.Starts.{metadata_start}
 
 -- between two blocks no variable is in scope

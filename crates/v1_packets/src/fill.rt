@@ -3,7 +3,7 @@ ghost use Rattle.std.specs.Prelude.{◌≡◌, ◌≤◌, slice_index_or};
 ghost use Rattle.v1_packets.specs.Packets.{AreFitting};
 ghost use Rattle.v1_packets.specs.internal.Filled.{AreLone, IsFilled};
 
-use v1_frames::Frame;
+use v1_core::Frame;
 use v1_pass_slots::Slots;
 
 /// The number at a place; 0 where there is none.

@@ -1,13 +1,13 @@
 // What a field list preserves.
 ghost use Rattle.std.specs.Prelude.{◌≡◌, ◌+◌, ◌<◌, length, if◌then◌else◌, IfOk};
-ghost use Rattle.v1_frames.specs.Cells.{slot_value};
+ghost use Rattle.v1_core.specs.Cells.{slot_value};
 ghost use Rattle.v1_pass_slots.specs.Lists.{is_listed};
 ghost use Rattle.v1_packets.specs.Kept.{kept_from};
 ghost use Rattle.v1_packets.specs.internal.Filled.{AreLone};
 
 use p4x_bits::OutOfMemory;
 use std::alloc::Global;
-use v1_frames::Frame;
+use v1_core::Frame;
 use v1_pass_slots::{SlotLists, Slots};
 
 /// The number in a slot that is in these field lists, where one list is among them, and else 0.

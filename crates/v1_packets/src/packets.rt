@@ -1,15 +1,15 @@
 // The frame of a packet between two blocks.
 ghost use Rattle.std.specs.Prelude.{◌≡◌, ℕ, ◌%◌, ◌^◌, ◌<◌, [], length, slice_index, IfOk, OnOk, codes};
 ghost use Rattle.state_store.specs.Ports.{IsPort};
-ghost use Rattle.p416_rules.specs.Names.{Name};
-ghost use Rattle.p416_rules.specs.Main.{headers_kind, metadata_kind};
-ghost use Rattle.p416_kinds.specs.Seen.{seen_kind};
-ghost use Rattle.v1_sem.specs.Values.{a_number};
-ghost use Rattle.v1_sem.specs.Frames.{with_standard, standard_number, without_requests_and_events};
-ghost use Rattle.v1_sem.specs.Passes.{none_preserved, blank_frame, preserved, new_frame, egress_spec};
-ghost use Rattle.v1_frames.specs.Cells.{new_cells};
-ghost use Rattle.v1_frame_values.specs.Programs.{layout16};
-ghost use Rattle.v1_frame_values.specs.Frames.{IsFrameOf};
+ghost use Rattle.p416_syntax.specs.Names.{Name};
+ghost use Rattle.p416_syntax.specs.Main.{headers_kind, metadata_kind};
+ghost use Rattle.p416_names.specs.SeenKinds.{seen_kind};
+ghost use Rattle.v1_core.specs.Values.{a_number};
+ghost use Rattle.v1_core.specs.Frames.{with_standard, standard_number, without_requests_and_events};
+ghost use Rattle.v1_core.specs.Passes.{none_preserved, blank_frame, preserved, new_frame, egress_spec};
+ghost use Rattle.v1_core.specs.Cells.{new_cells};
+ghost use Rattle.v1_core.specs.Programs.{layout16};
+ghost use Rattle.v1_core.specs.PackedFrames.{IsFrameOf};
 ghost use Rattle.v1_pass_slots.specs.Starts.{metadata_start};
 ghost use Rattle.v1_pass_slots.specs.Found.{IsStandard, ArePassSlots};
 ghost use Rattle.v1_packets.specs.Packets.{packet_frame, kept_value, with_metadata, with_zero_standard, AreFitting, clone_frame, with_fresh, egress_begun};
@@ -17,12 +17,11 @@ ghost use Rattle.v1_packets.specs.Packets.{packet_frame, kept_value, with_metada
 use crate::fill::fill;
 use crate::keep::keep;
 use p4x_bits::OutOfMemory;
-use p416_ast::Syntax16;
-use p416_kinds::Kind;
-use p416_names::Top;
+use p416_names::{Kind, Top};
+use p416_syntax::Syntax16;
 use std::alloc::Global;
 use std::marker::Model;
-use v1_frames::{Frame, FrameLayout};
+use v1_core::{Frame, FrameLayout};
 use v1_pass_slots::{PassSlots, pass_slots};
 
 /// What the passes of a packet under a program do to its frame between two blocks. It borrows the program and the layout of its
@@ -38,9 +37,9 @@ pub struct Packets<'p> {
 impl<'p> Model for Packets<'p> {
     ghost use Rattle.std.specs.Prelude.{◌≡◌};
     ghost use Rattle.std.specs.Coded.{codes};
-    ghost use Rattle.p416_ast.specs.declared.program.Syntax16.{Syntax16 as Syntax};
-    ghost use Rattle.p416_ast.specs.contracts.program.Syntax16 as declaration;
-    ghost use Rattle.v1_frame_values.specs.Programs.{layout16};
+    ghost use Rattle.p416_syntax.specs.declared.program.Syntax16.{Syntax16 as Syntax};
+    ghost use Rattle.p416_syntax.specs.contracts.program.Syntax16 as declaration;
+    ghost use Rattle.v1_core.specs.Programs.{layout16};
     ghost use Rattle.v1_pass_slots.specs.Found.{ArePassSlots};
 
     ghost Value = { Syntax };

@@ -1,15 +1,15 @@
 -- The end of parsing.
 use Rattle.std.proofs.Common.{◌≡◌, ℕ, List, Bool, Option, Some, None, refl, sym, ap, subst, ◌∙◌}
 use Rattle.state_store.specs.State.{Contents}
-use Rattle.v1_sem.specs.declared.parser_error.ParserError.{ParserError}
-use Rattle.v1_sem.specs.Frames.{Hit, error_number}
-use Rattle.v1_frames.specs.Cells.{Cells, with_slot}
+use Rattle.v1_core.specs.declared.parser_error.ParserError.{ParserError}
+use Rattle.v1_core.specs.Frames.{Hit, error_number}
+use Rattle.v1_core.specs.Cells.{Cells, with_slot}
 use Rattle.v1_ready_blocks.specs.Moments.{Moment}
 use Rattle.v1_ready_blocks.specs.Nodes.{Ground}
-use Rattle.v1_ready_externs.specs.declared.run.Run.{Run}
-use Rattle.v1_ready_externs.specs.Seen.{moment, seen_hit}
+use Rattle.v1_statement_run.specs.declared.run.Run.{Run}
+use Rattle.v1_statement_run.specs.Seen.{moment, seen_hit}
 use Rattle.v1_ready_states.specs.States.{parse_ended, with_error}
-use Rattle.v1_ready_steps.specs.Steps.{IsOver}
+use Rattle.v1_statement_run.specs.Steps.{IsOver}
 use Rattle.v1_parse_run.specs.Working.{ended_cells, unstopped}
 
 -- by the error that stopped it

@@ -2,11 +2,11 @@
 use Rattle.std.proofs.Common.{◌≡◌, ℕ, ◌<◌, ◌≤◌, List, Bool, length, Option, Some, None, refl, sym, ap, subst, ◌∙◌, arith}
 use Rattle.node_lists.proofs.Growth as growth
 use Rattle.state_store.specs.State.{Contents}
-use Rattle.v1_sem.specs.declared.parser_error.ParserError.{ParserError}
-use Rattle.v1_sem.specs.Frames.{Hit}
-use Rattle.v1_frames.specs.Cells.{Cells}
-use Rattle.v1_frames.specs.Layouts.{Layout}
-use Rattle.v1_ready_expressions.specs.Nodes.{ready_of}
+use Rattle.v1_core.specs.declared.parser_error.ParserError.{ParserError}
+use Rattle.v1_core.specs.Frames.{Hit}
+use Rattle.v1_core.specs.Cells.{Cells}
+use Rattle.v1_core.specs.Layouts.{Layout}
+use Rattle.v1_core.specs.Nodes.{ready_of}
 use Rattle.v1_ready_selects.specs.declared.rows.Led.{Led}
 use Rattle.v1_ready_selects.specs.declared.rows.ReadyTransition.{ReadyTransition}
 use Rattle.v1_ready_selects.specs.Selects.{FitsTransition, Transition, lead}
@@ -17,10 +17,10 @@ use Rattle.v1_ready_blocks.specs.Nodes.{IsRange, statement_at, tree_of}
 use Rattle.v1_ready_blocks.specs.Places.{emptied}
 use Rattle.v1_ready_blocks.specs.Statements.{run}
 use Rattle.v1_ready_blocks.specs.Tests.{no_table_applies}
-use Rattle.v1_ready_externs.specs.declared.run.Run.{Run}
-use Rattle.v1_ready_externs.specs.Seen.{moment, seen_hit}
+use Rattle.v1_statement_run.specs.declared.run.Run.{Run}
+use Rattle.v1_statement_run.specs.Seen.{moment, seen_hit}
 use Rattle.v1_ready_states.specs.States.{with_headers_empty}
-use Rattle.v1_ready_steps.specs.Steps.{Comes, expressions_in, first_error, ground_of, stopped_by, trees_of}
+use Rattle.v1_statement_run.specs.Steps.{Comes, expressions_in, first_error, ground_of, stopped_by, trees_of}
 use Rattle.v1_parse_run.specs.Made.{HoldsErrors}
 use Rattle.v1_block_run.specs.declared.tasks.Level.TheVariants as level
 use Rattle.v1_block_run.specs.declared.block.ReadyBlock.{ReadyBlock}

@@ -3,9 +3,9 @@ use Rattle.std.proofs.Common.{◌≡◌, ℕ, ◌+◌, ◌*◌, ◌-◌, List, B
 use Rattle.std.proofs.lemmas.List.{length-map}
 use Rattle.std.specs.Prelude.{unwrap_or}
 use Rattle.state_store.specs.State.{Contents}
-use Rattle.v1_sem.specs.declared.parser_error.ParserError.{ParserError}
-use Rattle.v1_sem.specs.declared.parser_error.ParserError.TheVariants.{NoError, PacketTooShort}
-use Rattle.v1_frames.specs.Cells.{Cells}
+use Rattle.v1_core.specs.declared.parser_error.ParserError.{ParserError}
+use Rattle.v1_core.specs.declared.parser_error.ParserError.TheVariants.{NoError, PacketTooShort}
+use Rattle.v1_core.specs.Cells.{Cells}
 use Rattle.v1_ready_selects.specs.declared.rows.Led.{Led}
 use Rattle.v1_ready_selects.specs.declared.rows.Led.TheVariants.{To, Failed}
 use Rattle.v1_ready_selects.specs.declared.rows.Next.TheVariants as next
@@ -13,13 +13,13 @@ use Rattle.v1_ready_selects.specs.Selects.{Transition, lead}
 use Rattle.v1_ready_blocks.specs.Blocks.{parser_run}
 use Rattle.v1_ready_blocks.specs.Moments.{Moment, is_stopped, ticked}
 use Rattle.v1_ready_blocks.specs.Nodes.{statement_at}
-use Rattle.v1_ready_externs.specs.declared.run.Run.{Run}
-use Rattle.v1_ready_externs.specs.Seen.{moment}
+use Rattle.v1_statement_run.specs.declared.run.Run.{Run}
+use Rattle.v1_statement_run.specs.Seen.{moment}
 use Rattle.v1_ready_states.specs.declared.states.ReadyState.{ReadyState}
 use Rattle.v1_ready_states.specs.declared.states.ReadyParser.{ReadyParser}
 use Rattle.v1_ready_states.specs.Rows.{state_of}
 use Rattle.v1_ready_states.specs.States.{State, Parser, finished, passed, in_state, parse_from, parse_ended, ready_parse, run_states, to_led, with_headers_empty}
-use Rattle.v1_ready_steps.specs.Steps.{ground_of, stopped_by}
+use Rattle.v1_statement_run.specs.Steps.{ground_of, stopped_by}
 use Rattle.v1_parse_run.specs.Made.{Made, made_parser, made_states, shown_onward}
 use Rattle.v1_block_run.specs.declared.block.ReadyBlock.{ReadyBlock}
 use Rattle.v1_block_run.specs.Steps.{ticked_run}

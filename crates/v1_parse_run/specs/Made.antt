@@ -1,10 +1,10 @@
 -- What the states of a parser are made of, by its places (this project's own).
 use Rattle.std.specs.Prelude.{ℕ, ◌<◌, ◌^◌, List, length, slice_index, Option, Some, None, All}
 use Rattle.state_store.specs.declared.shapes.Shape.{Shape}
-use Rattle.v1_sem.specs.declared.parser_error.ParserError.{ParserError}
-use Rattle.v1_sem.specs.Frames.{error_number}
-use Rattle.v1_frames.specs.Layouts.{Layout}
-use Rattle.v1_ready_expressions.specs.Ready.{Ready}
+use Rattle.v1_core.specs.declared.parser_error.ParserError.{ParserError}
+use Rattle.v1_core.specs.Frames.{error_number}
+use Rattle.v1_core.specs.Layouts.{Layout}
+use Rattle.v1_core.specs.Ready.{Ready}
 use Rattle.v1_ready_selects.specs.Selects.{FitsTransition}
 use Rattle.v1_ready_blocks.specs.Moments.{Moment}
 use Rattle.v1_ready_blocks.specs.Nodes.{IsRange, IsSlot, Tree}

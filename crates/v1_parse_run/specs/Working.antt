@@ -1,16 +1,16 @@
 -- When a parser's machine works on a packet, what the parser is made of, and which moment that is (this project's own).
 use Rattle.std.specs.Prelude.{ℕ, ◌≤◌, List, drop, length, Option, Some, None}
 use Rattle.state_store.specs.State.{Contents}
-use Rattle.v1_sem.specs.declared.parser_error.ParserError.{ParserError}
-use Rattle.v1_sem.specs.Frames.{error_number}
-use Rattle.v1_frames.specs.Cells.{Cells, with_slot}
+use Rattle.v1_core.specs.declared.parser_error.ParserError.{ParserError}
+use Rattle.v1_core.specs.Frames.{error_number}
+use Rattle.v1_core.specs.Cells.{Cells, with_slot}
 use Rattle.v1_ready_selects.specs.declared.rows.Led.{Led}
 use Rattle.v1_ready_selects.specs.declared.rows.Led.TheVariants.{To, Failed}
 use Rattle.v1_ready_selects.specs.declared.rows.Next.TheVariants.{State, End}
 use Rattle.v1_ready_blocks.specs.Moments.{Moment}
-use Rattle.v1_ready_externs.specs.declared.run.Run.{Run}
-use Rattle.v1_ready_externs.specs.Seen.{moment}
-use Rattle.v1_ready_steps.specs.Steps.{IsOver, expressions_in, ground_of, stopped_by, trees_of}
+use Rattle.v1_statement_run.specs.declared.run.Run.{Run}
+use Rattle.v1_statement_run.specs.Seen.{moment}
+use Rattle.v1_statement_run.specs.Steps.{IsOver, expressions_in, ground_of, stopped_by, trees_of}
 use Rattle.v1_parse_run.specs.Made.{Made}
 use Rattle.v1_block_run.specs.declared.block.ReadyBlock.{ReadyBlock}
 use Rattle.v1_block_run.specs.Blocks.{IsRunnable}

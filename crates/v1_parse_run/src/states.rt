@@ -3,7 +3,7 @@ ghost use Rattle.std.specs.Prelude.{◌≡◌, ◌+◌, ◌*◌, ◌<◌, ◌≤
 ghost use Rattle.v1_ready_selects.specs.Selects.{FitsTransition, lead, transition_of};
 ghost use Rattle.v1_ready_blocks.specs.Nodes.{statement_at};
 ghost use Rattle.v1_ready_blocks.specs.Blocks.{parser_run};
-ghost use Rattle.v1_ready_steps.specs.Steps.{expressions_in, trees_of};
+ghost use Rattle.v1_statement_run.specs.Steps.{expressions_in, trees_of};
 ghost use Rattle.v1_ready_states.specs.States.{from_state, in_state, parse_from, ready_parse};
 ghost use Rattle.v1_parse_run.specs.Made.{FitsParser, FitsState, made_state, made_states, made_parser, shown_onward};
 ghost use Rattle.v1_parse_run.specs.Working.{Works, led_next, led_run, made_of, moment_of};
@@ -13,13 +13,10 @@ use crate::steps::{behind, end, tick};
 use p4x_bits::OutOfMemory;
 use state_store::Store;
 use v1_block_run::{Level, ReadyBlock, run_statements};
-use v1_frames::Frame;
-use v1_ready_externs::Run;
+use v1_core::{Frame, ParserError};
 use v1_ready_selects::{Led, Next, ReadyTransition};
 use v1_ready_states::{ReadyParser, ReadyState};
-use v1_ready_steps::{NoTables, is_stopped, stop};
-use v1_ready_targets::empty;
-use v1_sem::ParserError;
+use v1_statement_run::{NoTables, Run, empty, is_stopped, stop};
 
 /// Runs the statements at a place. The one error is want of memory.
 #[tactic(auto, using(crate::proofs::Holding::place_there, crate::proofs::Holding::ran_works, crate::proofs::Holding::ran_quietly))]

@@ -1,14 +1,13 @@
 // Steps of a parser over a frame and a run.
 ghost use Rattle.std.specs.Prelude.{◌≡◌, ◌≤◌, drop, length, unwrap_or};
-ghost use Rattle.v1_sem.specs.Frames.{error_number};
-ghost use Rattle.v1_sem.specs.declared.parser_error.ParserError.TheVariants.{NoError};
+ghost use Rattle.v1_core.specs.Frames.{error_number};
+ghost use Rattle.v1_core.specs.declared.parser_error.ParserError.TheVariants.{NoError};
 ghost use Rattle.v1_parse_run.specs.Made.{HoldsErrors};
 ghost use Rattle.v1_block_run.specs.Steps.{ticked_run};
 ghost use Rattle.v1_parse_run.specs.Working.{ended_cells, unstopped};
 
-use v1_frames::Frame;
-use v1_ready_externs::Run;
-use v1_sem::ParserError;
+use v1_core::{Frame, ParserError};
+use v1_statement_run::Run;
 
 /// What stands behind so many octets.
 pub fn behind(octets: &[u8], parsed: usize) -> &[u8]

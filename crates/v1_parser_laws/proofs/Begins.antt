@@ -1,23 +1,23 @@
 -- Emptying the headers does what beginning to parse does, and a number in the slot of `parser_error` is an error there.
 use Rattle.std.proofs.Common.{◌≡◌, ℕ, ◌^◌, ◌<◌, List, [], ◌∷◌, get_or, Option, Some, None, refl, sym, ap, ◌∙◌, subst}
 use Rattle.std.specs.Prelude.{codes}
-use Rattle.p416_ast.specs.declared.program.Syntax16.{Syntax16}
-use Rattle.p416_rules.specs.Declarations.{layouts_of}
-use Rattle.v1_sem.specs.declared.parser_error.ParserError.{ParserError}
-use Rattle.v1_sem.specs.Values.{Value, an_error, to_member}
-use Rattle.v1_sem.specs.Frames as sem
-use Rattle.v1_sem.specs.Frames.{error_number}
-use Rattle.v1_sem.specs.Slots.{the_headers, the_standard}
-use Rattle.v1_sem.specs.Surroundings.{Setting}
-use Rattle.v1_sem.specs.Numbered.{Numbered, InScope, frame_in, part_value, with_part_value, new_numbered}
-use Rattle.v1_sem.specs.Parsing as parsing
-use Rattle.v1_frames.specs.Layouts.{Layout}
-use Rattle.v1_frames.specs.Cells.{Cells, with_slot}
-use Rattle.v1_frame_values.specs.Seats as seats
-use Rattle.v1_frame_values.specs.Seats.{slot_form, Form, Start, Seat}
-use Rattle.v1_frame_values.specs.Programs.{layout16, part_seat, numbered16}
-use Rattle.v1_frame_values.specs.Frames.{IsFrameOf}
-use Rattle.v1_frame_values.proofs.Laws.{slot_put}
+use Rattle.p416_syntax.specs.declared.program.Syntax16.{Syntax16}
+use Rattle.p416_syntax.specs.Declarations.{layouts_of}
+use Rattle.v1_core.specs.declared.parser_error.ParserError.{ParserError}
+use Rattle.v1_core.specs.Values.{Value, an_error, to_member}
+use Rattle.v1_core.specs.Frames as sem
+use Rattle.v1_core.specs.Frames.{error_number}
+use Rattle.v1_core.specs.Slots.{the_headers, the_standard}
+use Rattle.v1_core.specs.Surroundings.{Setting}
+use Rattle.v1_core.specs.Numbered.{Numbered, InScope, frame_in, part_value, with_part_value, new_numbered}
+use Rattle.v1_core.specs.Parsing as parsing
+use Rattle.v1_core.specs.Layouts.{Layout}
+use Rattle.v1_core.specs.Cells.{Cells, with_slot}
+use Rattle.v1_core.specs.Seats as seats
+use Rattle.v1_core.specs.Seats.{slot_form, Form, Start, Seat}
+use Rattle.v1_core.specs.Programs.{layout16, part_seat, numbered16}
+use Rattle.v1_core.specs.PackedFrames.{IsFrameOf}
+use Rattle.v1_core.proofs.Laws.{slot_put}
 use Rattle.v1_ready_blocks.specs.declared.places.Range.{Range}
 use Rattle.v1_ready_blocks.specs.Places.{emptied}
 use Rattle.v1_ready_blocks.specs.Moments as blocks

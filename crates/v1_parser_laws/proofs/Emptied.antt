@@ -3,26 +3,26 @@ use Rattle.std.proofs.Common.{◌≡◌, ◌⊎◌, inl, inr, ℕ, zero, suc, �
 use Rattle.std.proofs.lemmas.Bool.{cases_eq}
 use Rattle.std.proofs.lemmas.List.{get_or-set_other}
 use Rattle.std.proofs.Math.Nat.{mod-eq_of_lt}
-use Rattle.p416_ast.specs.declared.program.Syntax16.{Syntax16}
-use Rattle.p416_rules.specs.Scopes.{Layout as TypeLayout, FieldKind, fields_in}
-use Rattle.p416_rules.specs.Declarations.{layouts_of}
-use Rattle.v1_sem.specs.Values.{Value, a_number, no_value, fitted}
-use Rattle.v1_sem.specs.Slots.{PartOwner}
-use Rattle.v1_sem.specs.Numbered.{Numbered, part_value, new_numbered}
-use Rattle.v1_frames.specs.Layouts.{Layout}
-use Rattle.v1_frames.specs.Cells.{Cells, is_live, slot_value, with_slot, header_valid, with_validity, stack_place, new_cells, AreWhole}
-use Rattle.v1_frames.proofs.Frames.{set_others}
-use Rattle.v1_frame_values.specs.Seats.{some_bits, a_truth, an_error, Form, slot_form, header_form, stack_form, struct_form, no_form, Start, behind, Seat, behind_seat, seat_behind, seat_at}
-use Rattle.v1_frame_values.specs.Values.{member_values, value_from, seat_value}
-use Rattle.v1_frame_values.specs.Laid.{IsLaidAt, IsSeatLaid, OwnersAgree}
-use Rattle.v1_frame_values.specs.Programs.{layout16, owner_seat, part_seat, of_values}
-use Rattle.v1_frame_values.specs.Frames.{IsFrameOf}
-use Rattle.v1_frame_values.proofs.Reading.{by_truth}
-use Rattle.v1_frame_values.proofs.Writing.{split_first}
-use Rattle.v1_frame_values.proofs.Same.{Same, value_same}
-use Rattle.v1_frame_values.proofs.Kept.{validity_others}
-use Rattle.v1_frame_values.proofs.Blank.{new_is}
-use Rattle.v1_frame_values.proofs.Laws.{part_put, part_read, program_laid}
+use Rattle.p416_syntax.specs.declared.program.Syntax16.{Syntax16}
+use Rattle.p416_syntax.specs.Scopes.{Layout as TypeLayout, FieldKind, fields_in}
+use Rattle.p416_syntax.specs.Declarations.{layouts_of}
+use Rattle.v1_core.specs.Values.{Value, a_number, no_value, fitted}
+use Rattle.v1_core.specs.Slots.{PartOwner}
+use Rattle.v1_core.specs.Numbered.{Numbered, part_value, new_numbered}
+use Rattle.v1_core.specs.Layouts.{Layout}
+use Rattle.v1_core.specs.Cells.{Cells, is_live, slot_value, with_slot, header_valid, with_validity, stack_place, new_cells, AreWhole}
+use Rattle.v1_core.proofs.Frames.{set_others}
+use Rattle.v1_core.specs.Seats.{some_bits, a_truth, an_error, Form, slot_form, header_form, stack_form, struct_form, no_form, Start, behind, Seat, behind_seat, seat_behind, seat_at}
+use Rattle.v1_core.specs.PackedValues.{member_values, value_from, seat_value}
+use Rattle.v1_core.specs.Laid.{IsLaidAt, IsSeatLaid, OwnersAgree}
+use Rattle.v1_core.specs.Programs.{layout16, owner_seat, part_seat, of_values}
+use Rattle.v1_core.specs.PackedFrames.{IsFrameOf}
+use Rattle.v1_core.proofs.Reading.{by_truth}
+use Rattle.v1_core.proofs.Writing.{split_first}
+use Rattle.v1_core.proofs.Same.{Same, value_same}
+use Rattle.v1_core.proofs.Kept.{validity_others}
+use Rattle.v1_core.proofs.Blank.{new_is}
+use Rattle.v1_core.proofs.Laws.{part_put, part_read, program_laid}
 use Rattle.v1_ready_blocks.specs.declared.places.Range.{Range}
 use Rattle.v1_ready_blocks.specs.Places.{all_made, made_invalid, made_zero, made_first, emptied}
 use Rattle.v1_parser_laws.specs.Ranges.{IsRangeOf, all_of, IsBegun, EmptiedBegins}

@@ -1,19 +1,19 @@
 -- A ready parser as a whole does what that of the program does.
 use Rattle.std.proofs.Common.{◌≡◌, ℕ, suc, ◌+◌, ◌*◌, List, [], ◌∷◌, length, Option, Some, None, refl, sym, ap, ◌∙◌, subst}
 use Rattle.std.specs.Prelude.{codes, unwrap_or}
-use Rattle.p416_ast.specs.declared.program.Syntax16.{Syntax16}
-use Rattle.p416_ast.specs.declared.parsers.State.{State}
-use Rattle.p416_ast.specs.declared.parsers.Parser16.{Parser16}
-use Rattle.p416_rules.specs.Names.{Name}
-use Rattle.v1_sem.specs.declared.parser_error.ParserError.{ParserError}
-use Rattle.v1_sem.specs.declared.parser_error.ParserError.TheVariants.{NoError}
-use Rattle.v1_sem.specs.Values.{no_members}
-use Rattle.v1_sem.specs.Frames as sem
-use Rattle.v1_sem.specs.Surroundings.{Setting, World}
-use Rattle.v1_sem.specs.Numbered.{Variable, InScope, nobody}
-use Rattle.v1_sem.specs.Blocks.{begun, ended}
-use Rattle.v1_sem.specs.Parsing as parsing
-use Rattle.v1_sem.specs.Parsing.{parse16}
+use Rattle.p416_syntax.specs.declared.program.Syntax16.{Syntax16}
+use Rattle.p416_syntax.specs.declared.parsers.State.{State}
+use Rattle.p416_syntax.specs.declared.parsers.Parser16.{Parser16}
+use Rattle.p416_syntax.specs.Names.{Name}
+use Rattle.v1_core.specs.declared.parser_error.ParserError.{ParserError}
+use Rattle.v1_core.specs.declared.parser_error.ParserError.TheVariants.{NoError}
+use Rattle.v1_core.specs.Values.{no_members}
+use Rattle.v1_core.specs.Frames as sem
+use Rattle.v1_core.specs.Surroundings.{Setting, World}
+use Rattle.v1_core.specs.Numbered.{Variable, InScope, nobody}
+use Rattle.v1_core.specs.Blocks.{begun, ended}
+use Rattle.v1_core.specs.Parsing as parsing
+use Rattle.v1_core.specs.Parsing.{parse16}
 use Rattle.v1_ready_selects.specs.Rows.{number_of_state}
 use Rattle.v1_ready_selects.specs.Matching.{state_names}
 use Rattle.v1_ready_blocks.specs.Moments as blocks

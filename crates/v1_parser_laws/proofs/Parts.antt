@@ -2,16 +2,16 @@
 use Rattle.std.proofs.Common.{◌≡◌, ◌⊎◌, inl, inr, ℕ, zero, suc, ◌+◌, ◌-◌, ◌*◌, ◌^◌, ◌<◌, ◌≤◌, Bool, true, false, cond, Option, Some, None, List, [], ◌∷◌, ◌++◌, length, take, drop, replicate, get_or, set, refl, sym, ap, ◌∙◌, subst, arith, pow_pos, length-append, length-take-le}
 use Rattle.std.proofs.lemmas.Bool.{cases_eq}
 use Rattle.std.proofs.lemmas.List.{get_or_append_left, get_or-append_right, get_or-take, get_or-drop, get_or-replicate, get_or-set_same, get_or-set_other, length-set, length-replicate, length-drop}
-use Rattle.p416_rules.specs.Scopes.{Layout as TypeLayout, FieldKind, fields_in}
-use Rattle.v1_sem.specs.Numbers.{is_same_truth}
-use Rattle.v1_frames.specs.declared.layout.HeaderSlots.{HeaderSlots}
-use Rattle.v1_frames.specs.Layouts.{Layout, no_slots}
-use Rattle.v1_frames.specs.Cells.{Cells, is_live, slot_value, with_slot, header_valid, cleared_numbers, with_validity, stack_place, stack_size, with_stack_place, AreWhole}
-use Rattle.v1_frame_values.specs.Seats.{Form, slot_form, header_form, stack_form, struct_form, no_form, form_of, Start, moved, behind_members, behind}
-use Rattle.v1_frame_values.specs.Laid.{IsHeader, AreElements, AreMembers, IsLaid}
-use Rattle.v1_frame_values.proofs.Starts.{Before, at_once, members_before, ends_behind}
-use Rattle.v1_frame_values.proofs.Reading.{by_truth}
-use Rattle.v1_frame_values.proofs.Writing.{split_first}
+use Rattle.p416_syntax.specs.Scopes.{Layout as TypeLayout, FieldKind, fields_in}
+use Rattle.v1_core.specs.Numbers.{is_same_truth}
+use Rattle.v1_core.specs.declared.layout.HeaderSlots.{HeaderSlots}
+use Rattle.v1_core.specs.Layouts.{Layout, no_slots}
+use Rattle.v1_core.specs.Cells.{Cells, is_live, slot_value, with_slot, header_valid, cleared_numbers, with_validity, stack_place, stack_size, with_stack_place, AreWhole}
+use Rattle.v1_core.specs.Seats.{Form, slot_form, header_form, stack_form, struct_form, no_form, form_of, Start, moved, behind_members, behind}
+use Rattle.v1_core.specs.Laid.{IsHeader, AreElements, AreMembers, IsLaid}
+use Rattle.v1_core.proofs.Starts.{Before, at_once, members_before, ends_behind}
+use Rattle.v1_core.proofs.Reading.{by_truth}
+use Rattle.v1_core.proofs.Writing.{split_first}
 
 pub below_or : (a n : ℕ) → (a < n) ⊎ (n ≤ a)
 below_or a zero = inr (omega arith)

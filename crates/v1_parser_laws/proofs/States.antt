@@ -1,20 +1,20 @@
 -- The states of a ready parser do what those of the program do.
 use Rattle.std.proofs.Common.{◌≡◌, ◌⊎◌, inl, inr, ℕ, zero, suc, ◌+◌, ◌%◌, ◌^◌, Bool, true, false, cond, List, [], ◌∷◌, is_some, Option, Some, None, IfSome, slice_get, refl, sym, ap, ◌∙◌, subst}
-use Rattle.p416_ast.specs.declared.program.Syntax16.{Syntax16}
-use Rattle.p416_ast.specs.declared.parsers.State.{State}
-use Rattle.p416_ast.specs.declared.parsers.Target.{Target}
-use Rattle.p416_ast.specs.declared.parsers.Target.TheVariants as target
-use Rattle.p416_rules.specs.Names.{Name}
-use Rattle.p416_rules.specs.Statements.{behind}
-use Rattle.p416_rules.specs.Breaks.{BreaksNone, program_rules}
-use Rattle.v1_sem.specs.declared.parser_error.ParserError.{ParserError}
-use Rattle.v1_sem.specs.declared.parser_error.ParserError.TheVariants.{PacketTooShort}
-use Rattle.v1_sem.specs.Values.{no_members}
-use Rattle.v1_sem.specs.Frames as sem
-use Rattle.v1_sem.specs.Surroundings.{World}
-use Rattle.v1_sem.specs.Numbered.{Variable, InScope}
-use Rattle.v1_sem.specs.Statements.{no_label, run}
-use Rattle.v1_sem.specs.Parsing as parsing
+use Rattle.p416_syntax.specs.declared.program.Syntax16.{Syntax16}
+use Rattle.p416_syntax.specs.declared.parsers.State.{State}
+use Rattle.p416_syntax.specs.declared.parsers.Target.{Target}
+use Rattle.p416_syntax.specs.declared.parsers.Target.TheVariants as target
+use Rattle.p416_syntax.specs.Names.{Name}
+use Rattle.p416_syntax.specs.Statements.{behind}
+use Rattle.p416_syntax.specs.Breaks.{BreaksNone, program_rules}
+use Rattle.v1_core.specs.declared.parser_error.ParserError.{ParserError}
+use Rattle.v1_core.specs.declared.parser_error.ParserError.TheVariants.{PacketTooShort}
+use Rattle.v1_core.specs.Values.{no_members}
+use Rattle.v1_core.specs.Frames as sem
+use Rattle.v1_core.specs.Surroundings.{World}
+use Rattle.v1_core.specs.Numbered.{Variable, InScope}
+use Rattle.v1_core.specs.Statements.{no_label, run}
+use Rattle.v1_core.specs.Parsing as parsing
 use Rattle.v1_ready_laws.specs.Asked.{stopped_by}
 use Rattle.v1_ready_selects.specs.declared.rows.Led.{Led}
 use Rattle.v1_ready_selects.specs.declared.rows.Led.TheVariants.{To, Failed}

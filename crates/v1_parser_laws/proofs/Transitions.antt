@@ -1,29 +1,29 @@
 -- Ready transitions lead where those of the program do.
 use Rattle.std.proofs.Common.{◌≡◌, ◌⊎◌, inl, inr, Bool, cond, List, [], ◌∷◌, map, is_some, Option, Some, None, IfSome, option_map, refl, sym, ap, ◌∙◌, subst}
-use Rattle.p416_ast.specs.declared.parsers.Target.{Target}
-use Rattle.p416_ast.specs.declared.parsers.SelectCase.{SelectCase}
-use Rattle.p416_ast.specs.declared.parsers.Transition.TheVariants as transition
-use Rattle.p416_ast.specs.declared.program.Syntax16.{Syntax16}
-use Rattle.p416_ast.specs.Tree.{Exp16}
-use Rattle.p416_rules.specs.Names.{Name}
-use Rattle.p416_rules.specs.Kinds.{Kind}
-use Rattle.p416_rules.specs.Scopes.{Scope}
-use Rattle.p416_rules.specs.Calls.{select_key}
-use Rattle.p416_rules.specs.Declarations.{layouts_of}
-use Rattle.p416_rules.specs.Breaks.{BreaksNone, program_rules}
-use Rattle.p416_rules.specs.Expressions.{kind_of}
-use Rattle.v1_sem.specs.declared.parser_error.ParserError.{ParserError}
-use Rattle.v1_sem.specs.declared.parser_error.ParserError.TheVariants.{NoMatch}
-use Rattle.v1_sem.specs.Frames.{Moment, raised}
-use Rattle.v1_sem.specs.Surroundings.{World}
-use Rattle.v1_sem.specs.Expressions.{Valued, value_of}
-use Rattle.v1_sem.specs.Numbered.{InScope, frame_in}
-use Rattle.v1_sem.specs.Parsing as sem
-use Rattle.v1_sem.specs.Parsing.{Key, Onward, finished, to_target, to_found, first_match, keys_from, selected, leads}
-use Rattle.v1_frames.specs.Cells.{Cells}
-use Rattle.v1_frame_values.specs.Programs.{numbered16}
-use Rattle.v1_frame_values.specs.Frames.{IsFrameOf}
-use Rattle.v1_ready_expressions.specs.Ready.{Ready, Ended, given, failed, ready_value}
+use Rattle.p416_syntax.specs.declared.parsers.Target.{Target}
+use Rattle.p416_syntax.specs.declared.parsers.SelectCase.{SelectCase}
+use Rattle.p416_syntax.specs.declared.parsers.Transition.TheVariants as transition
+use Rattle.p416_syntax.specs.declared.program.Syntax16.{Syntax16}
+use Rattle.p416_syntax.specs.Tree.{Exp16}
+use Rattle.p416_syntax.specs.Names.{Name}
+use Rattle.p416_syntax.specs.Kinds.{Kind}
+use Rattle.p416_syntax.specs.Scopes.{Scope}
+use Rattle.p416_syntax.specs.Calls.{select_key}
+use Rattle.p416_syntax.specs.Declarations.{layouts_of}
+use Rattle.p416_syntax.specs.Breaks.{BreaksNone, program_rules}
+use Rattle.p416_syntax.specs.Expressions.{kind_of}
+use Rattle.v1_core.specs.declared.parser_error.ParserError.{ParserError}
+use Rattle.v1_core.specs.declared.parser_error.ParserError.TheVariants.{NoMatch}
+use Rattle.v1_core.specs.Frames.{Moment, raised}
+use Rattle.v1_core.specs.Surroundings.{World}
+use Rattle.v1_core.specs.Expressions.{Valued, value_of}
+use Rattle.v1_core.specs.Numbered.{InScope, frame_in}
+use Rattle.v1_core.specs.Parsing as sem
+use Rattle.v1_core.specs.Parsing.{Key, Onward, finished, to_target, to_found, first_match, keys_from, selected, leads}
+use Rattle.v1_core.specs.Cells.{Cells}
+use Rattle.v1_core.specs.Programs.{numbered16}
+use Rattle.v1_core.specs.PackedFrames.{IsFrameOf}
+use Rattle.v1_core.specs.Ready.{Ready, Ended, given, failed, ready_value}
 use Rattle.v1_ready_forms.specs.Named.{NamedSeat, seats_in}
 use Rattle.v1_ready_forms.specs.Ways.{its_value}
 use Rattle.v1_ready_forms.specs.Expressions.{ready_of_exp}

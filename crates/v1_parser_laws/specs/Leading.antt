@@ -1,10 +1,10 @@
 -- When a ready transition leads where one of the program does (P4_16 1.2, "Transition statements", "Select expressions").
 use Rattle.std.specs.Prelude.{◌≡◌, ◌⊎◌, List}
-use Rattle.p416_ast.specs.declared.parsers.Target.{Target}
-use Rattle.p416_rules.specs.Names.{Name}
-use Rattle.v1_sem.specs.declared.parser_error.ParserError.{ParserError}
-use Rattle.v1_sem.specs.Frames.{Moment}
-use Rattle.v1_sem.specs.Parsing.{Onward, finished, to_target}
+use Rattle.p416_syntax.specs.declared.parsers.Target.{Target}
+use Rattle.p416_syntax.specs.Names.{Name}
+use Rattle.v1_core.specs.declared.parser_error.ParserError.{ParserError}
+use Rattle.v1_core.specs.Frames.{Moment}
+use Rattle.v1_core.specs.Parsing.{Onward, finished, to_target}
 use Rattle.v1_ready_laws.specs.Asked.{stopped_by}
 use Rattle.v1_ready_selects.specs.declared.rows.Led.{Led}
 use Rattle.v1_ready_selects.specs.declared.rows.Led.TheVariants.{To, Failed}

@@ -1,22 +1,22 @@
 -- The parts of a value, from the first on, and the value with which a new frame begins (this project's own).
 use Rattle.std.specs.Prelude.{◌≡◌, ◌+◌, ◌^◌, ◌<◌, List, [], ◌∷◌, length, slice_index, Some, codes}
-use Rattle.p416_ast.specs.declared.program.Syntax16.{Syntax16}
-use Rattle.p416_rules.specs.Scopes.{Layout}
-use Rattle.p416_rules.specs.Declarations.{layouts_of}
-use Rattle.p416_rules.specs.Main.{headers_kind}
-use Rattle.v1_sem.specs.declared.parser_error.ParserError.{ParserError}
-use Rattle.v1_sem.specs.Values.{to_member}
-use Rattle.v1_sem.specs.Frames as sem
-use Rattle.v1_sem.specs.Frames.{error_number}
-use Rattle.v1_sem.specs.Slots.{PartOwner, the_standard, FramePart, part_with}
-use Rattle.v1_sem.specs.Surroundings.{Setting}
-use Rattle.v1_sem.specs.Numbered.{InScope, part_value, with_part_value, new_numbered}
-use Rattle.v1_sem.specs.Parsing as parsing
-use Rattle.v1_sem.specs.Parsing.{without_headers}
-use Rattle.v1_frames.specs.Cells.{Cells}
-use Rattle.v1_frame_values.specs.Seats.{an_error, slot_form, form_of, Seat, seat, behind_seat}
-use Rattle.v1_frame_values.specs.Programs.{layout16, first_start, owner_seat, part_seat, numbered16}
-use Rattle.v1_frame_values.specs.Frames.{IsFrameOf}
+use Rattle.p416_syntax.specs.declared.program.Syntax16.{Syntax16}
+use Rattle.p416_syntax.specs.Scopes.{Layout}
+use Rattle.p416_syntax.specs.Declarations.{layouts_of}
+use Rattle.p416_syntax.specs.Main.{headers_kind}
+use Rattle.v1_core.specs.declared.parser_error.ParserError.{ParserError}
+use Rattle.v1_core.specs.Values.{to_member}
+use Rattle.v1_core.specs.Frames as sem
+use Rattle.v1_core.specs.Frames.{error_number}
+use Rattle.v1_core.specs.Slots.{PartOwner, the_standard, FramePart, part_with}
+use Rattle.v1_core.specs.Surroundings.{Setting}
+use Rattle.v1_core.specs.Numbered.{InScope, part_value, with_part_value, new_numbered}
+use Rattle.v1_core.specs.Parsing as parsing
+use Rattle.v1_core.specs.Parsing.{without_headers}
+use Rattle.v1_core.specs.Cells.{Cells}
+use Rattle.v1_core.specs.Seats.{an_error, slot_form, form_of, Seat, seat, behind_seat}
+use Rattle.v1_core.specs.Programs.{layout16, first_start, owner_seat, part_seat, numbered16}
+use Rattle.v1_core.specs.PackedFrames.{IsFrameOf}
 use Rattle.v1_ready_blocks.specs.declared.places.Range.{Range}
 use Rattle.v1_ready_blocks.specs.Places.{emptied}
 use Rattle.v1_ready_blocks.specs.Moments.{Moment}

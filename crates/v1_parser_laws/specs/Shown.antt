@@ -1,13 +1,13 @@
 -- When a moment of a ready block is one of the program's meaning (this project's own).
 use Rattle.std.specs.Prelude.{◌≡◌, List, None}
 use Rattle.p4x_bits.specs.BitLists.{octet_bits}
-use Rattle.p416_ast.specs.declared.program.Syntax16.{Syntax16}
-use Rattle.p416_rules.specs.Names.{Name}
-use Rattle.v1_sem.specs.Frames as sem
-use Rattle.v1_sem.specs.Numbered.{Variable, InScope, frame_in}
-use Rattle.v1_sem.specs.Parsing as parsing
-use Rattle.v1_frame_values.specs.Programs.{numbered16}
-use Rattle.v1_frame_values.specs.Frames.{IsFrameOf}
+use Rattle.p416_syntax.specs.declared.program.Syntax16.{Syntax16}
+use Rattle.p416_syntax.specs.Names.{Name}
+use Rattle.v1_core.specs.Frames as sem
+use Rattle.v1_core.specs.Numbered.{Variable, InScope, frame_in}
+use Rattle.v1_core.specs.Parsing as parsing
+use Rattle.v1_core.specs.Programs.{numbered16}
+use Rattle.v1_core.specs.PackedFrames.{IsFrameOf}
 use Rattle.v1_ready_selects.specs.Rows.{number_of_state}
 use Rattle.v1_ready_blocks.specs.Moments.{Moment}
 use Rattle.v1_ready_states.specs.States as ready

@@ -1,19 +1,19 @@
 -- When the states of a ready parser do what those of the program do (P4_16 1.2, "Parser states").
 use Rattle.std.specs.Prelude.{◌≡◌, List, [], ◌∷◌, Some, None, codes}
-use Rattle.p416_ast.specs.declared.program.Syntax16.{Syntax16}
-use Rattle.p416_ast.specs.declared.parsers.State.{State}
-use Rattle.p416_ast.specs.declared.parsers.Parser16.{Parser16}
-use Rattle.p416_rules.specs.Names.{Name}
-use Rattle.p416_rules.specs.Scopes.{Scope}
-use Rattle.p416_rules.specs.Statements.{behind}
-use Rattle.p416_rules.specs.Declarations.{layouts_of}
-use Rattle.v1_sem.specs.Frames as sem
-use Rattle.v1_sem.specs.declared.parser_error.ParserError.{ParserError}
-use Rattle.v1_sem.specs.Surroundings.{Setting, World, quiet_world}
-use Rattle.v1_sem.specs.Numbered.{Variable, nobody}
-use Rattle.v1_sem.specs.Blocks.{begun}
-use Rattle.v1_sem.specs.Statements.{no_label, run}
-use Rattle.v1_sem.specs.Parsing.{in_state, around_parser, without_headers, with_error}
+use Rattle.p416_syntax.specs.declared.program.Syntax16.{Syntax16}
+use Rattle.p416_syntax.specs.declared.parsers.State.{State}
+use Rattle.p416_syntax.specs.declared.parsers.Parser16.{Parser16}
+use Rattle.p416_syntax.specs.Names.{Name}
+use Rattle.p416_syntax.specs.Scopes.{Scope}
+use Rattle.p416_syntax.specs.Statements.{behind}
+use Rattle.p416_syntax.specs.Declarations.{layouts_of}
+use Rattle.v1_core.specs.Frames as sem
+use Rattle.v1_core.specs.declared.parser_error.ParserError.{ParserError}
+use Rattle.v1_core.specs.Surroundings.{Setting, World, quiet_world}
+use Rattle.v1_core.specs.Numbered.{Variable, nobody}
+use Rattle.v1_core.specs.Blocks.{begun}
+use Rattle.v1_core.specs.Statements.{no_label, run}
+use Rattle.v1_core.specs.Parsing.{in_state, around_parser, without_headers, with_error}
 use Rattle.v1_ready_forms.specs.Named.{NamedSeat, seats_in}
 use Rattle.v1_ready_laws.specs.Rules.{NamesSeated}
 use Rattle.v1_ready_selects.specs.Rows.{number_of_state}

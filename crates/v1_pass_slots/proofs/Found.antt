@@ -1,16 +1,16 @@
 -- The slots that a pass reads and writes by itself, where they were found.
 use Rattle.std.proofs.Common.{◌≡◌, ℕ, ◌+◌, ◌<◌, ◌≤◌, Option, Some, None, List, [], length, get_or, refl, sym, ap, ◌∙◌, subst}
-use Rattle.p416_ast.specs.declared.program.Syntax16.{Syntax16}
-use Rattle.p416_rules.specs.Names.{Name}
-use Rattle.p416_rules.specs.Kinds.{Kind}
-use Rattle.p416_rules.specs.Scopes.{Layout as TypeLayout}
-use Rattle.p416_rules.specs.BuiltIn.{standard}
-use Rattle.p416_rules.specs.Declarations.{layouts_of}
-use Rattle.p416_rules.specs.Main.{headers_kind, metadata_kind}
-use Rattle.v1_sem.specs.Values.{to_member}
-use Rattle.v1_frames.specs.Layouts.{Layout}
-use Rattle.v1_frame_values.specs.Seats.{some_bits, slot_form, form_of, Start, Seat, seat, stepped_seat, seat_behind, seat_at}
-use Rattle.v1_frame_values.specs.Programs.{layout16}
+use Rattle.p416_syntax.specs.declared.program.Syntax16.{Syntax16}
+use Rattle.p416_syntax.specs.Names.{Name}
+use Rattle.p416_syntax.specs.Kinds.{Kind}
+use Rattle.p416_syntax.specs.Scopes.{Layout as TypeLayout}
+use Rattle.p416_syntax.specs.BuiltIn.{standard}
+use Rattle.p416_syntax.specs.Declarations.{layouts_of}
+use Rattle.p416_syntax.specs.Main.{headers_kind, metadata_kind}
+use Rattle.v1_core.specs.Values.{to_member}
+use Rattle.v1_core.specs.Layouts.{Layout}
+use Rattle.v1_core.specs.Seats.{some_bits, slot_form, form_of, Start, Seat, seat, stepped_seat, seat_behind, seat_at}
+use Rattle.v1_core.specs.Programs.{layout16}
 use Rattle.v1_seats.specs.Seen.{seen_start}
 use Rattle.v1_pass_slots.specs.declared.find.Starts.{Starts}
 use Rattle.v1_pass_slots.specs.declared.slots.PassSlots.{PassSlots}

@@ -3,17 +3,17 @@ use Rattle.std.proofs.Common.{◌≡◌, ℕ, Bool, cond, Option, Some, List, []
 use Rattle.std.specs.Option.{option_and_then, option_map_or}
 use Rattle.std.specs.Str.{bytes_eq}
 use Rattle.name_numbers.specs.Names.{find_name}
-use Rattle.p416_ast.specs.declared.parts.StructField.{StructField}
-use Rattle.p416_ast.specs.declared.program.Decl16.{Decl16}
-use Rattle.p416_ast.specs.declared.program.Decl16.TheVariants as decl
-use Rattle.p416_rules.specs.Names.{Name}
-use Rattle.p416_rules.specs.Scopes.{fields_in}
-use Rattle.p416_rules.specs.Unknown.{declared_name}
-use Rattle.p416_rules.specs.Declarations.{top_names, layouts_of, struct_field}
+use Rattle.p416_syntax.specs.declared.parts.StructField.{StructField}
+use Rattle.p416_syntax.specs.declared.program.Decl16.{Decl16}
+use Rattle.p416_syntax.specs.declared.program.Decl16.TheVariants as decl
+use Rattle.p416_syntax.specs.Names.{Name}
+use Rattle.p416_syntax.specs.Scopes.{fields_in}
+use Rattle.p416_syntax.specs.Unknown.{declared_name}
+use Rattle.p416_syntax.specs.Declarations.{top_names, layouts_of, struct_field}
 use Rattle.p416_names.specs.internal.Tables.{is_type, fields_of}
 use Rattle.p416_names.proofs.Found.{first_named, first_step, fields_there}
-use Rattle.v1_sem.specs.Passes.{struct_called}
-use Rattle.v1_frame_values.proofs.Reading.{by_truth}
+use Rattle.v1_core.specs.Passes.{struct_called}
+use Rattle.v1_core.proofs.Reading.{by_truth}
 use Rattle.v1_pass_slots.specs.Found.{IsStruct}
 use Rattle.v1_pass_slots.specs.internal.Structs.{HasFields, FieldsAt}
 

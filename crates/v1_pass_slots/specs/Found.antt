@@ -1,20 +1,20 @@
 -- The slots of a program's frames that a pass reads and writes by itself, as they were found (this project's own).
 use Rattle.std.specs.Prelude.{◌≡◌, ◌⊎◌, ℕ, ◌+◌, ◌<◌, ◌≤◌, List, [], ◌∷◌, length, map, slice_index, Some, None, All, codes}
-use Rattle.p416_lexemes.specs.declared.lexeme.Literal16.{Literal16}
-use Rattle.p416_ast.specs.declared.parts.Type16.TheVariants as type_of
-use Rattle.p416_ast.specs.declared.parts.StructField.{StructField}
-use Rattle.p416_ast.specs.declared.program.Decl16.{Decl16}
-use Rattle.p416_ast.specs.declared.program.Syntax16.{Syntax16}
-use Rattle.p416_rules.specs.Names.{Name}
-use Rattle.p416_rules.specs.Kinds.{Kind, struct}
-use Rattle.p416_rules.specs.Scopes.{fields_in, kind_of_type}
-use Rattle.p416_rules.specs.Declarations.{top_names, layouts_of, struct_field}
-use Rattle.p416_rules.specs.Main.{metadata_kind}
-use Rattle.v1_sem.specs.Values.{to_member}
-use Rattle.v1_sem.specs.Slots.{the_standard, FramePart, part_with}
-use Rattle.v1_sem.specs.Passes.{struct_called}
-use Rattle.v1_frame_values.specs.Seats.{some_bits, slot_form, Start}
-use Rattle.v1_frame_values.specs.Programs.{layout16, part_seat}
+use Rattle.p416_syntax.specs.declared.lexeme.Literal16.{Literal16}
+use Rattle.p416_syntax.specs.declared.parts.Type16.TheVariants as type_of
+use Rattle.p416_syntax.specs.declared.parts.StructField.{StructField}
+use Rattle.p416_syntax.specs.declared.program.Decl16.{Decl16}
+use Rattle.p416_syntax.specs.declared.program.Syntax16.{Syntax16}
+use Rattle.p416_syntax.specs.Names.{Name}
+use Rattle.p416_syntax.specs.Kinds.{Kind, struct}
+use Rattle.p416_syntax.specs.Scopes.{fields_in, kind_of_type}
+use Rattle.p416_syntax.specs.Declarations.{top_names, layouts_of, struct_field}
+use Rattle.p416_syntax.specs.Main.{metadata_kind}
+use Rattle.v1_core.specs.Values.{to_member}
+use Rattle.v1_core.specs.Slots.{the_standard, FramePart, part_with}
+use Rattle.v1_core.specs.Passes.{struct_called}
+use Rattle.v1_core.specs.Seats.{some_bits, slot_form, Start}
+use Rattle.v1_core.specs.Programs.{layout16, part_seat}
 use Rattle.v1_pass_slots.specs.declared.slots.Slots.{Slots}
 use Rattle.v1_pass_slots.specs.declared.slots.PassSlots.{PassSlots}
 use Rattle.v1_pass_slots.specs.Starts.{metadata_start, standard_start, variables_start}

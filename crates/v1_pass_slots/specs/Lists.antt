@@ -1,13 +1,13 @@
 -- Which numbers of the metadata a field list keeps (`v1model.p4`, `@field_list`; which forms are read is this project's own).
 use Rattle.std.specs.Prelude.{ℕ, ◌==◌, nat_lt, Bool, if◌then◌else◌, List, [], ◌∷◌, map, flat_map, None}
 use Rattle.std.specs.List.{list_any}
-use Rattle.p416_lexemes.specs.declared.lexeme.Literal16.{Literal16}
-use Rattle.p416_ast.specs.declared.parts.Type16.{Type16}
-use Rattle.p416_ast.specs.declared.parts.Type16.TheVariants as type_of
-use Rattle.p416_ast.specs.declared.parts.StructField.{StructField}
-use Rattle.p416_ast.specs.declared.program.Decl16.{Decl16}
-use Rattle.p416_rules.specs.Declarations.{list_numbers}
-use Rattle.v1_sem.specs.Passes.{struct_called}
+use Rattle.p416_syntax.specs.declared.lexeme.Literal16.{Literal16}
+use Rattle.p416_syntax.specs.declared.parts.Type16.{Type16}
+use Rattle.p416_syntax.specs.declared.parts.Type16.TheVariants as type_of
+use Rattle.p416_syntax.specs.declared.parts.StructField.{StructField}
+use Rattle.p416_syntax.specs.declared.program.Decl16.{Decl16}
+use Rattle.p416_syntax.specs.Declarations.{list_numbers}
+use Rattle.v1_core.specs.Passes.{struct_called}
 
 -- those of these numbers that a request can have, which has 8 bits for its list
 abbrev pub small_numbers : List Literal16 → List ℕ

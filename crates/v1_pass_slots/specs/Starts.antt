@@ -1,12 +1,12 @@
 -- Where the metadata, the standard metadata and the variables of a program's frames begin (this project's own).
 use Rattle.std.specs.Prelude.{length}
-use Rattle.p416_ast.specs.declared.program.Syntax16.{Syntax16}
-use Rattle.p416_rules.specs.Kinds.{Kind}
-use Rattle.p416_rules.specs.BuiltIn.{standard}
-use Rattle.p416_rules.specs.Declarations.{layouts_of}
-use Rattle.p416_rules.specs.Main.{headers_kind, metadata_kind}
-use Rattle.v1_frame_values.specs.Seats.{form_of, Start, behind}
-use Rattle.v1_frame_values.specs.Programs.{first_start}
+use Rattle.p416_syntax.specs.declared.program.Syntax16.{Syntax16}
+use Rattle.p416_syntax.specs.Kinds.{Kind}
+use Rattle.p416_syntax.specs.BuiltIn.{standard}
+use Rattle.p416_syntax.specs.Declarations.{layouts_of}
+use Rattle.p416_syntax.specs.Main.{headers_kind, metadata_kind}
+use Rattle.v1_core.specs.Seats.{form_of, Start, behind}
+use Rattle.v1_core.specs.Programs.{first_start}
 
 -- where what stands behind a value of the program begins
 abbrev pub start_behind : Syntax16 → Kind → Start → Start

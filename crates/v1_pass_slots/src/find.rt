@@ -1,9 +1,9 @@
 // The slots that a pass reads and writes by itself, in the frames of a program.
 ghost use Rattle.std.specs.Prelude.{◌≡◌, ◌+◌, ◌≤◌, length, IfOk, IsTrue};
-ghost use Rattle.p416_rules.specs.Main.{headers_kind, metadata_kind};
-ghost use Rattle.p416_kinds.specs.Seen.{seen_kind};
-ghost use Rattle.v1_frame_values.specs.Seats.{form_of, seat, behind};
-ghost use Rattle.v1_frame_values.specs.Programs.{layout16};
+ghost use Rattle.p416_syntax.specs.Main.{headers_kind, metadata_kind};
+ghost use Rattle.p416_names.specs.SeenKinds.{seen_kind};
+ghost use Rattle.v1_core.specs.Seats.{form_of, seat, behind};
+ghost use Rattle.v1_core.specs.Programs.{layout16};
 ghost use Rattle.v1_seats.specs.Seen.{seen_start, seen_seat};
 ghost use Rattle.v1_pass_slots.specs.Found.{AreSlots, ArePassSlots};
 ghost use Rattle.v1_pass_slots.specs.internal.Places.{AreStarts, IsLoneSlot, HasField, HasFields};
@@ -12,11 +12,10 @@ use crate::lists::metadata_lists;
 use crate::slots::{PassSlots, SlotLists, Slots, StandardSlots};
 use crate::structs::types_of;
 use p4x_bits::OutOfMemory;
-use p416_ast::Syntax16;
-use p416_kinds::Kind;
-use p416_names::Top;
+use p416_names::{Kind, Top};
+use p416_syntax::Syntax16;
 use std::alloc::Global;
-use v1_frames::FrameLayout;
+use v1_core::FrameLayout;
 use v1_seats::{Seat, Start, TypeTable};
 
 const STANDARD_METADATA: &[u8] = b"standard_metadata_t";

@@ -1,9 +1,9 @@
 // The field lists that preserve the slots of the metadata.
 ghost use Rattle.std.specs.Prelude.{◌≡◌, ◌≤◌, ◌++◌, map, flat_map, length, All, IfOk, IsTrue, OnOk, None};
-ghost use Rattle.p416_ast.specs.declared.parts.Type16.TheVariants.{Named};
-ghost use Rattle.p416_rules.specs.Kinds.{struct};
-ghost use Rattle.p416_rules.specs.Declarations.{layouts_of, list_numbers};
-ghost use Rattle.p416_kinds.specs.Seen.{seen_kind};
+ghost use Rattle.p416_syntax.specs.declared.parts.Type16.TheVariants.{Named};
+ghost use Rattle.p416_syntax.specs.Kinds.{struct};
+ghost use Rattle.p416_syntax.specs.Declarations.{layouts_of, list_numbers};
+ghost use Rattle.p416_names.specs.SeenKinds.{seen_kind};
 ghost use Rattle.v1_pass_slots.specs.Lists.{small_numbers, lists_of, slot_lists, all_lists};
 ghost use Rattle.v1_pass_slots.specs.Found.{IsBits, IsInner, IsMetadataField, IsMetadata};
 ghost use Rattle.v1_pass_slots.specs.internal.Structs.{AreTypes};
@@ -11,9 +11,8 @@ ghost use Rattle.v1_pass_slots.specs.internal.Structs.{AreTypes};
 use crate::slots::SlotLists;
 use crate::structs::{Types, struct_named};
 use p4x_bits::OutOfMemory;
-use p416_ast::{Note, StructField, Type16};
-use p416_kinds::Kind;
-use p416_lexemes::Literal16;
+use p416_names::Kind;
+use p416_syntax::{Literal16, Note, StructField, Type16};
 use std::alloc::Global;
 use v1_seats::TypeTable;
 

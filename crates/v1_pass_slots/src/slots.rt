@@ -7,7 +7,7 @@ use std::alloc::Global;
 use std::marker::Model;
 
 /// Slots from one up to another, which is behind the last.
-#[derive(Clone, Copy, Debug, Drop)]
+#[derive(Clone, Copy, Drop)]
 pub struct Slots {
     /// The first.
     pub from: u32,
@@ -68,7 +68,7 @@ impl SlotLists {
 }
 
 /// The slots of the fields of the standard metadata that passes read and write.
-#[derive(Clone, Copy, Debug, Drop)]
+#[derive(Clone, Copy, Drop)]
 pub struct StandardSlots {
     /// That of `ingress_port`.
     pub ingress_port: u32,

@@ -1,22 +1,31 @@
 // The structs of a program by their names.
 ghost use Rattle.std.specs.Prelude.{◌≡◌, map, filter, IfOk};
-ghost use Rattle.p416_rules.specs.Unknown.{declared_name};
+ghost use Rattle.p416_syntax.specs.Unknown.{declared_name};
 ghost use Rattle.p416_names.specs.internal.Tables.{is_type};
 ghost use Rattle.v1_pass_slots.specs.Found.{IsStruct};
 ghost use Rattle.v1_pass_slots.specs.internal.Structs.{HasFields, FieldsAt, AreTypes};
 
 use name_numbers::{Numbering, number_names};
 use p4x_bits::OutOfMemory;
-use p416_ast::{Decl16, StructField};
 use p416_names::{Top, decl_name};
+use p416_syntax::{Decl16, StructField};
 use std::alloc::Global;
 
 /// The types that a program declares, by their names.
-#[derive(Drop)]
 pub(crate) struct Types<'t, 'a> {
     pub(crate) top: &'t Top<'a>,
     pub(crate) names: Numbering<'a>,
     pub(crate) decls: Vec<&'a Decl16>,
+}
+
+impl Drop for Types<'_, '_> {
+    fn drop(self) {
+        let Types {
+            top: _top,
+            names: _names,
+            decls: _decls,
+        } = self;
+    }
 }
 
 /// Whether a declaration declares a type.

@@ -13,20 +13,20 @@ use Rattle.fabric.specs.Owned.{IsOwnClone}
 use Rattle.fabric.specs.declared.items.EgressEnd.{EgressEnd}
 use Rattle.fabric.specs.declared.items.EgressNext.{EgressNext}
 use Rattle.fabric.specs.declared.items.EgressNext.TheVariants as after_egress
-use Rattle.p416_ast.specs.declared.program.Syntax16.{Syntax16}
-use Rattle.v1_sem.specs.declared.block.Block.TheVariants.{Ingress, Egress, Compute, Deparse}
-use Rattle.v1_sem.specs.declared.parser_error.ParserError.{ParserError}
-use Rattle.v1_sem.specs.Values.{Value}
-use Rattle.v1_sem.specs.Frames.{Frame, Moment, Request}
-use Rattle.v1_sem.specs.Surroundings.{Setting}
-use Rattle.v1_sem.specs.Blocks.{control16}
-use Rattle.v1_sem.specs.Parsing.{Parsed, parse16}
-use Rattle.v1_sem.specs.Passes.{Between, Held, new_frame, egress_spec, verified_and_run, asked_clone, next_after, ingress_end, ingress16, reparse16, handed_on, egress_frame, asked_egress_clone, put_together, octets_left, leaves, egress_end, egress16, moment_of, item_moment}
-use Rattle.v1_frames.specs.Cells.{Cells}
-use Rattle.v1_frame_values.specs.Frames.{IsFrameOf}
+use Rattle.p416_syntax.specs.declared.program.Syntax16.{Syntax16}
+use Rattle.v1_core.specs.declared.block.Block.TheVariants.{Ingress, Egress, Compute, Deparse}
+use Rattle.v1_core.specs.declared.parser_error.ParserError.{ParserError}
+use Rattle.v1_core.specs.Values.{Value}
+use Rattle.v1_core.specs.Frames.{Frame, Moment, Request}
+use Rattle.v1_core.specs.Surroundings.{Setting}
+use Rattle.v1_core.specs.Blocks.{control16}
+use Rattle.v1_core.specs.Parsing.{Parsed, parse16}
+use Rattle.v1_core.specs.Passes.{Between, Held, new_frame, egress_spec, verified_and_run, asked_clone, next_after, ingress_end, ingress16, reparse16, handed_on, egress_frame, asked_egress_clone, put_together, octets_left, leaves, egress_end, egress16, moment_of, item_moment}
+use Rattle.v1_core.specs.Cells.{Cells}
+use Rattle.v1_core.specs.PackedFrames.{IsFrameOf}
 use Rattle.v1_packets.specs.Packets.{packet_frame, kept_value, AreFitting, egress_begun}
 use Rattle.v1_pass_slots.specs.Starts.{metadata_start}
-use Rattle.v1_frame_values.specs.Programs.{layout16}
+use Rattle.v1_core.specs.Programs.{layout16}
 use Rattle.v1_passes.specs.Moments.{moment_at}
 use Rattle.v1_passes.specs.Runs.{between_of}
 use Rattle.v1_passes.specs.Tags.{Tagged, tagged, tagged_clone, tagged_next, tagged_ingress, tagged_end, tagged_egress, plain_item, tagged_machine, own_tagged}

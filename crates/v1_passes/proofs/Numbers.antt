@@ -2,18 +2,18 @@
 use Rattle.std.proofs.Common.{◌≡◌, ℕ, ◌<◌, ◌^◌, List, length, refl, sym, ap, subst, ◌∙◌}
 use Rattle.std.proofs.Math.Nat.{mod-eq_of_lt}
 use Rattle.std.specs.Prelude.{slice_index}
-use Rattle.p416_ast.specs.declared.program.Syntax16.{Syntax16}
-use Rattle.v1_sem.specs.Values.{Value, a_number, as_number, part_at, with_part_at}
-use Rattle.v1_sem.specs.Slots.{PartOwner, the_headers, the_metadata, the_standard, the_variable, FramePart}
-use Rattle.v1_sem.specs.Frames.{Frame}
-use Rattle.v1_sem.specs.Numbered.{Numbered, nobody, frame_in, owner_value, with_owner_value, part_value}
-use Rattle.v1_sem.specs.Passes.{Held}
-use Rattle.v1_frames.specs.Layouts.{Layout}
-use Rattle.v1_frames.specs.Cells.{AreWhole, Cells, slot_value, with_slot}
-use Rattle.v1_frame_values.specs.Seats.{Seat, slot_form, some_bits}
-use Rattle.v1_frame_values.specs.Programs.{numbered16}
-use Rattle.v1_frame_values.specs.Frames.{IsFrameOf}
-use Rattle.v1_frame_values.proofs.Laws.{part_read, slot_put}
+use Rattle.p416_syntax.specs.declared.program.Syntax16.{Syntax16}
+use Rattle.v1_core.specs.Values.{Value, a_number, as_number, part_at, with_part_at}
+use Rattle.v1_core.specs.Slots.{PartOwner, the_headers, the_metadata, the_standard, the_variable, FramePart}
+use Rattle.v1_core.specs.Frames.{Frame}
+use Rattle.v1_core.specs.Numbered.{Numbered, nobody, frame_in, owner_value, with_owner_value, part_value}
+use Rattle.v1_core.specs.Passes.{Held}
+use Rattle.v1_core.specs.Layouts.{Layout}
+use Rattle.v1_core.specs.Cells.{AreWhole, Cells, slot_value, with_slot}
+use Rattle.v1_core.specs.Seats.{Seat, slot_form, some_bits}
+use Rattle.v1_core.specs.Programs.{numbered16}
+use Rattle.v1_core.specs.PackedFrames.{IsFrameOf}
+use Rattle.v1_core.proofs.Laws.{part_read, slot_put}
 use Rattle.v1_packets.specs.Packets.{packet_frame}
 use Rattle.v1_passes.specs.Tags.{Tagged}
 use Rattle.v1_passes.specs.Held.{HasSlot, IsBitsAt, IsHeld, SlotHolds, held_number, numbered_of, with_number}

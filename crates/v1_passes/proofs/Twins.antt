@@ -1,4 +1,4 @@
--- The machine over values with the program that they are of does what that of v1_sem does.
+-- The machine over values with the program that they are of does what that of v1_core does.
 use Rattle.std.proofs.Common.{◌≡◌, ℕ, ◌+◌, List, [], ◌∷◌, ◌++◌, length, arith, Option, Some, None, option_map, All, refl, sym, ap, ◌∙◌, subst}
 use Rattle.state_store.specs.declared.ports.Session.{Session}
 use Rattle.fabric.specs.declared.packets.Arrival.{Arrival}
@@ -15,10 +15,10 @@ use Rattle.fabric.specs.Fabric.{Whole, fabric, fabric_from, fabric_of, one_of, f
 use Rattle.fabric.specs.Twins.{FitsSession, FitsArrival, SamePasses, AlikeItem, AlikeClone, AlikeIngressNext, AlikeIngress, AlikeEgressNext, AlikeEgress, AlikeRun, AlikeWhole, fit_any}
 use Rattle.fabric.proofs.Joining.{joined_runs}
 use Rattle.fabric.proofs.SameRuns.{fabric_alike, same_fates_of}
-use Rattle.v1_sem.specs.Values.{Value}
-use Rattle.v1_sem.specs.Surroundings.{Setting}
-use Rattle.v1_sem.specs.Passes.{Between, Held, ingress16, reparse16, egress16}
-use Rattle.v1_sem.specs.Runs.{machine16, before, Run16}
+use Rattle.v1_core.specs.Values.{Value}
+use Rattle.v1_core.specs.Surroundings.{Setting}
+use Rattle.v1_core.specs.Passes.{Between, Held, ingress16, reparse16, egress16}
+use Rattle.v1_core.specs.Runs.{machine16, before, Run16}
 use Rattle.v1_passes.specs.Runs.{run_on}
 use Rattle.v1_passes.specs.Tags.{Tagged, tagged, tagged_clone, tagged_next, tagged_ingress, tagged_end, tagged_egress, plain_item, tagged_machine}
 

@@ -1,13 +1,13 @@
--- The codes of the values of v1_sem. Proofs tell values apart by them (this project's own).
+-- The codes of the values of v1_core. Proofs tell values apart by them (this project's own).
 use Rattle.std.proofs.Common.{inl, inr}
 use Rattle.std.specs.Prelude.{◌⊎◌, ℕ, Bool, true, false, List, [], ◌∷◌, ◌++◌, Option, refl}
 use Rattle.std.specs.Coded.{Coded, code_by, coded×, coded⊎, coded_ℕ, coded_bool, coded_list, coded_option}
 use Rattle.node_lists.specs.Codes.{on_two, Puts, behind_two, coded_tree}
 use Rattle.fabric.specs.declared.items.Event.{Event}
-use Rattle.p416_rules.specs.Names.{Name}
-use Rattle.v1_sem.specs.Values.{Field, Header, Value, a_number, a_truth, an_error, a_header, a_stack, no_members, a_member, a_symbol, some_bits, no_value}
-use Rattle.v1_sem.specs.Frames.{Request, Frame}
-use Rattle.v1_sem.specs.Passes.{Held}
+use Rattle.p416_syntax.specs.Names.{Name}
+use Rattle.v1_core.specs.Values.{Field, Header, Value, a_number, a_truth, an_error, a_header, a_stack, no_members, a_member, a_symbol, some_bits, no_value}
+use Rattle.v1_core.specs.Frames.{Request, Frame}
+use Rattle.v1_core.specs.Passes.{Held}
 
 abbrev pub coded_name : Coded Name
 coded_name = coded_list coded_ℕ

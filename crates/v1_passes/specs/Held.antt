@@ -1,14 +1,14 @@
 -- The numbers of what is held between ingress and egress, by the parts of its frame, and the slots where a packed frame has them
 -- (this project's own).
 use Rattle.std.specs.Prelude.{◌≡◌, ℕ, ◌<◌, ◌^◌, [], length, slice_index, Option, Some}
-use Rattle.p416_ast.specs.declared.program.Syntax16.{Syntax16}
-use Rattle.v1_sem.specs.Values.{a_number, as_number}
-use Rattle.v1_sem.specs.Slots.{PartOwner, the_headers, the_metadata, the_standard, the_variable, FramePart}
-use Rattle.v1_sem.specs.Frames.{Frame}
-use Rattle.v1_sem.specs.Numbered.{Numbered, nobody, frame_in, part_value, with_part_value}
-use Rattle.v1_sem.specs.Passes.{Held}
-use Rattle.v1_frame_values.specs.Seats.{Start, slot_form, some_bits}
-use Rattle.v1_frame_values.specs.Programs.{layout16, part_seat}
+use Rattle.p416_syntax.specs.declared.program.Syntax16.{Syntax16}
+use Rattle.v1_core.specs.Values.{a_number, as_number}
+use Rattle.v1_core.specs.Slots.{PartOwner, the_headers, the_metadata, the_standard, the_variable, FramePart}
+use Rattle.v1_core.specs.Frames.{Frame}
+use Rattle.v1_core.specs.Numbered.{Numbered, nobody, frame_in, part_value, with_part_value}
+use Rattle.v1_core.specs.Passes.{Held}
+use Rattle.v1_core.specs.Seats.{Start, slot_form, some_bits}
+use Rattle.v1_core.specs.Programs.{layout16, part_seat}
 
 -- the values of a frame between two blocks, in which no variable is in scope
 abbrev pub numbered_of : Frame → Numbered

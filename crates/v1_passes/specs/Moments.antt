@@ -1,9 +1,9 @@
 -- As a block of a program begins, by the packed frame of the packet (this project's own).
 use Rattle.std.specs.Prelude.{ℕ, List, None}
 use Rattle.state_store.specs.State.{Contents}
-use Rattle.p416_ast.specs.declared.program.Syntax16.{Syntax16}
-use Rattle.v1_sem.specs.Frames.{Moment}
-use Rattle.v1_frames.specs.Cells.{Cells}
+use Rattle.p416_syntax.specs.declared.program.Syntax16.{Syntax16}
+use Rattle.v1_core.specs.Frames.{Moment}
+use Rattle.v1_core.specs.Cells.{Cells}
 use Rattle.v1_packets.specs.Packets.{packet_frame}
 
 -- with this store, these octets that aren't parsed yet, those that were emitted, and this count of work: nothing stopped the

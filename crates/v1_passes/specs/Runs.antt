@@ -4,9 +4,9 @@ use Rattle.state_store.specs.State.{Contents}
 use Rattle.fabric.specs.declared.items.Event.{Event}
 use Rattle.fabric.specs.declared.packets.Arrival.{Arrival}
 use Rattle.fabric.specs.Fabric.{Whole, fabric, one_of, followed}
-use Rattle.v1_sem.specs.Surroundings.{Setting}
-use Rattle.v1_sem.specs.Runs.{machine16}
-use Rattle.v1_sem.specs.Passes.{Between}
+use Rattle.v1_core.specs.Surroundings.{Setting}
+use Rattle.v1_core.specs.Runs.{machine16}
+use Rattle.v1_core.specs.Passes.{Between}
 
 -- what stands between two packets, by its parts
 abbrev pub between_of : Contents → ℕ → List Event → Between

@@ -1,5 +1,5 @@
 -- What is preserved and what is held, with the program that it is of: the passes of one program take none of another's. The
--- machine over these does what that of v1_sem does (this project's own).
+-- machine over these does what that of v1_core does (this project's own).
 use Rattle.std.specs.Prelude.{◌≡◌, ℕ, refl, option_map}
 use Rattle.std.specs.Coded.{Coded, code_by, coded×}
 use Rattle.fabric.specs.declared.items.Item.{Item}
@@ -11,11 +11,11 @@ use Rattle.fabric.specs.declared.items.EgressNext.{EgressNext}
 use Rattle.fabric.specs.declared.items.EgressNext.TheVariants as after_egress
 use Rattle.fabric.specs.Fabric.{Machine}
 use Rattle.fabric.specs.Owned.{Own}
-use Rattle.p416_ast.specs.declared.program.Syntax16.{Syntax16}
-use Rattle.p416_ast.specs.contracts.program.Syntax16 as declaration
-use Rattle.v1_sem.specs.Values.{Value}
-use Rattle.v1_sem.specs.Surroundings.{Setting}
-use Rattle.v1_sem.specs.Passes.{Between, Held, none_preserved, ingress16, reparse16, egress16}
+use Rattle.p416_syntax.specs.declared.program.Syntax16.{Syntax16}
+use Rattle.p416_syntax.specs.contracts.program.Syntax16 as declaration
+use Rattle.v1_core.specs.Values.{Value}
+use Rattle.v1_core.specs.Surroundings.{Setting}
+use Rattle.v1_core.specs.Passes.{Between, Held, none_preserved, ingress16, reparse16, egress16}
 use Rattle.v1_passes.specs.Codes.{coded_value, coded_held}
 
 -- a value with the program that it is of

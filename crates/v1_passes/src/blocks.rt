@@ -1,20 +1,19 @@
 // What runs the blocks of a program.
 ghost use Rattle.std.specs.Prelude.{◌≡◌, ◌≤◌, [], length, drop, IfOk, OnOk};
 ghost use Rattle.state_store.specs.State.{Contents};
-ghost use Rattle.v1_sem.specs.Surroundings.{Setting};
-ghost use Rattle.v1_sem.specs.Parsing.{parse16};
-ghost use Rattle.v1_sem.specs.Blocks.{control16};
-ghost use Rattle.v1_frame_values.specs.Frames.{IsFrameOf};
+ghost use Rattle.v1_core.specs.Surroundings.{Setting};
+ghost use Rattle.v1_core.specs.Parsing.{parse16};
+ghost use Rattle.v1_core.specs.Blocks.{control16};
+ghost use Rattle.v1_core.specs.PackedFrames.{IsFrameOf};
 ghost use Rattle.v1_passes.specs.Moments.{moment_at};
 
 use p4x_bits::{Octets, OutOfMemory};
 use state_store::Store;
-use v1_frames::Frame;
+use v1_core::{Block, Frame, ParserError};
 use v1_packets::Packets;
-use v1_sem::{Block, ParserError};
 
 /// The end of parsing.
-#[derive(Clone, Copy, Debug, Drop)]
+#[derive(Clone, Copy, Drop)]
 pub struct ParseEnd {
     /// The error that stopped the parser; `NoError` where none did.
     pub error: ParserError,

@@ -1,9 +1,9 @@
 // What is kept between two passes, and what is held between ingress and egress.
 ghost use Rattle.std.specs.Prelude.{◌≡◌, ℕ, ◌<◌, ◌^◌, IfOk};
 ghost use Rattle.state_store.specs.Ports.{IsPort};
-ghost use Rattle.v1_sem.specs.Slots.{FramePart};
-ghost use Rattle.v1_frame_values.specs.Frames.{IsFrameOf};
-ghost use Rattle.v1_frame_values.specs.Programs.{layout16};
+ghost use Rattle.v1_core.specs.Slots.{FramePart};
+ghost use Rattle.v1_core.specs.PackedFrames.{IsFrameOf};
+ghost use Rattle.v1_core.specs.Programs.{layout16};
 ghost use Rattle.v1_pass_slots.specs.Starts.{metadata_start};
 ghost use Rattle.v1_packets.specs.Packets.{packet_frame, kept_value, AreFitting};
 ghost use Rattle.v1_passes.specs.Held.{HasSlot, IsBitsAt, SlotHolds, held_number, with_number};
@@ -11,7 +11,7 @@ ghost use Rattle.v1_passes.specs.Held.{HasSlot, IsBitsAt, SlotHolds, held_number
 use p4x_bits::{Octets, OutOfMemory};
 use std::alloc::Global;
 use std::marker::Model;
-use v1_frames::Frame;
+use v1_core::Frame;
 use v1_packets::Packets;
 
 /// What is preserved of the metadata of a packet, by the numbers in its slots, of which those that are 0 at the end needn't stand
@@ -23,8 +23,8 @@ pub struct Kept16<'r> {
 }
 
 impl<'r> Model for Kept16<'r> {
-    ghost use Rattle.v1_sem.specs.Values.{Value as Metadata};
-    ghost use Rattle.v1_frame_values.specs.Programs.{layout16};
+    ghost use Rattle.v1_core.specs.Values.{Value as Metadata};
+    ghost use Rattle.v1_core.specs.Programs.{layout16};
     ghost use Rattle.v1_pass_slots.specs.Starts.{metadata_start};
     ghost use Rattle.v1_packets.specs.Packets.{kept_value, AreFitting};
     ghost use Rattle.v1_passes.specs.Tags.{Tagged, coded_kept};
@@ -40,7 +40,6 @@ impl<'r> Model for Kept16<'r> {
 
 /// What is held of a packet between ingress and egress: its frame, the octets that weren't parsed, and the port of arrival.
 /// Contracts see the program and what is held. The frame stands in a box, so that little is moved where this is.
-#[derive(Drop)]
 pub struct Held16<'r> {
     pub(crate) packets: &'r Packets<'r>,
     pub(crate) frame: Box<Frame<'r>>,
@@ -48,10 +47,21 @@ pub struct Held16<'r> {
     pub(crate) port: u16,
 }
 
+impl Drop for Held16<'_> {
+    fn drop(self) {
+        let Held16 {
+            packets: _packets,
+            frame: _frame,
+            unparsed: _unparsed,
+            port: _port,
+        } = self;
+    }
+}
+
 impl<'r> Model for Held16<'r> {
     ghost use Rattle.state_store.specs.Ports.{IsPort};
-    ghost use Rattle.v1_sem.specs.Passes.{Held};
-    ghost use Rattle.v1_frame_values.specs.Frames.{IsFrameOf};
+    ghost use Rattle.v1_core.specs.Passes.{Held};
+    ghost use Rattle.v1_core.specs.PackedFrames.{IsFrameOf};
     ghost use Rattle.v1_packets.specs.Packets.{packet_frame};
     ghost use Rattle.v1_passes.specs.Tags.{Tagged, coded_hold};
 
@@ -89,10 +99,16 @@ impl<'r> Held16<'r> {
         ensures value { self.entry.value ≡ record { frame = packet_frame self.entry.program result.frame.value; unparsed = result.unparsed; port = result.port } }
         ensures port { IsPort result.port }
     {
+        let Held16 {
+            packets: _packets,
+            frame,
+            unparsed,
+            port,
+        } = self;
         HeldParts {
-            frame: self.frame,
-            unparsed: self.unparsed,
-            port: self.port,
+            frame,
+            unparsed,
+            port,
         }
     }
 

@@ -2,11 +2,11 @@
 ghost use Rattle.std.specs.Prelude.{◌≡◌, ℕ, ◌%◌, ◌^◌, ◌≤◌, ◌==◌, [], length, drop, IfOk, OnOk, option_map};
 ghost use Rattle.state_store.specs.Ports.{IsPort, drop_port};
 ghost use Rattle.fabric.specs.Owned.{IsOwnIngressNext};
-ghost use Rattle.v1_sem.specs.Surroundings.{Setting as Set};
-ghost use Rattle.v1_sem.specs.Parsing.{parse16};
-ghost use Rattle.v1_sem.specs.Passes.{Between, is_no_error, new_frame, verified_and_run, egress_spec, put_together};
-ghost use Rattle.v1_frame_values.specs.Frames.{IsFrameOf};
-ghost use Rattle.v1_frame_values.specs.Programs.{layout16};
+ghost use Rattle.v1_core.specs.Surroundings.{Setting as Set};
+ghost use Rattle.v1_core.specs.Parsing.{parse16};
+ghost use Rattle.v1_core.specs.Passes.{Between, is_no_error, new_frame, verified_and_run, egress_spec, put_together};
+ghost use Rattle.v1_core.specs.PackedFrames.{IsFrameOf};
+ghost use Rattle.v1_core.specs.Programs.{layout16};
 ghost use Rattle.v1_pass_slots.specs.Starts.{metadata_start};
 ghost use Rattle.v1_packets.specs.Packets.{packet_frame, kept_value, AreFitting};
 ghost use Rattle.v1_passes.specs.Moments.{moment_at};
@@ -22,12 +22,10 @@ use p4x_bits::{Octets, OutOfMemory, Rows};
 use state_store::{DROP_PORT, Store};
 use std::alloc::Global;
 use std::mem::replace;
-use v1_frames::Frame;
+use v1_core::{Block, Frame, ParserError};
 use v1_packets::Packets;
-use v1_sem::{Block, ParserError};
 
 /// The passes of a program, over what runs its blocks. After want of memory they aren't used again.
-#[derive(Drop)]
 pub struct Passes16<'r, B: Blocks<'r> + Drop> {
     alloc: Global,
     /// What runs the blocks, with the counters, registers and meters as the packets so far left them.
@@ -42,6 +40,20 @@ pub struct Passes16<'r, B: Blocks<'r> + Drop> {
     room: Octets,
     /// Others, for those of a packet that is put together.
     reused: Octets,
+}
+
+impl<'r, B: Blocks<'r> + Drop> Drop for Passes16<'r, B> {
+    fn drop(self) {
+        let Passes16 {
+            alloc: _alloc,
+            blocks: _blocks,
+            work: _work,
+            events: _events,
+            spare: _spare,
+            room: _room,
+            reused: _reused,
+        } = self;
+    }
 }
 
 /// How many octets of headers a packet has room for at once as it is put together.
@@ -398,7 +410,16 @@ impl<'r, B: Blocks<'r> + Drop> Passes16<'r, B> {
     pub fn into_store(self) -> Store
         ensures { result ≡ B.store self.entry.blocks }
     {
-        self.blocks.into_store()
+        let Passes16 {
+            alloc: _alloc,
+            blocks,
+            work: _work,
+            events: _events,
+            spare: _spare,
+            room: _room,
+            reused: _reused,
+        } = self;
+        blocks.into_store()
     }
 
     /// How many statements and transitions began so far, modulo 2^64.

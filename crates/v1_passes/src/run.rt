@@ -5,9 +5,9 @@ ghost use Rattle.match_core.specs.Stores.{first_store};
 ghost use Rattle.fabric.specs.Numbers.{IsBound, HasPort};
 ghost use Rattle.fabric.specs.declared.packets.Arrival.{Arrival as Came};
 ghost use Rattle.fabric.specs.Fabric.{fabric};
-ghost use Rattle.v1_sem.specs.Surroundings.{Setting};
-ghost use Rattle.v1_sem.specs.Signatures.{signature16};
-ghost use Rattle.v1_sem.specs.Runs.{Run16, Work16, machine16, before};
+ghost use Rattle.v1_core.specs.Surroundings.{Setting};
+ghost use Rattle.v1_core.specs.Signatures.{signature16};
+ghost use Rattle.v1_core.specs.Runs.{Run16, Work16, machine16, before};
 ghost use Rattle.v1_passes.specs.Runs.{between_of, run_on};
 
 use crate::blocks::Blocks;

@@ -3,14 +3,14 @@ use Rattle.std.proofs.Common.{◌≡◌, ℕ, zero, suc, ◌+◌, ◌*◌, ◌<�
 use Rattle.std.specs.Prelude.{option_map}
 use Rattle.std.specs.Str.{bytes_eq}
 use Rattle.std.proofs.lemmas.Bool.{ltb-true, eqb-false}
-use Rattle.p416_rules.specs.Names.{Name}
-use Rattle.p416_rules.specs.Scopes.{Layout as TypeLayout, FieldKind, fields_in}
-use Rattle.v1_sem.specs.Values.{to_member}
-use Rattle.v1_frame_values.specs.Seats.{header_form, Start, moved, Seat, seat, field_form, field_seat, element_seat, stepped_seat}
-use Rattle.v1_frame_values.proofs.Making.{same_start}
-use Rattle.v1_ready_expressions.specs.declared.node.Which.{Which}
-use Rattle.v1_ready_expressions.specs.declared.node.Which.TheVariants.{Next, Last}
-use Rattle.v1_ready_expressions.specs.Ready.{element_by, is_past}
+use Rattle.p416_syntax.specs.Names.{Name}
+use Rattle.p416_syntax.specs.Scopes.{Layout as TypeLayout, FieldKind, fields_in}
+use Rattle.v1_core.specs.Values.{to_member}
+use Rattle.v1_core.specs.Seats.{header_form, Start, moved, Seat, seat, field_form, field_seat, element_seat, stepped_seat}
+use Rattle.v1_core.proofs.Making.{same_start}
+use Rattle.v1_core.specs.declared.node.Which.{Which}
+use Rattle.v1_core.specs.declared.node.Which.TheVariants.{Next, Last}
+use Rattle.v1_core.specs.Ready.{element_by, is_past}
 use Rattle.v1_place_laws.specs.Finding.{in_element}
 
 next_moved : (b : Start) (fields j : ℕ) → moved (moved b fields 1 0) (j * fields) j 0 ≡ moved b (suc j * fields) (suc j) 0

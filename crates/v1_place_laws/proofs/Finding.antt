@@ -2,31 +2,31 @@
 use Rattle.std.proofs.Common.{◌≡◌, ℕ, zero, suc, ◌-◌, ◌<◌, ◌≤◌, ◌==◌, nat_lt, not, Bool, true, false, cond, Option, Some, None, IfSome, is_some, List, [], ◌∷◌, length, refl, sym, ap, ◌∙◌, subst}
 use Rattle.std.specs.Prelude.{option_map}
 use Rattle.std.specs.Str.{bytes_eq}
-use Rattle.p416_ast.specs.declared.program.Syntax16.{Syntax16}
-use Rattle.p416_ast.specs.Tree.{Exp16, literal, truth, error, name, member, index, slice, call, lookahead, cast, unary, binary, choice, parenthesized, no_arguments, argument, listed}
-use Rattle.p416_rules.specs.Names.{Name}
-use Rattle.p416_rules.specs.Kinds.{Kind, bits, unsized, boolean, error_code, header, stack, struct, packet_in, packet_out, errors, enumeration, one_of, table, applied, object, items, nothing, unknown}
-use Rattle.p416_rules.specs.Scopes.{Layout as TypeLayout, FieldKind, fields_in, Scope}
-use Rattle.p416_rules.specs.Declarations.{layouts_of}
-use Rattle.p416_rules.specs.Expressions.{kind_of}
-use Rattle.p416_rules.specs.Breaks.{BreaksNone, program_rules}
-use Rattle.v1_sem.specs.declared.parser_error.ParserError.TheVariants.{StackOutOfBounds}
-use Rattle.v1_sem.specs.Values.{Value, a_stack, place_in, elements_in, Step, to_member, to_element, Slice}
-use Rattle.v1_sem.specs.Frames.{Frame, Moment, raised, Reference, stepped, cut_to, sliced_to, place_value, within_slice, read}
-use Rattle.v1_sem.specs.Surroundings.{Surroundings, quiet_world, named}
-use Rattle.v1_sem.specs.Numbered.{InScope, frame_in}
-use Rattle.v1_sem.specs.Expressions.{element_by as element_by16, is_last, is_beyond, bounded, slice_of, Referred, referred, member_reference, reference_of}
-use Rattle.v1_frames.specs.Cells.{Cells, stack_place, stack_size}
-use Rattle.v1_frame_values.specs.Seats.{Form, slot_form, header_form, stack_form, struct_form, no_form, field_form, field_seat, Start, moved, Seat, seat, stepped_seat}
-use Rattle.v1_frame_values.specs.Values.{element_values, value_from}
-use Rattle.v1_frame_values.specs.Programs.{frame_kinds, numbered16}
-use Rattle.v1_frame_values.specs.Frames.{IsFrameOf}
-use Rattle.v1_frame_values.proofs.Reading.{by_truth}
-use Rattle.v1_frame_values.proofs.Named.{meant_read}
-use Rattle.v1_frame_values.proofs.Laws.{part_read}
-use Rattle.v1_ready_expressions.specs.declared.node.Which.{Which}
-use Rattle.v1_ready_expressions.specs.declared.node.Which.TheVariants.{Next, Last}
-use Rattle.v1_ready_expressions.specs.Ready.{element_by, is_past}
+use Rattle.p416_syntax.specs.declared.program.Syntax16.{Syntax16}
+use Rattle.p416_syntax.specs.Tree.{Exp16, literal, truth, error, name, member, index, slice, call, lookahead, cast, unary, binary, choice, parenthesized, no_arguments, argument, listed}
+use Rattle.p416_syntax.specs.Names.{Name}
+use Rattle.p416_syntax.specs.Kinds.{Kind, bits, unsized, boolean, error_code, header, stack, struct, packet_in, packet_out, errors, enumeration, one_of, table, applied, object, items, nothing, unknown}
+use Rattle.p416_syntax.specs.Scopes.{Layout as TypeLayout, FieldKind, fields_in, Scope}
+use Rattle.p416_syntax.specs.Declarations.{layouts_of}
+use Rattle.p416_syntax.specs.Expressions.{kind_of}
+use Rattle.p416_syntax.specs.Breaks.{BreaksNone, program_rules}
+use Rattle.v1_core.specs.declared.parser_error.ParserError.TheVariants.{StackOutOfBounds}
+use Rattle.v1_core.specs.Values.{Value, a_stack, place_in, elements_in, Step, to_member, to_element, Slice}
+use Rattle.v1_core.specs.Frames.{Frame, Moment, raised, Reference, stepped, cut_to, sliced_to, place_value, within_slice, read}
+use Rattle.v1_core.specs.Surroundings.{Surroundings, quiet_world, named}
+use Rattle.v1_core.specs.Numbered.{InScope, frame_in}
+use Rattle.v1_core.specs.Expressions.{element_by as element_by16, is_last, is_beyond, bounded, slice_of, Referred, referred, member_reference, reference_of}
+use Rattle.v1_core.specs.Cells.{Cells, stack_place, stack_size}
+use Rattle.v1_core.specs.Seats.{Form, slot_form, header_form, stack_form, struct_form, no_form, field_form, field_seat, Start, moved, Seat, seat, stepped_seat}
+use Rattle.v1_core.specs.PackedValues.{element_values, value_from}
+use Rattle.v1_core.specs.Programs.{frame_kinds, numbered16}
+use Rattle.v1_core.specs.PackedFrames.{IsFrameOf}
+use Rattle.v1_core.proofs.Reading.{by_truth}
+use Rattle.v1_core.proofs.Named.{meant_read}
+use Rattle.v1_core.proofs.Laws.{part_read}
+use Rattle.v1_core.specs.declared.node.Which.{Which}
+use Rattle.v1_core.specs.declared.node.Which.TheVariants.{Next, Last}
+use Rattle.v1_core.specs.Ready.{element_by, is_past}
 use Rattle.v1_ready_forms.specs.Named.{NamedSeat, seat_of_name, seats_in}
 use Rattle.v1_ready_forms.specs.Ways.{which_of}
 use Rattle.v1_ready_forms.specs.Spots.{Told, Spot, spot, spot_with, spot_behind, told_in, told_spot}

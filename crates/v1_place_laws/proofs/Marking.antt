@@ -1,26 +1,26 @@
 -- What is read of an l-value, and headers that become valid or invalid.
 use Rattle.std.proofs.Common.{◌≡◌, ℕ, Bool, true, false, cond, Option, Some, None, List, [], ◌∷◌, length, map, refl, sym, ap, ◌∙◌, subst}
-use Rattle.p416_ast.specs.declared.program.Syntax16.{Syntax16}
-use Rattle.p416_rules.specs.Names.{Name}
-use Rattle.p416_rules.specs.Scopes.{FieldKind, fields_in}
-use Rattle.p416_rules.specs.Totals.{bits_in}
-use Rattle.p416_rules.specs.Declarations.{layouts_of}
-use Rattle.v1_sem.specs.Values.{Field, Value, a_header, Header, header_in, cleared, cleared_field, Slice}
-use Rattle.v1_sem.specs.Numbers.{is_same_truth}
-use Rattle.v1_sem.specs.Frames.{Frame, Moment, Reference, place_value, within_slice, read, around_slice, write}
-use Rattle.v1_sem.specs.Slots.{FramePart, variable_kinds}
-use Rattle.v1_sem.specs.Numbered.{Numbered, InScope, frame_in, part_meant, part_value, with_part_value, made_valid}
-use Rattle.v1_sem.specs.HeaderCalls.{validated, set_valid, set_invalid}
-use Rattle.v1_frames.specs.Cells.{Cells, slot_value, header_valid, with_validity}
-use Rattle.v1_frame_values.specs.Seats.{Form, header_form, Start, moved, Seat}
-use Rattle.v1_frame_values.specs.Values.{field_values, header_value, seat_value}
-use Rattle.v1_frame_values.specs.Laid.{AreFields}
-use Rattle.v1_frame_values.specs.Programs.{part_seat, numbered16}
-use Rattle.v1_frame_values.specs.Frames.{IsFrameOf}
-use Rattle.v1_frame_values.specs.Scopes.{IsScope}
-use Rattle.v1_frame_values.proofs.Reading.{read_once}
-use Rattle.v1_frame_values.proofs.Named.{meant_read, meant_write}
-use Rattle.v1_frame_values.proofs.Laws.{part_put, part_read, validity_put}
+use Rattle.p416_syntax.specs.declared.program.Syntax16.{Syntax16}
+use Rattle.p416_syntax.specs.Names.{Name}
+use Rattle.p416_syntax.specs.Scopes.{FieldKind, fields_in}
+use Rattle.p416_syntax.specs.Totals.{bits_in}
+use Rattle.p416_syntax.specs.Declarations.{layouts_of}
+use Rattle.v1_core.specs.Values.{Field, Value, a_header, Header, header_in, cleared, cleared_field, Slice}
+use Rattle.v1_core.specs.Numbers.{is_same_truth}
+use Rattle.v1_core.specs.Frames.{Frame, Moment, Reference, place_value, within_slice, read, around_slice, write}
+use Rattle.v1_core.specs.Slots.{FramePart, variable_kinds}
+use Rattle.v1_core.specs.Numbered.{Numbered, InScope, frame_in, part_meant, part_value, with_part_value, made_valid}
+use Rattle.v1_core.specs.HeaderCalls.{validated, set_valid, set_invalid}
+use Rattle.v1_core.specs.Cells.{Cells, slot_value, header_valid, with_validity}
+use Rattle.v1_core.specs.Seats.{Form, header_form, Start, moved, Seat}
+use Rattle.v1_core.specs.PackedValues.{field_values, header_value, seat_value}
+use Rattle.v1_core.specs.Laid.{AreFields}
+use Rattle.v1_core.specs.Programs.{part_seat, numbered16}
+use Rattle.v1_core.specs.PackedFrames.{IsFrameOf}
+use Rattle.v1_core.specs.Scopes.{IsScope}
+use Rattle.v1_core.proofs.Reading.{read_once}
+use Rattle.v1_core.proofs.Named.{meant_read, meant_write}
+use Rattle.v1_core.proofs.Laws.{part_put, part_read, validity_put}
 use Rattle.v1_place_laws.specs.Finding.{IsAt}
 use Rattle.v1_place_laws.proofs.Writing.{variables_counted}
 

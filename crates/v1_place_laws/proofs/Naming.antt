@@ -1,16 +1,16 @@
 -- What a name means as an l-value.
 use Rattle.std.proofs.Common.{◌≡◌, Bool, true, false, cond, Option, Some, None, IfSome, List, [], ◌∷◌, ◌++◌, map, refl, sym, ap, ◌∙◌, subst, append_assoc}
 use Rattle.std.specs.Str.{bytes_eq}
-use Rattle.p416_ast.specs.declared.program.Syntax16.{Syntax16}
-use Rattle.p416_rules.specs.Names.{Name}
-use Rattle.v1_sem.specs.Values.{Value, has_member, to_member}
-use Rattle.v1_sem.specs.Frames.{Owner, of_headers, of_metadata, of_standard, of_variables, of_inner, of_nothing, Reference, whole, stepped}
-use Rattle.v1_sem.specs.Slots.{PartOwner, the_headers, the_metadata, the_standard, the_variable, FramePart, part_with}
-use Rattle.v1_sem.specs.Surroundings.{Root, Surroundings, by_root, named}
-use Rattle.v1_sem.specs.Numbered.{Numbered, Variable, InScope, named_values, frame_in, number_of, part_behind, part_meant}
-use Rattle.v1_frame_values.specs.Seats.{Seat, seat_behind}
-use Rattle.v1_frame_values.specs.Programs.{owner_seat, part_seat}
-use Rattle.v1_frame_values.proofs.Reading.{by_truth}
+use Rattle.p416_syntax.specs.declared.program.Syntax16.{Syntax16}
+use Rattle.p416_syntax.specs.Names.{Name}
+use Rattle.v1_core.specs.Values.{Value, has_member, to_member}
+use Rattle.v1_core.specs.Frames.{Owner, of_headers, of_metadata, of_standard, of_variables, of_inner, of_nothing, Reference, whole, stepped}
+use Rattle.v1_core.specs.Slots.{PartOwner, the_headers, the_metadata, the_standard, the_variable, FramePart, part_with}
+use Rattle.v1_core.specs.Surroundings.{Root, Surroundings, by_root, named}
+use Rattle.v1_core.specs.Numbered.{Numbered, Variable, InScope, named_values, frame_in, number_of, part_behind, part_meant}
+use Rattle.v1_core.specs.Seats.{Seat, seat_behind}
+use Rattle.v1_core.specs.Programs.{owner_seat, part_seat}
+use Rattle.v1_core.proofs.Reading.{by_truth}
 use Rattle.v1_ready_forms.specs.Named.{NamedSeat, seat_of_name, root_seat, seat_of_root, seat_of_variable, seats_in}
 use Rattle.v1_place_laws.specs.Finding.{IsAt}
 

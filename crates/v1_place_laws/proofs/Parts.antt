@@ -1,14 +1,14 @@
 -- A step further from a part of a frame.
 use Rattle.std.proofs.Common.{◌≡◌, ℕ, Option, Some, None, List, [], ◌∷◌, ◌++◌, refl, sym, ap, ◌∙◌}
-use Rattle.p416_ast.specs.declared.program.Syntax16.{Syntax16}
-use Rattle.p416_rules.specs.Scopes.{Layout as TypeLayout}
-use Rattle.p416_rules.specs.Declarations.{layouts_of}
-use Rattle.v1_sem.specs.Values.{Step, to_member, to_element, Slice}
-use Rattle.v1_sem.specs.Frames.{Owner, of_headers, of_metadata, of_standard, of_variables, of_inner, of_nothing, Reference, stepped}
-use Rattle.v1_sem.specs.Slots.{the_variable, FramePart, part_with}
-use Rattle.v1_sem.specs.Numbered.{Variable, InScope, number_of, part_behind, variable_part, part_meant}
-use Rattle.v1_frame_values.specs.Seats.{Seat, stepped_seat, seat_behind, seat_at}
-use Rattle.v1_frame_values.specs.Programs.{owner_seat, part_seat}
+use Rattle.p416_syntax.specs.declared.program.Syntax16.{Syntax16}
+use Rattle.p416_syntax.specs.Scopes.{Layout as TypeLayout}
+use Rattle.p416_syntax.specs.Declarations.{layouts_of}
+use Rattle.v1_core.specs.Values.{Step, to_member, to_element, Slice}
+use Rattle.v1_core.specs.Frames.{Owner, of_headers, of_metadata, of_standard, of_variables, of_inner, of_nothing, Reference, stepped}
+use Rattle.v1_core.specs.Slots.{the_variable, FramePart, part_with}
+use Rattle.v1_core.specs.Numbered.{Variable, InScope, number_of, part_behind, variable_part, part_meant}
+use Rattle.v1_core.specs.Seats.{Seat, stepped_seat, seat_behind, seat_at}
+use Rattle.v1_core.specs.Programs.{owner_seat, part_seat}
 use Rattle.v1_place_laws.specs.Finding.{IsAt}
 
 abbrev pub further_part : Step → FramePart → FramePart

@@ -2,26 +2,26 @@
 use Rattle.std.proofs.Common.{◌≡◌, ℕ, suc, ◌%◌, ◌^◌, ◌<◌, ◌≤◌, ◌==◌, min, not, Bool, true, false, Option, Some, None, IfSome, List, [], ◌∷◌, length, refl, sym, ap, ◌∙◌, subst, arith}
 use Rattle.std.specs.Prelude.{option_map}
 use Rattle.p4x_bits.specs.BitLists.{bit}
-use Rattle.p416_ast.specs.declared.program.Syntax16.{Syntax16}
-use Rattle.p416_rules.specs.Kinds.{Kind}
-use Rattle.p416_rules.specs.Scopes.{Layout as TypeLayout}
-use Rattle.p416_rules.specs.Declarations.{layouts_of}
-use Rattle.p416_rules.specs.Breaks.{BreaksNone, program_rules}
-use Rattle.p416_rules.specs.BuiltIn.{standard}
-use Rattle.p416_rules.specs.Main.{headers_kind, metadata_kind}
-use Rattle.v1_sem.specs.Values.{Value, a_number, as_number, number_in, Step, fitted, spliced}
-use Rattle.v1_sem.specs.Values as value
-use Rattle.v1_sem.specs.Frames.{Reference, around_slice, write}
-use Rattle.v1_sem.specs.Slots.{FramePart, variable_kinds}
-use Rattle.v1_sem.specs.Numbered.{Numbered, InScope, owner_value, frame_in, part_meant, part_value, with_part_value}
-use Rattle.v1_frames.specs.Cells.{Cells, slot_value}
-use Rattle.v1_frame_values.specs.Seats.{Content, some_bits, a_truth, an_error, slot_form, Form, Start, form_of, behind, Seat, stepped_seat, seat_behind, seat_at}
-use Rattle.v1_frame_values.specs.Values.{content_value, value_from}
-use Rattle.v1_frame_values.specs.Programs.{slot_width as width_of_content, layout16, frame_kinds, first_start, owner_seat, part_seat, numbered16, values_from}
-use Rattle.v1_frame_values.specs.Frames.{IsFrameOf}
-use Rattle.v1_frame_values.specs.Scopes.{IsScope}
-use Rattle.v1_frame_values.proofs.Named.{meant_write}
-use Rattle.v1_frame_values.proofs.Laws.{part_read, slot_put}
+use Rattle.p416_syntax.specs.declared.program.Syntax16.{Syntax16}
+use Rattle.p416_syntax.specs.Kinds.{Kind}
+use Rattle.p416_syntax.specs.Scopes.{Layout as TypeLayout}
+use Rattle.p416_syntax.specs.Declarations.{layouts_of}
+use Rattle.p416_syntax.specs.Breaks.{BreaksNone, program_rules}
+use Rattle.p416_syntax.specs.BuiltIn.{standard}
+use Rattle.p416_syntax.specs.Main.{headers_kind, metadata_kind}
+use Rattle.v1_core.specs.Values.{Value, a_number, as_number, number_in, Step, fitted, spliced}
+use Rattle.v1_core.specs.Values as value
+use Rattle.v1_core.specs.Frames.{Reference, around_slice, write}
+use Rattle.v1_core.specs.Slots.{FramePart, variable_kinds}
+use Rattle.v1_core.specs.Numbered.{Numbered, InScope, owner_value, frame_in, part_meant, part_value, with_part_value}
+use Rattle.v1_core.specs.Cells.{Cells, slot_value}
+use Rattle.v1_core.specs.Seats.{Content, some_bits, a_truth, an_error, slot_form, Form, Start, form_of, behind, Seat, stepped_seat, seat_behind, seat_at}
+use Rattle.v1_core.specs.PackedValues.{content_value, value_from}
+use Rattle.v1_core.specs.Programs.{slot_width as width_of_content, layout16, frame_kinds, first_start, owner_seat, part_seat, numbered16, values_from}
+use Rattle.v1_core.specs.PackedFrames.{IsFrameOf}
+use Rattle.v1_core.specs.Scopes.{IsScope}
+use Rattle.v1_core.proofs.Named.{meant_write}
+use Rattle.v1_core.proofs.Laws.{part_read, slot_put}
 use Rattle.v1_ready_laws.specs.Widths.{IsNarrow, KindsNarrow, TypesNarrow}
 use Rattle.v1_ready_laws.proofs.Steps.{Stands, Leads, step_leads}
 use Rattle.v1_ready_laws.proofs.Named.{At, owner_stands}

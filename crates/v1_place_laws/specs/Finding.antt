@@ -1,17 +1,17 @@
 -- What finding an l-value gives: a part of a frame with its seat, or the error that there is in place of an element that its
 -- stack hasn't (P4_16 1.2, "L-values", "Operations on header stacks").
 use Rattle.std.specs.Prelude.{◌≡◌, ℕ, ◌+◌, ◌*◌, if◌then◌else◌, Option, Some, None, option_map}
-use Rattle.p416_ast.specs.declared.program.Syntax16.{Syntax16}
-use Rattle.v1_sem.specs.declared.parser_error.ParserError.TheVariants.{StackOutOfBounds}
-use Rattle.v1_sem.specs.Values.{Slice}
-use Rattle.v1_sem.specs.Frames.{Moment, Reference}
-use Rattle.v1_sem.specs.Slots.{FramePart}
-use Rattle.v1_sem.specs.Numbered.{InScope, part_meant}
-use Rattle.v1_sem.specs.Expressions.{Referred}
-use Rattle.v1_frames.specs.Cells.{Cells, stack_place, stack_size}
-use Rattle.v1_frame_values.specs.Seats.{moved, Seat}
-use Rattle.v1_frame_values.specs.Programs.{part_seat}
-use Rattle.v1_ready_expressions.specs.Ready.{element_by, is_past}
+use Rattle.p416_syntax.specs.declared.program.Syntax16.{Syntax16}
+use Rattle.v1_core.specs.declared.parser_error.ParserError.TheVariants.{StackOutOfBounds}
+use Rattle.v1_core.specs.Values.{Slice}
+use Rattle.v1_core.specs.Frames.{Moment, Reference}
+use Rattle.v1_core.specs.Slots.{FramePart}
+use Rattle.v1_core.specs.Numbered.{InScope, part_meant}
+use Rattle.v1_core.specs.Expressions.{Referred}
+use Rattle.v1_core.specs.Cells.{Cells, stack_place, stack_size}
+use Rattle.v1_core.specs.Seats.{moved, Seat}
+use Rattle.v1_core.specs.Programs.{part_seat}
+use Rattle.v1_core.specs.Ready.{element_by, is_past}
 use Rattle.v1_ready_forms.specs.Spots.{Told, Spot}
 use Rattle.v1_ready_laws.specs.Asked.{stopped_by}
 use Rattle.v1_place_laws.specs.Places.{Meant}

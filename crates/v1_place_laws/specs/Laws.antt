@@ -1,26 +1,26 @@
 -- That ready l-values are where the l-values of a program are, and that what is read, written and marked there is what is read,
 -- written and marked in the frame.
 use Rattle.std.specs.Prelude.{◌≡◌, ◌<◌, ℕ, Bool, true, false, length, Option, None, option_map, IfSome}
-use Rattle.p416_ast.specs.declared.program.Syntax16.{Syntax16}
-use Rattle.p416_ast.specs.Tree.{Exp16}
-use Rattle.p416_rules.specs.Names.{Name}
-use Rattle.p416_rules.specs.Scopes.{Scope}
-use Rattle.p416_rules.specs.Declarations.{layouts_of}
-use Rattle.p416_rules.specs.Breaks.{BreaksNone, program_rules}
-use Rattle.v1_sem.specs.Values.{Value, as_number, number_in}
-use Rattle.v1_sem.specs.Values as value
-use Rattle.v1_sem.specs.Frames.{Moment, Reference, within_slice, read, write}
-use Rattle.v1_sem.specs.Slots.{variable_kinds}
-use Rattle.v1_sem.specs.Surroundings.{Surroundings}
-use Rattle.v1_sem.specs.Numbered.{InScope, frame_in}
-use Rattle.v1_sem.specs.Expressions.{reference_of}
-use Rattle.v1_sem.specs.HeaderCalls.{set_valid, set_invalid}
-use Rattle.v1_frames.specs.Cells.{Cells, with_validity}
-use Rattle.v1_frame_values.specs.Seats.{Content, some_bits, a_truth, an_error, slot_form, header_form, Seat}
-use Rattle.v1_frame_values.specs.Values.{seat_value}
-use Rattle.v1_frame_values.specs.Programs.{numbered16}
-use Rattle.v1_frame_values.specs.Frames.{IsFrameOf}
-use Rattle.v1_frame_values.specs.Scopes.{IsScope}
+use Rattle.p416_syntax.specs.declared.program.Syntax16.{Syntax16}
+use Rattle.p416_syntax.specs.Tree.{Exp16}
+use Rattle.p416_syntax.specs.Names.{Name}
+use Rattle.p416_syntax.specs.Scopes.{Scope}
+use Rattle.p416_syntax.specs.Declarations.{layouts_of}
+use Rattle.p416_syntax.specs.Breaks.{BreaksNone, program_rules}
+use Rattle.v1_core.specs.Values.{Value, as_number, number_in}
+use Rattle.v1_core.specs.Values as value
+use Rattle.v1_core.specs.Frames.{Moment, Reference, within_slice, read, write}
+use Rattle.v1_core.specs.Slots.{variable_kinds}
+use Rattle.v1_core.specs.Surroundings.{Surroundings}
+use Rattle.v1_core.specs.Numbered.{InScope, frame_in}
+use Rattle.v1_core.specs.Expressions.{reference_of}
+use Rattle.v1_core.specs.HeaderCalls.{set_valid, set_invalid}
+use Rattle.v1_core.specs.Cells.{Cells, with_validity}
+use Rattle.v1_core.specs.Seats.{Content, some_bits, a_truth, an_error, slot_form, header_form, Seat}
+use Rattle.v1_core.specs.PackedValues.{seat_value}
+use Rattle.v1_core.specs.Programs.{numbered16}
+use Rattle.v1_core.specs.PackedFrames.{IsFrameOf}
+use Rattle.v1_core.specs.Scopes.{IsScope}
 use Rattle.v1_ready_forms.specs.Named.{seats_in}
 use Rattle.v1_ready_blocks.specs.declared.places.Slice.{Slice}
 use Rattle.v1_ready_blocks.specs.Places.{seen_slice, put_value}

@@ -1,15 +1,15 @@
 -- Where an l-value stands in the frames of a program, and which bits of it are meant, where it is a slice (P4_16 1.2,
 -- "L-values", "Operations on headers", "Operations on header stacks", "Operations on struct types").
 use Rattle.std.specs.Prelude.{◌-◌, List, Option, Some, None}
-use Rattle.p416_ast.specs.Tree.{Exp16, name, member, index, slice}
-use Rattle.p416_rules.specs.Names.{Name}
-use Rattle.p416_rules.specs.Kinds.{Kind, stack}
-use Rattle.p416_rules.specs.Scopes.{Layout, Scope}
-use Rattle.p416_rules.specs.Expressions.{kind_of}
-use Rattle.v1_sem.specs.Values.{to_member, to_element, Slice}
-use Rattle.v1_sem.specs.Frames.{cut_to}
-use Rattle.v1_sem.specs.Expressions.{slice_of}
-use Rattle.v1_frame_values.specs.Seats.{some_bits, Form, slot_form, header_form, stack_form, struct_form, Start, behind_seat, Seat}
+use Rattle.p416_syntax.specs.Tree.{Exp16, name, member, index, slice}
+use Rattle.p416_syntax.specs.Names.{Name}
+use Rattle.p416_syntax.specs.Kinds.{Kind, stack}
+use Rattle.p416_syntax.specs.Scopes.{Layout, Scope}
+use Rattle.p416_syntax.specs.Expressions.{kind_of}
+use Rattle.v1_core.specs.Values.{to_member, to_element, Slice}
+use Rattle.v1_core.specs.Frames.{cut_to}
+use Rattle.v1_core.specs.Expressions.{slice_of}
+use Rattle.v1_core.specs.Seats.{some_bits, Form, slot_form, header_form, stack_form, struct_form, Start, behind_seat, Seat}
 use Rattle.v1_ready_forms.specs.Named.{NamedSeat, seat_of_name}
 use Rattle.v1_ready_forms.specs.Ways.{which_of}
 use Rattle.v1_ready_forms.specs.Spots.{Told, Spot, spot_with, spot_behind, told_spot, element_with}

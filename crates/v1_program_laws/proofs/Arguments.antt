@@ -7,18 +7,18 @@ use Rattle.std.specs.Str.{bytes_eq}
 use Rattle.std.proofs.lemmas.Bool.{eqb-true, leb-false}
 use Rattle.std.proofs.lemmas.List.{length-append}
 use Rattle.std.proofs.Math.Nat.{mod-eq_of_lt}
-use Rattle.p416_lexemes.specs.declared.lexeme.Literal16.{Literal16}
-use Rattle.p416_ast.specs.Tree.{Exp16, literal, truth, error, name, member, index, slice, call, lookahead, cast, unary, binary, choice, parenthesized, no_arguments, argument, listed}
-use Rattle.p416_rules.specs.Kinds.{Kind, bits, boolean}
-use Rattle.p416_rules.specs.Scopes.{Part, in_parser, in_apply, in_action, in_key, elsewhere, Scope}
-use Rattle.p416_rules.specs.Calls.{Place, literal_of, unasked, parser_position}
-use Rattle.p416_rules.specs.Expressions.{kind_of, argument_count}
-use Rattle.p416_rules.specs.Uses.{Use, uses_at, uses, many, arguments_of}
-use Rattle.p416_rules.specs.Types.{takes}
-use Rattle.p416_rules.specs.Literals.{is_over, is_too_large}
-use Rattle.p416_rules.specs.Externs.{is_some_position, is_allowed_at, are_allowed, is_action_part, is_parser_part, clone_positions, first_clone_positions}
-use Rattle.v1_sem.specs.Values.{number_in}
-use Rattle.v1_sem.specs.Expressions.{literal_width, literal_number}
+use Rattle.p416_syntax.specs.declared.lexeme.Literal16.{Literal16}
+use Rattle.p416_syntax.specs.Tree.{Exp16, literal, truth, error, name, member, index, slice, call, lookahead, cast, unary, binary, choice, parenthesized, no_arguments, argument, listed}
+use Rattle.p416_syntax.specs.Kinds.{Kind, bits, boolean}
+use Rattle.p416_syntax.specs.Scopes.{Part, in_parser, in_apply, in_action, in_key, elsewhere, Scope}
+use Rattle.p416_syntax.specs.Calls.{Place, literal_of, unasked, parser_position}
+use Rattle.p416_syntax.specs.Expressions.{kind_of, argument_count}
+use Rattle.p416_syntax.specs.Uses.{Use, uses_at, uses, many, arguments_of}
+use Rattle.p416_syntax.specs.Types.{takes}
+use Rattle.p416_syntax.specs.Literals.{is_over, is_too_large}
+use Rattle.p416_syntax.specs.Externs.{is_some_position, is_allowed_at, are_allowed, is_action_part, is_parser_part, clone_positions, first_clone_positions}
+use Rattle.v1_core.specs.Values.{number_in}
+use Rattle.v1_core.specs.Expressions.{literal_width, literal_number}
 use Rattle.v1_block_laws.proofs.Tests.{left_true, right_true, at_end}
 use Rattle.v1_program_laws.specs.Rules.{InParser}
 

@@ -1,23 +1,23 @@
 -- Assignments, and variables with initial values, in a parser.
 use Rattle.std.proofs.Common.{◌≡◌, ℕ, ◌+◌, ◌≤◌, true, Option, Some, None, IfSome, List, [], ◌∷◌, ◌++◌, length, refl, sym, ◌∙◌, subst}
 use Rattle.std.specs.Prelude.{option_map, option_and_then}
-use Rattle.p416_ast.specs.declared.parts.Type16.{Type16}
-use Rattle.p416_ast.specs.Tree.{Exp16, literal, truth, error, name, member, index, slice, call, lookahead, cast, unary, binary, choice, parenthesized, no_arguments, argument, listed, assign, var_is}
-use Rattle.p416_rules.specs.Names.{Name}
-use Rattle.p416_rules.specs.Kinds.{Kind, boolean}
-use Rattle.p416_rules.specs.Scopes.{a_value, Scope, kind_of_type}
-use Rattle.p416_rules.specs.Calls.{Place, value, target, a_stack, method_signature}
-use Rattle.p416_rules.specs.Expressions.{kind_of, can_write}
-use Rattle.p416_rules.specs.Uses.{Use, an_expression, a_number, owner_place, chosen_place, uses}
-use Rattle.p416_rules.specs.Statements.{assigned_place}
-use Rattle.p416_rules.specs.Breaks.{BreaksNone, program_rules}
-use Rattle.v1_sem.specs.Values.{Slice}
-use Rattle.v1_sem.specs.Slots.{the_variable, variable_kinds}
-use Rattle.v1_sem.specs.Surroundings as meaning
-use Rattle.v1_sem.specs.Numbered.{InScope}
-use Rattle.v1_frames.specs.Cells.{Cells}
-use Rattle.v1_frame_values.specs.Seats.{Content, Form, slot_form, header_form, stack_form, struct_form, no_form, form_of, Seat}
-use Rattle.v1_frame_values.specs.Programs.{owner_seat}
+use Rattle.p416_syntax.specs.declared.parts.Type16.{Type16}
+use Rattle.p416_syntax.specs.Tree.{Exp16, literal, truth, error, name, member, index, slice, call, lookahead, cast, unary, binary, choice, parenthesized, no_arguments, argument, listed, assign, var_is}
+use Rattle.p416_syntax.specs.Names.{Name}
+use Rattle.p416_syntax.specs.Kinds.{Kind, boolean}
+use Rattle.p416_syntax.specs.Scopes.{a_value, Scope, kind_of_type}
+use Rattle.p416_syntax.specs.Calls.{Place, value, target, a_stack, method_signature}
+use Rattle.p416_syntax.specs.Expressions.{kind_of, can_write}
+use Rattle.p416_syntax.specs.Uses.{Use, an_expression, a_number, owner_place, chosen_place, uses}
+use Rattle.p416_syntax.specs.Statements.{assigned_place}
+use Rattle.p416_syntax.specs.Breaks.{BreaksNone, program_rules}
+use Rattle.v1_core.specs.Values.{Slice}
+use Rattle.v1_core.specs.Slots.{the_variable, variable_kinds}
+use Rattle.v1_core.specs.Surroundings as meaning
+use Rattle.v1_core.specs.Numbered.{InScope}
+use Rattle.v1_core.specs.Cells.{Cells}
+use Rattle.v1_core.specs.Seats.{Content, Form, slot_form, header_form, stack_form, struct_form, no_form, form_of, Seat}
+use Rattle.v1_core.specs.Programs.{owner_seat}
 use Rattle.v1_ready_forms.specs.Named.{NamedSeat, seats_in}
 use Rattle.v1_ready_laws.specs.Rules.{KeepsAll, Keeps, SortSeated}
 use Rattle.v1_ready_blocks.specs.Tests.{World, Test}

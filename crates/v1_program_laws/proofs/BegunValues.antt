@@ -1,27 +1,27 @@
 -- The initial value of a variable of a block, which is a single one.
 use Rattle.std.proofs.Common.{◌≡◌, ℕ, Option, Some, None, IfSome, List, [], length, refl, sym, ap, ◌∙◌, subst}
 use Rattle.std.specs.Prelude.{option_map, option_and_then}
-use Rattle.p416_ast.specs.declared.parsers.Var.{Var}
-use Rattle.p416_ast.specs.Tree.{Exp16}
-use Rattle.p416_rules.specs.Kinds.{Kind}
-use Rattle.p416_rules.specs.Scopes.{kind_of_type}
-use Rattle.p416_rules.specs.Calls.{value}
-use Rattle.p416_rules.specs.Expressions.{kind_of}
-use Rattle.p416_rules.specs.Breaks.{BreaksNone, program_rules}
-use Rattle.p416_rules.specs.Declarations.{layouts_of}
-use Rattle.v1_sem.specs.Values.{to_member}
-use Rattle.v1_sem.specs.Frames as sem
-use Rattle.v1_sem.specs.Frames.{Reference, of_variables, whole, stepped}
-use Rattle.v1_sem.specs.Slots.{the_variable, part_with, variable_kinds}
-use Rattle.v1_sem.specs.Surroundings as meaning
-use Rattle.v1_sem.specs.Numbered.{InScope, number_of, part_behind}
-use Rattle.v1_sem.specs.Expressions as sem_expressions
-use Rattle.v1_sem.specs.Expressions.{value_of}
-use Rattle.v1_sem.specs.Blocks.{with_value, with_initial}
-use Rattle.v1_frames.specs.Cells.{Cells}
-use Rattle.v1_frame_values.specs.Seats.{Content, Form, slot_form, form_of, Seat, seat_behind, seat_at}
-use Rattle.v1_frame_values.specs.Programs.{owner_seat}
-use Rattle.v1_frame_values.specs.Scopes.{IsScope}
+use Rattle.p416_syntax.specs.declared.parsers.Var.{Var}
+use Rattle.p416_syntax.specs.Tree.{Exp16}
+use Rattle.p416_syntax.specs.Kinds.{Kind}
+use Rattle.p416_syntax.specs.Scopes.{kind_of_type}
+use Rattle.p416_syntax.specs.Calls.{value}
+use Rattle.p416_syntax.specs.Expressions.{kind_of}
+use Rattle.p416_syntax.specs.Breaks.{BreaksNone, program_rules}
+use Rattle.p416_syntax.specs.Declarations.{layouts_of}
+use Rattle.v1_core.specs.Values.{to_member}
+use Rattle.v1_core.specs.Frames as sem
+use Rattle.v1_core.specs.Frames.{Reference, of_variables, whole, stepped}
+use Rattle.v1_core.specs.Slots.{the_variable, part_with, variable_kinds}
+use Rattle.v1_core.specs.Surroundings as meaning
+use Rattle.v1_core.specs.Numbered.{InScope, number_of, part_behind}
+use Rattle.v1_core.specs.Expressions as sem_expressions
+use Rattle.v1_core.specs.Expressions.{value_of}
+use Rattle.v1_core.specs.Blocks.{with_value, with_initial}
+use Rattle.v1_core.specs.Cells.{Cells}
+use Rattle.v1_core.specs.Seats.{Content, Form, slot_form, form_of, Seat, seat_behind, seat_at}
+use Rattle.v1_core.specs.Programs.{owner_seat}
+use Rattle.v1_core.specs.Scopes.{IsScope}
 use Rattle.v1_ready_forms.specs.Named.{NamedSeat, seats_in}
 use Rattle.v1_ready_laws.specs.Rules.{Keeps}
 use Rattle.v1_ready_blocks.specs.declared.places.SlotPlace.TheVariants as slot_place

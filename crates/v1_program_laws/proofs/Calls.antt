@@ -4,26 +4,26 @@ use Rattle.std.specs.Prelude.{option_map, option_and_then, codes}
 use Rattle.std.specs.List.{list_any}
 use Rattle.std.specs.Option.{option_map_or}
 use Rattle.std.specs.Str.{bytes_eq}
-use Rattle.p416_ast.specs.Tree.{Exp16, literal, truth, error, name, member, index, slice, call, lookahead, cast, unary, binary, choice, parenthesized, no_arguments, argument, listed, expression}
-use Rattle.p416_rules.specs.Names.{Name}
-use Rattle.p416_rules.specs.Kinds.{ObjectKind, counter, direct_counter, register, meter, Kind, bits, unsized, boolean, error_code, header, stack, struct, packet_in, packet_out, errors, enumeration, one_of, table, applied, object, items, nothing, unknown, is_header}
-use Rattle.p416_rules.specs.Scopes.{Sort, a_type, a_value, an_enumeration, a_function, an_object, an_action, a_table, a_state, a_block, undeclared, Scope, sort_of}
-use Rattle.p416_rules.specs.Calls.{Place, literal_of, parser_position, verify_position, ingress_position, egress_position, compute_position, deparser_position, index_place, in_pipelines, written_bits, any_bits, emitted, written_header, statement, callee, owner, unasked, Signature, extern_at, counts_by_entry, method, function_signature, method_signature}
-use Rattle.p416_rules.specs.Expressions.{kind_of, sort_signature, signature_of, argument_count}
-use Rattle.p416_rules.specs.Uses.{Use, an_expression, owner_by, wanted_by, uses_at, uses, many, arguments_of}
-use Rattle.p416_rules.specs.Types.{is_mistyped}
-use Rattle.p416_rules.specs.Literals.{overflows}
-use Rattle.p416_rules.specs.Arguments.{takes_other_count, is_miscounted}
-use Rattle.p416_rules.specs.Externs.{may_stand, stands_elsewhere, is_some_position, is_outside_block}
-use Rattle.p416_rules.specs.Breaks.{BreaksNone, program_rules}
-use Rattle.v1_sem.specs.Frames as sem
-use Rattle.v1_sem.specs.Slots.{variable_kinds}
-use Rattle.v1_sem.specs.Surroundings as meaning
-use Rattle.v1_sem.specs.Numbered.{InScope}
-use Rattle.v1_sem.specs.Expressions.{name_in, value_of}
-use Rattle.v1_sem.specs.Calls.{call_statement}
-use Rattle.v1_frames.specs.Cells.{Cells}
-use Rattle.v1_frame_values.specs.Scopes.{IsScope}
+use Rattle.p416_syntax.specs.Tree.{Exp16, literal, truth, error, name, member, index, slice, call, lookahead, cast, unary, binary, choice, parenthesized, no_arguments, argument, listed, expression}
+use Rattle.p416_syntax.specs.Names.{Name}
+use Rattle.p416_syntax.specs.Kinds.{ObjectKind, counter, direct_counter, register, meter, Kind, bits, unsized, boolean, error_code, header, stack, struct, packet_in, packet_out, errors, enumeration, one_of, table, applied, object, items, nothing, unknown, is_header}
+use Rattle.p416_syntax.specs.Scopes.{Sort, a_type, a_value, an_enumeration, a_function, an_object, an_action, a_table, a_state, a_block, undeclared, Scope, sort_of}
+use Rattle.p416_syntax.specs.Calls.{Place, literal_of, parser_position, verify_position, ingress_position, egress_position, compute_position, deparser_position, index_place, in_pipelines, written_bits, any_bits, emitted, written_header, statement, callee, owner, unasked, Signature, extern_at, counts_by_entry, method, function_signature, method_signature}
+use Rattle.p416_syntax.specs.Expressions.{kind_of, sort_signature, signature_of, argument_count}
+use Rattle.p416_syntax.specs.Uses.{Use, an_expression, owner_by, wanted_by, uses_at, uses, many, arguments_of}
+use Rattle.p416_syntax.specs.Types.{is_mistyped}
+use Rattle.p416_syntax.specs.Literals.{overflows}
+use Rattle.p416_syntax.specs.Arguments.{takes_other_count, is_miscounted}
+use Rattle.p416_syntax.specs.Externs.{may_stand, stands_elsewhere, is_some_position, is_outside_block}
+use Rattle.p416_syntax.specs.Breaks.{BreaksNone, program_rules}
+use Rattle.v1_core.specs.Frames as sem
+use Rattle.v1_core.specs.Slots.{variable_kinds}
+use Rattle.v1_core.specs.Surroundings as meaning
+use Rattle.v1_core.specs.Numbered.{InScope}
+use Rattle.v1_core.specs.Expressions.{name_in, value_of}
+use Rattle.v1_core.specs.Calls.{call_statement}
+use Rattle.v1_core.specs.Cells.{Cells}
+use Rattle.v1_core.specs.Scopes.{IsScope}
 use Rattle.v1_ready_forms.specs.Named.{NamedSeat, seats_in}
 use Rattle.v1_ready_forms.specs.Ways.{its_value}
 use Rattle.v1_ready_forms.specs.Expressions.{asked_ready}

@@ -5,28 +5,28 @@ use Rattle.std.specs.List.{list_any}
 use Rattle.std.specs.Option.{option_map_or}
 use Rattle.std.specs.Str.{bytes_eq}
 use Rattle.std.proofs.lemmas.Slice.Eq.{bytes_eq-Decides}
-use Rattle.p416_ast.specs.declared.parsers.Var.{Var}
-use Rattle.p416_ast.specs.declared.controls.Local.{Local}
-use Rattle.p416_ast.specs.declared.controls.Local.TheVariants as local
-use Rattle.p416_ast.specs.declared.controls.Control16.{Control16}
-use Rattle.p416_ast.specs.declared.program.Decl16.TheVariants as decl
-use Rattle.p416_ast.specs.Tree.{Exp16}
-use Rattle.p416_rules.specs.Names.{Name, has_name, repeats}
-use Rattle.p416_rules.specs.Scopes.{Known, called_of, Scope, kind_of_type, known_parameter}
-use Rattle.p416_rules.specs.Calls.{value}
-use Rattle.p416_rules.specs.Uses.{Use, of_variable, of_block_parameter, names_of_scope, some_counters, type_uses, uses}
-use Rattle.p416_rules.specs.Declarations.{known_local, control_names, parameter_uses, local_uses, var_uses, body_uses, control_uses, counters_in, tables_in}
-use Rattle.p416_rules.specs.Main.{positions_of}
-use Rattle.p416_rules.specs.Unknown.{declared_name}
-use Rattle.p416_rules.specs.Breaks.{BreaksNone, program_rules, scope_of, uses_in, program_uses}
-use Rattle.v1_sem.specs.declared.block.Block.{Block}
-use Rattle.v1_sem.specs.Frames as sem
-use Rattle.v1_sem.specs.Slots.{variable_kinds, local_kinds, kinds_in}
-use Rattle.v1_sem.specs.Surroundings as meaning
-use Rattle.v1_sem.specs.Surroundings.{Setting}
-use Rattle.v1_sem.specs.Numbered.{Variable, InScope, number_of}
-use Rattle.v1_sem.specs.Blocks.{around_control, control_world, control_at, with_initial}
-use Rattle.v1_frames.specs.Cells.{Cells}
+use Rattle.p416_syntax.specs.declared.parsers.Var.{Var}
+use Rattle.p416_syntax.specs.declared.controls.Local.{Local}
+use Rattle.p416_syntax.specs.declared.controls.Local.TheVariants as local
+use Rattle.p416_syntax.specs.declared.controls.Control16.{Control16}
+use Rattle.p416_syntax.specs.declared.program.Decl16.TheVariants as decl
+use Rattle.p416_syntax.specs.Tree.{Exp16}
+use Rattle.p416_syntax.specs.Names.{Name, has_name, repeats}
+use Rattle.p416_syntax.specs.Scopes.{Known, called_of, Scope, kind_of_type, known_parameter}
+use Rattle.p416_syntax.specs.Calls.{value}
+use Rattle.p416_syntax.specs.Uses.{Use, of_variable, of_block_parameter, names_of_scope, some_counters, type_uses, uses}
+use Rattle.p416_syntax.specs.Declarations.{known_local, control_names, parameter_uses, local_uses, var_uses, body_uses, control_uses, counters_in, tables_in}
+use Rattle.p416_syntax.specs.Main.{positions_of}
+use Rattle.p416_syntax.specs.Unknown.{declared_name}
+use Rattle.p416_syntax.specs.Breaks.{BreaksNone, program_rules, scope_of, uses_in, program_uses}
+use Rattle.v1_core.specs.declared.block.Block.{Block}
+use Rattle.v1_core.specs.Frames as sem
+use Rattle.v1_core.specs.Slots.{variable_kinds, local_kinds, kinds_in}
+use Rattle.v1_core.specs.Surroundings as meaning
+use Rattle.v1_core.specs.Surroundings.{Setting}
+use Rattle.v1_core.specs.Numbered.{Variable, InScope, number_of}
+use Rattle.v1_core.specs.Blocks.{around_control, control_world, control_at, with_initial}
+use Rattle.v1_core.specs.Cells.{Cells}
 use Rattle.v1_ready_blocks.specs.Moments.{Moment}
 use Rattle.v1_ready_blocks.specs.Tests.{World}
 use Rattle.v1_ready_blocks.specs.Statements.{Statement, run}

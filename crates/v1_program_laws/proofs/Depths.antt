@@ -10,15 +10,15 @@ use Rattle.std.proofs.lemmas.Map.Made.{length-le_from_is_member}
 use Rattle.std.proofs.lemmas.List.{length-map, length-append}
 use Rattle.std.proofs.lemmas.List.Sums.{sum_by-cons}
 use Rattle.digraph.specs.Graphs.{Among, IsEdge, Edge, Onward, Walk, Reaches, OnCycle}
-use Rattle.p416_ast.specs.declared.parts.Struct16.{Struct16}
-use Rattle.p416_ast.specs.declared.program.Decl16.{Decl16}
-use Rattle.p416_ast.specs.declared.program.Decl16.TheVariants as decl
-use Rattle.p416_rules.specs.Names.{Name, has_name}
-use Rattle.p416_rules.specs.Kinds.{Kind, bits, unsized, boolean, error_code, header, stack, struct, packet_in, packet_out, errors, enumeration, one_of, table, applied, object, items, nothing, unknown, is_struct}
-use Rattle.p416_rules.specs.Scopes.{Known, called_of, Layout as TypeLayout, FieldKind, fields_in}
-use Rattle.p416_rules.specs.BuiltIn.{standard, standard_name, standard_layout, built_in}
-use Rattle.p416_rules.specs.Declarations.{top_names, bit_field, layout_in, layouts_of}
-use Rattle.p416_rules.specs.Unknown.{declares_twice, declared_name, declaration_number, struct_graph}
+use Rattle.p416_syntax.specs.declared.parts.Struct16.{Struct16}
+use Rattle.p416_syntax.specs.declared.program.Decl16.{Decl16}
+use Rattle.p416_syntax.specs.declared.program.Decl16.TheVariants as decl
+use Rattle.p416_syntax.specs.Names.{Name, has_name}
+use Rattle.p416_syntax.specs.Kinds.{Kind, bits, unsized, boolean, error_code, header, stack, struct, packet_in, packet_out, errors, enumeration, one_of, table, applied, object, items, nothing, unknown, is_struct}
+use Rattle.p416_syntax.specs.Scopes.{Known, called_of, Layout as TypeLayout, FieldKind, fields_in}
+use Rattle.p416_syntax.specs.BuiltIn.{standard, standard_name, standard_layout, built_in}
+use Rattle.p416_syntax.specs.Declarations.{top_names, bit_field, layout_in, layouts_of}
+use Rattle.p416_syntax.specs.Unknown.{declares_twice, declared_name, declaration_number, struct_graph}
 use Rattle.p416_names.specs.internal.Tables.{fields_of}
 use Rattle.p416_type_totals.proofs.Deepening.{held_at}
 use Rattle.p416_type_totals.proofs.Finding.{IsDeclared, IsUndeclared, finds, own_fields, not_built_in, same_name}

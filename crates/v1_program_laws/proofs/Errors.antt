@@ -1,22 +1,22 @@
 -- The slot of `parser_error` has an error in it.
 use Rattle.std.proofs.Common.{◌≡◌, ℕ, zero, suc, ◌^◌, ◌<◌, Option, Some, None, IfSome, List, get_or, refl, sym, ap, ◌∙◌, subst, arith}
 use Rattle.std.specs.Prelude.{codes}
-use Rattle.p416_ast.specs.declared.program.Syntax16.{Syntax16}
-use Rattle.p416_rules.specs.BuiltIn.{standard_name, standard_layout}
-use Rattle.p416_rules.specs.Scopes.{FieldKind, Layout as TypeLayout, fields_in}
-use Rattle.p416_rules.specs.Declarations.{layouts_of}
-use Rattle.p416_rules.specs.Breaks.{BreaksNone, program_rules}
-use Rattle.v1_sem.specs.declared.parser_error.ParserError.{ParserError}
-use Rattle.v1_sem.specs.declared.parser_error.ParserError.TheVariants.{NoError, PacketTooShort, StackOutOfBounds, NoMatch}
-use Rattle.v1_sem.specs.Values.{to_member}
-use Rattle.v1_sem.specs.Frames as sem
-use Rattle.v1_sem.specs.Frames.{error_number}
-use Rattle.v1_sem.specs.Surroundings.{Setting}
-use Rattle.v1_sem.specs.Numbered.{nobody}
-use Rattle.v1_sem.specs.Parsing as parsing
-use Rattle.v1_frames.specs.Layouts.{Layout}
-use Rattle.v1_frame_values.specs.Seats.{an_error, Form, slot_form, struct_form, Start, behind, Seat, member_seat, stepped_seat, seat_behind}
-use Rattle.v1_frame_values.specs.Programs.{layout16, part_seat}
+use Rattle.p416_syntax.specs.declared.program.Syntax16.{Syntax16}
+use Rattle.p416_syntax.specs.BuiltIn.{standard_name, standard_layout}
+use Rattle.p416_syntax.specs.Scopes.{FieldKind, Layout as TypeLayout, fields_in}
+use Rattle.p416_syntax.specs.Declarations.{layouts_of}
+use Rattle.p416_syntax.specs.Breaks.{BreaksNone, program_rules}
+use Rattle.v1_core.specs.declared.parser_error.ParserError.{ParserError}
+use Rattle.v1_core.specs.declared.parser_error.ParserError.TheVariants.{NoError, PacketTooShort, StackOutOfBounds, NoMatch}
+use Rattle.v1_core.specs.Values.{to_member}
+use Rattle.v1_core.specs.Frames as sem
+use Rattle.v1_core.specs.Frames.{error_number}
+use Rattle.v1_core.specs.Surroundings.{Setting}
+use Rattle.v1_core.specs.Numbered.{nobody}
+use Rattle.v1_core.specs.Parsing as parsing
+use Rattle.v1_core.specs.Layouts.{Layout}
+use Rattle.v1_core.specs.Seats.{an_error, Form, slot_form, struct_form, Start, behind, Seat, member_seat, stepped_seat, seat_behind}
+use Rattle.v1_core.specs.Programs.{layout16, part_seat}
 use Rattle.v1_ready_laws.specs.Widths.{IsWide}
 use Rattle.v1_ready_laws.proofs.Steps.{Stands}
 use Rattle.v1_ready_laws.proofs.Accepted.{accepted_narrow}

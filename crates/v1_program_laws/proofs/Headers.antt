@@ -5,19 +5,19 @@ use Rattle.std.specs.List.{list_any, sum_by}
 use Rattle.std.proofs.lemmas.Bool.{eqb-true}
 use Rattle.std.proofs.lemmas.List.Sums.{sum_by-cons}
 use Rattle.std.proofs.lemmas.List.Folds.{list_any-append}
-use Rattle.p416_ast.specs.declared.parts.BitField.{BitField}
-use Rattle.p416_ast.specs.declared.program.Decl16.{Decl16}
-use Rattle.p416_ast.specs.declared.program.Decl16.TheVariants as decl
-use Rattle.p416_ast.specs.declared.program.Syntax16.{Syntax16}
-use Rattle.p416_rules.specs.Names.{Name}
-use Rattle.p416_rules.specs.Scopes.{FieldKind, fields_in}
-use Rattle.p416_rules.specs.Uses.{Use}
-use Rattle.p416_rules.specs.Sizes.{bits_of_field, has_bad_width, is_no_octets, leaves_size}
-use Rattle.p416_rules.specs.Declarations.{bit_field, field_width, layouts_of}
-use Rattle.p416_rules.specs.Breaks.{BreaksNone, program_rules, has_use, scope_of, SomeDeclaration, IsBroken, uses_in, program_uses}
-use Rattle.v1_sem.specs.Slots.{FramePart}
-use Rattle.v1_frame_values.specs.Seats.{Form, slot_form, header_form, stack_form, struct_form, no_form, Seat}
-use Rattle.v1_frame_values.specs.Programs.{part_seat}
+use Rattle.p416_syntax.specs.declared.parts.BitField.{BitField}
+use Rattle.p416_syntax.specs.declared.program.Decl16.{Decl16}
+use Rattle.p416_syntax.specs.declared.program.Decl16.TheVariants as decl
+use Rattle.p416_syntax.specs.declared.program.Syntax16.{Syntax16}
+use Rattle.p416_syntax.specs.Names.{Name}
+use Rattle.p416_syntax.specs.Scopes.{FieldKind, fields_in}
+use Rattle.p416_syntax.specs.Uses.{Use}
+use Rattle.p416_syntax.specs.Sizes.{bits_of_field, has_bad_width, is_no_octets, leaves_size}
+use Rattle.p416_syntax.specs.Declarations.{bit_field, field_width, layouts_of}
+use Rattle.p416_syntax.specs.Breaks.{BreaksNone, program_rules, has_use, scope_of, SomeDeclaration, IsBroken, uses_in, program_uses}
+use Rattle.v1_core.specs.Slots.{FramePart}
+use Rattle.v1_core.specs.Seats.{Form, slot_form, header_form, stack_form, struct_form, no_form, Seat}
+use Rattle.v1_core.specs.Programs.{part_seat}
 use Rattle.v1_deed_laws.specs.Forms.{total_bits, IsEmitted}
 use Rattle.v1_block_laws.proofs.Tests.{first_false, second_false, in_front, at_end}
 use Rattle.v1_block_laws.proofs.Accepted.{main_kept}

@@ -7,29 +7,29 @@ use Rattle.std.specs.Str.{bytes_eq}
 use Rattle.std.proofs.lemmas.Slice.Eq.{bytes_eq-Decides}
 use Rattle.std.proofs.lemmas.Grind.{flat_map-append}
 use Rattle.std.proofs.lemmas.List.Folds.{list_any-append}
-use Rattle.p416_ast.specs.declared.parsers.Var.{Var}
-use Rattle.p416_ast.specs.declared.parsers.State.{State}
-use Rattle.p416_ast.specs.declared.parsers.Parser16.{Parser16}
-use Rattle.p416_ast.specs.declared.program.Decl16.{Decl16}
-use Rattle.p416_ast.specs.declared.program.Decl16.TheVariants as decl
-use Rattle.p416_ast.specs.declared.program.Syntax16.{Syntax16}
-use Rattle.p416_ast.specs.Tree.{Exp16, Stmt16, no_statements, then, block, empty, var, var_is, assign, expression, if_then, if_else, switch, no_cases, case_of}
-use Rattle.p416_rules.specs.Names.{Name, repeats}
-use Rattle.p416_rules.specs.Kinds.{boolean}
-use Rattle.p416_rules.specs.Scopes.{Known, called_of, Scope, kind_of_type, known_parameter}
-use Rattle.p416_rules.specs.Calls.{value, target, statement, parser_position}
-use Rattle.p416_rules.specs.Expressions.{kind_of}
-use Rattle.p416_rules.specs.Uses.{Use, of_variable, of_block_parameter, names_of_scope, a_body, type_uses, uses}
-use Rattle.p416_rules.specs.Statements.{behind, declared_in, nesting, Visit, visit, visits, assigned_place, own_uses, visit_uses, statement_uses}
-use Rattle.p416_rules.specs.Declarations.{top_names, layouts_of, known_var, known_state, parser_names, var_uses, body_uses, transition_uses, state_uses, parameter_uses, parser_uses}
-use Rattle.p416_rules.specs.Literals.{overflows}
-use Rattle.p416_rules.specs.Writes.{writes_constant}
-use Rattle.p416_rules.specs.Arguments.{is_miscounted}
-use Rattle.p416_rules.specs.Externs.{is_outside_block}
-use Rattle.p416_rules.specs.Unknown.{is_misnamed}
-use Rattle.p416_rules.specs.Main.{positions_from, positions_of, are_blocks, wanted_blocks, are_headers, is_metadata, headers_kind, metadata_kind}
-use Rattle.p416_rules.specs.Breaks.{BreaksNone, program_rules, has_use, scope_of, SomeDeclaration, IsBroken, uses_in, program_uses}
-use Rattle.v1_sem.specs.Parsing.{parser_of}
+use Rattle.p416_syntax.specs.declared.parsers.Var.{Var}
+use Rattle.p416_syntax.specs.declared.parsers.State.{State}
+use Rattle.p416_syntax.specs.declared.parsers.Parser16.{Parser16}
+use Rattle.p416_syntax.specs.declared.program.Decl16.{Decl16}
+use Rattle.p416_syntax.specs.declared.program.Decl16.TheVariants as decl
+use Rattle.p416_syntax.specs.declared.program.Syntax16.{Syntax16}
+use Rattle.p416_syntax.specs.Tree.{Exp16, Stmt16, no_statements, then, block, empty, var, var_is, assign, expression, if_then, if_else, switch, no_cases, case_of}
+use Rattle.p416_syntax.specs.Names.{Name, repeats}
+use Rattle.p416_syntax.specs.Kinds.{boolean}
+use Rattle.p416_syntax.specs.Scopes.{Known, called_of, Scope, kind_of_type, known_parameter}
+use Rattle.p416_syntax.specs.Calls.{value, target, statement, parser_position}
+use Rattle.p416_syntax.specs.Expressions.{kind_of}
+use Rattle.p416_syntax.specs.Uses.{Use, of_variable, of_block_parameter, names_of_scope, a_body, type_uses, uses}
+use Rattle.p416_syntax.specs.Statements.{behind, declared_in, nesting, Visit, visit, visits, assigned_place, own_uses, visit_uses, statement_uses}
+use Rattle.p416_syntax.specs.Declarations.{top_names, layouts_of, known_var, known_state, parser_names, var_uses, body_uses, transition_uses, state_uses, parameter_uses, parser_uses}
+use Rattle.p416_syntax.specs.Literals.{overflows}
+use Rattle.p416_syntax.specs.Writes.{writes_constant}
+use Rattle.p416_syntax.specs.Arguments.{is_miscounted}
+use Rattle.p416_syntax.specs.Externs.{is_outside_block}
+use Rattle.p416_syntax.specs.Unknown.{is_misnamed}
+use Rattle.p416_syntax.specs.Main.{positions_from, positions_of, are_blocks, wanted_blocks, are_headers, is_metadata, headers_kind, metadata_kind}
+use Rattle.p416_syntax.specs.Breaks.{BreaksNone, program_rules, has_use, scope_of, SomeDeclaration, IsBroken, uses_in, program_uses}
+use Rattle.v1_core.specs.Parsing.{parser_of}
 use Rattle.v1_block_laws.specs.Variables.{is_parser, scope_in_parser}
 use Rattle.v1_block_laws.specs.Keeping.{Each}
 use Rattle.v1_block_laws.proofs.Tests.{first_false, second_false, left_true, in_front, at_end}

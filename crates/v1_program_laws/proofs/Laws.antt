@@ -1,8 +1,8 @@
 -- The laws on the parser and on controls, put together as what runs ready blocks asks.
-use Rattle.p416_ast.specs.declared.program.Syntax16.{Syntax16}
-use Rattle.p416_rules.specs.Breaks.{BreaksNone, program_rules}
-use Rattle.v1_frame_values.specs.Seats.{Form, slot_form, header_form, stack_form, struct_form, no_form}
-use Rattle.v1_ready_steps.specs.Steps.{expressions_in, trees_of}
+use Rattle.p416_syntax.specs.declared.program.Syntax16.{Syntax16}
+use Rattle.p416_syntax.specs.Breaks.{BreaksNone, program_rules}
+use Rattle.v1_core.specs.Seats.{Form, slot_form, header_form, stack_form, struct_form, no_form}
+use Rattle.v1_statement_run.specs.Steps.{expressions_in, trees_of}
 use Rattle.v1_ready_states.specs.Rows.{parser_of}
 use Rattle.v1_block_run.specs.Blocks.{seen_block}
 use Rattle.v1_program_laws.specs.HeaderLaws as headers

@@ -1,14 +1,14 @@
 -- No stack tells anything in what is assigned, in what that is assigned to, and in initial values.
 use Rattle.std.proofs.Common.{◌≡◌, ◌||◌, Bool, true, false, cond, ap, subst}
 use Rattle.std.specs.List.{list_any}
-use Rattle.p416_ast.specs.Tree.{Exp16, literal, truth, error, name, member, index, slice, call, lookahead, cast, unary, binary, choice, parenthesized, no_arguments, argument, listed}
-use Rattle.p416_rules.specs.Kinds.{Kind, is_packet}
-use Rattle.p416_rules.specs.Scopes.{Scope}
-use Rattle.p416_rules.specs.Calls.{Place, value, target, unasked}
-use Rattle.p416_rules.specs.Expressions.{is_chosen}
-use Rattle.p416_rules.specs.Statements.{assigned_place}
-use Rattle.p416_rules.specs.Uses.{uses}
-use Rattle.p416_rules.specs.Writes.{writes_constant}
+use Rattle.p416_syntax.specs.Tree.{Exp16, literal, truth, error, name, member, index, slice, call, lookahead, cast, unary, binary, choice, parenthesized, no_arguments, argument, listed}
+use Rattle.p416_syntax.specs.Kinds.{Kind, is_packet}
+use Rattle.p416_syntax.specs.Scopes.{Scope}
+use Rattle.p416_syntax.specs.Calls.{Place, value, target, unasked}
+use Rattle.p416_syntax.specs.Expressions.{is_chosen}
+use Rattle.p416_syntax.specs.Statements.{assigned_place}
+use Rattle.p416_syntax.specs.Uses.{uses}
+use Rattle.p416_syntax.specs.Writes.{writes_constant}
 use Rattle.v1_statement_laws.specs.Meeting.{Judged}
 use Rattle.v1_call_laws.specs.Telling.{ToldNone}
 use Rattle.v1_call_laws.specs.Standing.{StandsIn}

@@ -3,28 +3,28 @@ use Rattle.std.proofs.Common.{◌≡◌, ℕ, not, Bool, true, false, cond, Opti
 use Rattle.std.specs.Prelude.{option_map, option_and_then, codes}
 use Rattle.std.specs.Option.{option_map_or}
 use Rattle.std.specs.Str.{bytes_eq}
-use Rattle.p416_ast.specs.Tree.{Exp16, member, call, expression}
-use Rattle.p416_rules.specs.Names.{Name}
-use Rattle.p416_rules.specs.Kinds.{Kind, bits, unsized, boolean, error_code, header, stack, struct, packet_in, packet_out, errors, enumeration, one_of, table, applied, object, items, nothing, unknown}
-use Rattle.p416_rules.specs.Scopes.{Scope}
-use Rattle.p416_rules.specs.Calls.{literal_of, emitted, written_header, statement, parser_position, deparser_position, Signature, method, extern_at, method_signature}
-use Rattle.p416_rules.specs.Expressions.{kind_of, signature_of}
-use Rattle.p416_rules.specs.Uses.{an_expression, wanted_by, arguments_of}
-use Rattle.p416_rules.specs.Types.{takes}
-use Rattle.p416_rules.specs.Literals.{overflows}
-use Rattle.p416_rules.specs.Externs.{stands_elsewhere, is_outside_block, are_allowed}
-use Rattle.p416_rules.specs.Breaks.{BreaksNone, program_rules}
-use Rattle.p416_rules.specs.Declarations.{layouts_of}
-use Rattle.v1_sem.specs.Frames as sem
-use Rattle.v1_sem.specs.Slots.{variable_kinds}
-use Rattle.v1_sem.specs.Surroundings as meaning
-use Rattle.v1_sem.specs.Numbered.{InScope}
-use Rattle.v1_sem.specs.Expressions.{name_in, value_of}
-use Rattle.v1_sem.specs.Externs.Packets as packets
-use Rattle.v1_sem.specs.Calls.{Given, value_at, arguments_from, method_call, call_statement}
-use Rattle.v1_frames.specs.Cells.{Cells}
-use Rattle.v1_frame_values.specs.Seats.{form_of}
-use Rattle.v1_frame_values.specs.Scopes.{IsScope}
+use Rattle.p416_syntax.specs.Tree.{Exp16, member, call, expression}
+use Rattle.p416_syntax.specs.Names.{Name}
+use Rattle.p416_syntax.specs.Kinds.{Kind, bits, unsized, boolean, error_code, header, stack, struct, packet_in, packet_out, errors, enumeration, one_of, table, applied, object, items, nothing, unknown}
+use Rattle.p416_syntax.specs.Scopes.{Scope}
+use Rattle.p416_syntax.specs.Calls.{literal_of, emitted, written_header, statement, parser_position, deparser_position, Signature, method, extern_at, method_signature}
+use Rattle.p416_syntax.specs.Expressions.{kind_of, signature_of}
+use Rattle.p416_syntax.specs.Uses.{an_expression, wanted_by, arguments_of}
+use Rattle.p416_syntax.specs.Types.{takes}
+use Rattle.p416_syntax.specs.Literals.{overflows}
+use Rattle.p416_syntax.specs.Externs.{stands_elsewhere, is_outside_block, are_allowed}
+use Rattle.p416_syntax.specs.Breaks.{BreaksNone, program_rules}
+use Rattle.p416_syntax.specs.Declarations.{layouts_of}
+use Rattle.v1_core.specs.Frames as sem
+use Rattle.v1_core.specs.Slots.{variable_kinds}
+use Rattle.v1_core.specs.Surroundings as meaning
+use Rattle.v1_core.specs.Numbered.{InScope}
+use Rattle.v1_core.specs.Expressions.{name_in, value_of}
+use Rattle.v1_core.specs.Externs.Packets as packets
+use Rattle.v1_core.specs.Calls.{Given, value_at, arguments_from, method_call, call_statement}
+use Rattle.v1_core.specs.Cells.{Cells}
+use Rattle.v1_core.specs.Seats.{form_of}
+use Rattle.v1_core.specs.Scopes.{IsScope}
 use Rattle.v1_ready_forms.specs.Named.{NamedSeat, seats_in}
 use Rattle.v1_ready_laws.specs.Rules.{NamesSeated}
 use Rattle.v1_block_laws.specs.Keeping.{Each, ArgumentsKeep}

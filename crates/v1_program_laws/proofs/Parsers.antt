@@ -1,19 +1,19 @@
 -- The parser of a program, made ready, does what that of the program does.
 use Rattle.std.proofs.Common.{◌≡◌, ℕ, ◌≤◌, Option, Some, None, IfSome, List, [], ◌∷◌, refl, subst, arith}
 use Rattle.std.specs.Prelude.{flat_map, codes}
-use Rattle.p416_ast.specs.declared.parsers.State.{State as Written}
-use Rattle.p416_ast.specs.declared.parsers.Parser16.{Parser16}
-use Rattle.p416_rules.specs.Names.{Name}
-use Rattle.p416_rules.specs.Scopes.{Scope}
-use Rattle.p416_rules.specs.Statements.{behind}
-use Rattle.p416_rules.specs.Declarations.{layouts_of}
-use Rattle.p416_rules.specs.Breaks.{BreaksNone, program_rules}
-use Rattle.v1_sem.specs.Slots.{variable_kinds, state_kinds}
-use Rattle.v1_sem.specs.Surroundings as meaning
-use Rattle.v1_sem.specs.Surroundings.{Setting}
-use Rattle.v1_sem.specs.Numbered.{Variable, nobody}
-use Rattle.v1_sem.specs.Parsing.{parser_of}
-use Rattle.v1_frame_values.specs.Programs.{part_seat}
+use Rattle.p416_syntax.specs.declared.parsers.State.{State as Written}
+use Rattle.p416_syntax.specs.declared.parsers.Parser16.{Parser16}
+use Rattle.p416_syntax.specs.Names.{Name}
+use Rattle.p416_syntax.specs.Scopes.{Scope}
+use Rattle.p416_syntax.specs.Statements.{behind}
+use Rattle.p416_syntax.specs.Declarations.{layouts_of}
+use Rattle.p416_syntax.specs.Breaks.{BreaksNone, program_rules}
+use Rattle.v1_core.specs.Slots.{variable_kinds, state_kinds}
+use Rattle.v1_core.specs.Surroundings as meaning
+use Rattle.v1_core.specs.Surroundings.{Setting}
+use Rattle.v1_core.specs.Numbered.{Variable, nobody}
+use Rattle.v1_core.specs.Parsing.{parser_of}
+use Rattle.v1_core.specs.Programs.{part_seat}
 use Rattle.v1_ready_forms.specs.Named.{NamedSeat}
 use Rattle.v1_ready_selects.specs.Rows.{number_of_state}
 use Rattle.v1_ready_selects.specs.Selects.{Transition}

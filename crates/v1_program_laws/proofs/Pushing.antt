@@ -4,30 +4,30 @@ use Rattle.std.specs.Prelude.{option_map, option_and_then, codes}
 use Rattle.std.specs.Str.{bytes_eq}
 use Rattle.std.proofs.Math.Nat.{mul-div_cancel}
 use Rattle.std.proofs.lemmas.Slice.Eq.{bytes_eq-Decides}
-use Rattle.p416_lexemes.specs.declared.lexeme.Literal16.{Literal16}
-use Rattle.p416_ast.specs.Tree.{Exp16, literal, member, call, expression}
-use Rattle.p416_rules.specs.Names.{Name}
-use Rattle.p416_rules.specs.Kinds.{Kind, bits, nothing, stack}
-use Rattle.p416_rules.specs.Scopes.{Layout as TypeLayout, fields_in, Scope}
-use Rattle.p416_rules.specs.Calls.{Place, literal_of, method, method_signature}
-use Rattle.p416_rules.specs.Expressions.{kind_of}
-use Rattle.p416_rules.specs.Uses.{arguments_of, wanted_by}
-use Rattle.p416_rules.specs.Breaks.{BreaksNone, program_rules}
-use Rattle.p416_rules.specs.Declarations.{layouts_of}
-use Rattle.v1_sem.specs.Values.{Value, a_stack, Header, number_in, place_in, elements_in, Slice}
-use Rattle.v1_sem.specs.Frames as sem
-use Rattle.v1_sem.specs.Frames.{Frame, Reference, read, put_at}
-use Rattle.v1_sem.specs.Slots.{variable_kinds}
-use Rattle.v1_sem.specs.Surroundings as meaning
-use Rattle.v1_sem.specs.Numbered.{InScope}
-use Rattle.v1_sem.specs.Expressions.{Referred, literal_number, reference_of}
-use Rattle.v1_sem.specs.HeaderCalls as sem_calls
-use Rattle.v1_sem.specs.HeaderCalls.{stack_call}
-use Rattle.v1_sem.specs.Calls.{arguments_from, number_at, method_call}
-use Rattle.v1_frames.specs.Cells.{Cells, stack_place}
-use Rattle.v1_frame_values.specs.Seats.{Form, stack_form, Start, Seat}
-use Rattle.v1_frame_values.specs.Values.{element_values}
-use Rattle.v1_frame_values.specs.Scopes.{IsScope}
+use Rattle.p416_syntax.specs.declared.lexeme.Literal16.{Literal16}
+use Rattle.p416_syntax.specs.Tree.{Exp16, literal, member, call, expression}
+use Rattle.p416_syntax.specs.Names.{Name}
+use Rattle.p416_syntax.specs.Kinds.{Kind, bits, nothing, stack}
+use Rattle.p416_syntax.specs.Scopes.{Layout as TypeLayout, fields_in, Scope}
+use Rattle.p416_syntax.specs.Calls.{Place, literal_of, method, method_signature}
+use Rattle.p416_syntax.specs.Expressions.{kind_of}
+use Rattle.p416_syntax.specs.Uses.{arguments_of, wanted_by}
+use Rattle.p416_syntax.specs.Breaks.{BreaksNone, program_rules}
+use Rattle.p416_syntax.specs.Declarations.{layouts_of}
+use Rattle.v1_core.specs.Values.{Value, a_stack, Header, number_in, place_in, elements_in, Slice}
+use Rattle.v1_core.specs.Frames as sem
+use Rattle.v1_core.specs.Frames.{Frame, Reference, read, put_at}
+use Rattle.v1_core.specs.Slots.{variable_kinds}
+use Rattle.v1_core.specs.Surroundings as meaning
+use Rattle.v1_core.specs.Numbered.{InScope}
+use Rattle.v1_core.specs.Expressions.{Referred, literal_number, reference_of}
+use Rattle.v1_core.specs.HeaderCalls as sem_calls
+use Rattle.v1_core.specs.HeaderCalls.{stack_call}
+use Rattle.v1_core.specs.Calls.{arguments_from, number_at, method_call}
+use Rattle.v1_core.specs.Cells.{Cells, stack_place}
+use Rattle.v1_core.specs.Seats.{Form, stack_form, Start, Seat}
+use Rattle.v1_core.specs.PackedValues.{element_values}
+use Rattle.v1_core.specs.Scopes.{IsScope}
 use Rattle.v1_ready_forms.specs.Named.{NamedSeat, seats_in}
 use Rattle.v1_ready_forms.specs.Spots.{Told}
 use Rattle.v1_ready_laws.specs.Rules.{NamesSeated}

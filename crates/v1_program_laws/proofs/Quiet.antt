@@ -1,14 +1,14 @@
 -- Where nothing may apply a table nothing does (T8).
 use Rattle.std.proofs.Common.{◌≡◌, ◌||◌, ◌&&◌, Bool, true, false, List, [], ◌∷◌, ◌++◌, get_or, refl, sym, ◌∙◌}
 use Rattle.std.specs.List.{list_any}
-use Rattle.p416_ast.specs.Tree.{Exp16, literal, truth, error, name, member, index, slice, call, lookahead, cast, unary, binary, choice, parenthesized, no_arguments, argument, listed}
-use Rattle.p416_rules.specs.Scopes.{Scope}
-use Rattle.p416_rules.specs.Kinds.{Kind, bits, unsized, boolean, error_code, header, stack, struct, packet_in, packet_out, errors, enumeration, one_of, table, applied, object, items, nothing, unknown}
-use Rattle.p416_rules.specs.Calls.{Place, value, any_bits, a_stack, callee, unasked, method_signature}
-use Rattle.p416_rules.specs.Expressions.{kind_of, signature_of, argument_count}
-use Rattle.p416_rules.specs.Uses.{Use, an_expression, a_number, one, many, chosen_place, unary_place, left_place, right_place, cast_place, owner_place, wanted_by, cast_numbers, uses, uses_at, arguments_of}
-use Rattle.p416_rules.specs.Applications as rules
-use Rattle.p416_rules.specs.Applications.{applies_nothing, applies_wrongly}
+use Rattle.p416_syntax.specs.Tree.{Exp16, literal, truth, error, name, member, index, slice, call, lookahead, cast, unary, binary, choice, parenthesized, no_arguments, argument, listed}
+use Rattle.p416_syntax.specs.Scopes.{Scope}
+use Rattle.p416_syntax.specs.Kinds.{Kind, bits, unsized, boolean, error_code, header, stack, struct, packet_in, packet_out, errors, enumeration, one_of, table, applied, object, items, nothing, unknown}
+use Rattle.p416_syntax.specs.Calls.{Place, value, any_bits, a_stack, callee, unasked, method_signature}
+use Rattle.p416_syntax.specs.Expressions.{kind_of, signature_of, argument_count}
+use Rattle.p416_syntax.specs.Uses.{Use, an_expression, a_number, one, many, chosen_place, unary_place, left_place, right_place, cast_place, owner_place, wanted_by, cast_numbers, uses, uses_at, arguments_of}
+use Rattle.p416_syntax.specs.Applications as rules
+use Rattle.p416_syntax.specs.Applications.{applies_nothing, applies_wrongly}
 use Rattle.v1_ready_laws.proofs.Rules.{first_false, front_none, rest_none}
 use Rattle.v1_ready_statements.specs.Tested.{is_applied, is_application, applies}
 use Rattle.v1_ready_statements.specs.Given.{any_applies}

@@ -2,33 +2,33 @@
 use Rattle.std.proofs.Common.{◌≡◌, ℕ, zero, suc, ◌&&◌, Bool, true, false, cond, Option, Some, None, IfSome, List, [], ◌∷◌, ◌++◌, length, map, flat_map, filter_map, refl}
 use Rattle.std.specs.List.{cons_option}
 use Rattle.std.specs.Str.{bytes_eq}
-use Rattle.p416_ast.specs.declared.parts.Type16.{Type16}
-use Rattle.p416_ast.specs.declared.parts.Type16.TheVariants.{Bit, Bool as BoolType, Named}
-use Rattle.p416_ast.specs.declared.parts.BitField.{BitField}
-use Rattle.p416_ast.specs.declared.parts.StructField.{StructField}
-use Rattle.p416_ast.specs.declared.controls.Instance.{Instance}
-use Rattle.p416_ast.specs.declared.controls.Instance.TheVariants as instance
-use Rattle.p416_ast.specs.declared.program.Decl16.{Decl16}
-use Rattle.p416_ast.specs.declared.program.Decl16.TheVariants as decl
-use Rattle.p416_ast.specs.declared.program.Syntax16.{Syntax16}
-use Rattle.p416_rules.specs.Names.{Name}
-use Rattle.p416_rules.specs.Kinds.{Kind, bits, unsized, boolean, error_code, header, stack, struct, packet_in, packet_out, errors, enumeration, one_of, table, applied, object, items, nothing, unknown}
-use Rattle.p416_rules.specs.Scopes.{Layout as TypeLayout, FieldKind, fields_in, Sort, a_type, a_value, an_enumeration, a_function, an_object, an_action, a_table, a_state, a_block, undeclared, Known, known, Scope, sort_in, type_sort, stack_kind, kind_of_type, known_parameter}
-use Rattle.p416_rules.specs.BuiltIn.{functions, built_in, standard_layout}
-use Rattle.p416_rules.specs.Declarations.{instance_sort, top_name, top_names, bit_field, struct_field, layout_in, layouts_of, known_var, known_state, parser_names, parser_scope, action_scope, known_local, control_names, control_scope}
-use Rattle.p416_rules.specs.Breaks.{scope_of}
-use Rattle.p416_ast.specs.declared.parsers.Parser16.{Parser16}
-use Rattle.p416_ast.specs.declared.controls.Action16.{Action16}
-use Rattle.p416_ast.specs.declared.controls.Local.{Local}
-use Rattle.p416_ast.specs.declared.controls.Control16.{Control16}
-use Rattle.p416_ast.specs.declared.controls.Local.TheVariants as local
-use Rattle.p416_ast.specs.Tree.{Stmt16, no_statements, then, block, empty, var, var_is, assign, expression, if_then, if_else, switch, no_cases, case_of}
-use Rattle.p416_rules.specs.Statements.{behind, Visit, visit, visits}
-use Rattle.p416_rules.specs.Main.{headers_kind, metadata_kind, is_header_field, is_metadata_field, is_struct_where, are_headers, is_metadata, is_main}
-use Rattle.v1_sem.specs.Values.{Step, to_member, to_element}
-use Rattle.v1_sem.specs.Slots.{FramePart, declared_kind, visited_kind, kinds_in, var_kind, parameter_kind, state_kinds, local_kinds, kinds_of}
-use Rattle.v1_frame_values.specs.Seats.{Form, slot_form, header_form, stack_form, struct_form, no_form, form_of, Start, moved, behind as behind_form, Seat, seat, field_form, field_seat, member_seat, element_seat, stepped_seat, seat_behind, seat_at}
-use Rattle.v1_frame_values.specs.Programs.{frame_kinds, first_start, seat_in, owner_number, owner_seat, part_seat}
+use Rattle.p416_syntax.specs.declared.parts.Type16.{Type16}
+use Rattle.p416_syntax.specs.declared.parts.Type16.TheVariants.{Bit, Bool as BoolType, Named}
+use Rattle.p416_syntax.specs.declared.parts.BitField.{BitField}
+use Rattle.p416_syntax.specs.declared.parts.StructField.{StructField}
+use Rattle.p416_syntax.specs.declared.controls.Instance.{Instance}
+use Rattle.p416_syntax.specs.declared.controls.Instance.TheVariants as instance
+use Rattle.p416_syntax.specs.declared.program.Decl16.{Decl16}
+use Rattle.p416_syntax.specs.declared.program.Decl16.TheVariants as decl
+use Rattle.p416_syntax.specs.declared.program.Syntax16.{Syntax16}
+use Rattle.p416_syntax.specs.Names.{Name}
+use Rattle.p416_syntax.specs.Kinds.{Kind, bits, unsized, boolean, error_code, header, stack, struct, packet_in, packet_out, errors, enumeration, one_of, table, applied, object, items, nothing, unknown}
+use Rattle.p416_syntax.specs.Scopes.{Layout as TypeLayout, FieldKind, fields_in, Sort, a_type, a_value, an_enumeration, a_function, an_object, an_action, a_table, a_state, a_block, undeclared, Known, known, Scope, sort_in, type_sort, stack_kind, kind_of_type, known_parameter}
+use Rattle.p416_syntax.specs.BuiltIn.{functions, built_in, standard_layout}
+use Rattle.p416_syntax.specs.Declarations.{instance_sort, top_name, top_names, bit_field, struct_field, layout_in, layouts_of, known_var, known_state, parser_names, parser_scope, action_scope, known_local, control_names, control_scope}
+use Rattle.p416_syntax.specs.Breaks.{scope_of}
+use Rattle.p416_syntax.specs.declared.parsers.Parser16.{Parser16}
+use Rattle.p416_syntax.specs.declared.controls.Action16.{Action16}
+use Rattle.p416_syntax.specs.declared.controls.Local.{Local}
+use Rattle.p416_syntax.specs.declared.controls.Control16.{Control16}
+use Rattle.p416_syntax.specs.declared.controls.Local.TheVariants as local
+use Rattle.p416_syntax.specs.Tree.{Stmt16, no_statements, then, block, empty, var, var_is, assign, expression, if_then, if_else, switch, no_cases, case_of}
+use Rattle.p416_syntax.specs.Statements.{behind, Visit, visit, visits}
+use Rattle.p416_syntax.specs.Main.{headers_kind, metadata_kind, is_header_field, is_metadata_field, is_struct_where, are_headers, is_metadata, is_main}
+use Rattle.v1_core.specs.Values.{Step, to_member, to_element}
+use Rattle.v1_core.specs.Slots.{FramePart, declared_kind, visited_kind, kinds_in, var_kind, parameter_kind, state_kinds, local_kinds, kinds_of}
+use Rattle.v1_core.specs.Seats.{Form, slot_form, header_form, stack_form, struct_form, no_form, form_of, Start, moved, behind as behind_form, Seat, seat, field_form, field_seat, member_seat, element_seat, stepped_seat, seat_behind, seat_at}
+use Rattle.v1_core.specs.Programs.{frame_kinds, first_start, seat_in, owner_number, owner_seat, part_seat}
 
 module _ (W : Name → Type 0) where
   abbrev pub KindWhole : Kind → Type 0

@@ -4,30 +4,30 @@ use Rattle.std.specs.Prelude.{option_map, codes}
 use Rattle.std.specs.Str.{bytes_eq}
 use Rattle.std.proofs.lemmas.Slice.Eq.{bytes_eq-Decides}
 use Rattle.std.proofs.lemmas.Bool.{eqb-true}
-use Rattle.p416_ast.specs.declared.program.Syntax16.{Syntax16}
-use Rattle.p416_ast.specs.Tree.{Exp16, literal, truth, error, name, member, index, slice, call, lookahead, cast, unary, binary, choice, parenthesized, no_arguments, argument, listed}
-use Rattle.p416_rules.specs.Names.{Name, has_name}
-use Rattle.p416_rules.specs.Kinds.{Kind, bits, unsized, boolean, error_code, header, stack, struct, packet_in, packet_out, errors, enumeration, one_of, table, applied, object, items, nothing, unknown, is_same_kind}
-use Rattle.p416_rules.specs.Scopes.{Layout as TypeLayout, fields_in, Sort, Scope, sort_of}
-use Rattle.p416_rules.specs.Calls.{Place, value, owner, a_stack}
-use Rattle.p416_rules.specs.Declarations.{layouts_of}
-use Rattle.p416_rules.specs.Expressions.{kind_of, sort_kind, field_kind_in, known_kind, member_kind, element_kind, is_chosen, joint_bits, same_choice}
-use Rattle.p416_rules.specs.Uses.{chosen_place}
-use Rattle.p416_rules.specs.Breaks.{BreaksNone, program_rules}
-use Rattle.v1_sem.specs.declared.parser_error.ParserError.{ParserError}
-use Rattle.v1_sem.specs.declared.parser_error.ParserError.TheVariants.{StackOutOfBounds}
-use Rattle.v1_sem.specs.Values.{Value, place_in, elements_in, is_true, part_of, to_member, to_element}
-use Rattle.v1_sem.specs.Frames as sem
-use Rattle.v1_sem.specs.Frames.{Frame, read}
-use Rattle.v1_sem.specs.Surroundings as meaning
-use Rattle.v1_sem.specs.Surroundings.{named}
-use Rattle.v1_sem.specs.Numbered.{InScope, frame_in}
-use Rattle.v1_sem.specs.Expressions.{Valued, valued, element_by as element_by16, is_beyond, bounded, member_value, value_of}
-use Rattle.v1_frames.specs.Cells.{Cells}
-use Rattle.v1_frame_values.specs.Seats.{Seat}
-use Rattle.v1_frame_values.specs.Programs.{numbered16}
-use Rattle.v1_ready_expressions.specs.declared.node.Which.TheVariants.{Next, Last}
-use Rattle.v1_ready_expressions.specs.Ready.{Ended, given, failed, element_by, is_past}
+use Rattle.p416_syntax.specs.declared.program.Syntax16.{Syntax16}
+use Rattle.p416_syntax.specs.Tree.{Exp16, literal, truth, error, name, member, index, slice, call, lookahead, cast, unary, binary, choice, parenthesized, no_arguments, argument, listed}
+use Rattle.p416_syntax.specs.Names.{Name, has_name}
+use Rattle.p416_syntax.specs.Kinds.{Kind, bits, unsized, boolean, error_code, header, stack, struct, packet_in, packet_out, errors, enumeration, one_of, table, applied, object, items, nothing, unknown, is_same_kind}
+use Rattle.p416_syntax.specs.Scopes.{Layout as TypeLayout, fields_in, Sort, Scope, sort_of}
+use Rattle.p416_syntax.specs.Calls.{Place, value, owner, a_stack}
+use Rattle.p416_syntax.specs.Declarations.{layouts_of}
+use Rattle.p416_syntax.specs.Expressions.{kind_of, sort_kind, field_kind_in, known_kind, member_kind, element_kind, is_chosen, joint_bits, same_choice}
+use Rattle.p416_syntax.specs.Uses.{chosen_place}
+use Rattle.p416_syntax.specs.Breaks.{BreaksNone, program_rules}
+use Rattle.v1_core.specs.declared.parser_error.ParserError.{ParserError}
+use Rattle.v1_core.specs.declared.parser_error.ParserError.TheVariants.{StackOutOfBounds}
+use Rattle.v1_core.specs.Values.{Value, place_in, elements_in, is_true, part_of, to_member, to_element}
+use Rattle.v1_core.specs.Frames as sem
+use Rattle.v1_core.specs.Frames.{Frame, read}
+use Rattle.v1_core.specs.Surroundings as meaning
+use Rattle.v1_core.specs.Surroundings.{named}
+use Rattle.v1_core.specs.Numbered.{InScope, frame_in}
+use Rattle.v1_core.specs.Expressions.{Valued, valued, element_by as element_by16, is_beyond, bounded, member_value, value_of}
+use Rattle.v1_core.specs.Cells.{Cells}
+use Rattle.v1_core.specs.Seats.{Seat}
+use Rattle.v1_core.specs.Programs.{numbered16}
+use Rattle.v1_core.specs.declared.node.Which.TheVariants.{Next, Last}
+use Rattle.v1_core.specs.Ready.{Ended, given, failed, element_by, is_past}
 use Rattle.v1_ready_forms.specs.Named.{NamedSeat, seat_of_name, seats_in}
 use Rattle.v1_ready_forms.specs.Ways.{Way, through_member, through_element, through_told, which_of}
 use Rattle.v1_ready_forms.specs.Spots.{spot, spot_with}

@@ -5,22 +5,22 @@ use Rattle.std.specs.List.{list_any}
 use Rattle.std.specs.Str.{bytes_eq}
 use Rattle.std.proofs.lemmas.List.Sums.{sum_by-cons}
 use Rattle.digraph.specs.Graphs.{OnCycle}
-use Rattle.p416_ast.specs.declared.program.Syntax16.{Syntax16}
-use Rattle.p416_rules.specs.Names.{Name}
-use Rattle.p416_rules.specs.Kinds.{Kind, bits, unsized, boolean, error_code, header, stack, struct, packet_in, packet_out, errors, enumeration, one_of, table, applied, object, items, nothing, unknown}
-use Rattle.p416_rules.specs.Scopes.{Layout as TypeLayout, FieldKind, fields_in}
-use Rattle.p416_rules.specs.Declarations.{layouts_of}
-use Rattle.p416_rules.specs.Unknown.{declares_twice, struct_graph}
-use Rattle.p416_rules.specs.Breaks.{BreaksNone, program_rules, is_no_block, IsBroken}
-use Rattle.v1_sem.specs.Values.{Value, a_member, Step, to_member, to_element}
-use Rattle.v1_sem.specs.Slots.{FramePart}
-use Rattle.v1_frames.specs.Layouts.{Layout}
-use Rattle.v1_frames.specs.Cells.{Cells}
-use Rattle.v1_frame_values.specs.Seats.{Form, slot_form, header_form, stack_form, struct_form, no_form, form_of, Start, moved, behind_members, behind, Seat, seat, member_seat, field_form, field_seat, element_seat, stepped_seat, seat_behind, seat_at}
-use Rattle.v1_frame_values.specs.Values.{member_values, value_from}
-use Rattle.v1_frame_values.specs.Laid.{AreMembers, IsLaid}
-use Rattle.v1_frame_values.specs.Programs.{frame_kinds, first_start, seat_in, owner_number, owner_seat, part_seat}
-use Rattle.v1_frame_values.proofs.Reading.{by_truth}
+use Rattle.p416_syntax.specs.declared.program.Syntax16.{Syntax16}
+use Rattle.p416_syntax.specs.Names.{Name}
+use Rattle.p416_syntax.specs.Kinds.{Kind, bits, unsized, boolean, error_code, header, stack, struct, packet_in, packet_out, errors, enumeration, one_of, table, applied, object, items, nothing, unknown}
+use Rattle.p416_syntax.specs.Scopes.{Layout as TypeLayout, FieldKind, fields_in}
+use Rattle.p416_syntax.specs.Declarations.{layouts_of}
+use Rattle.p416_syntax.specs.Unknown.{declares_twice, struct_graph}
+use Rattle.p416_syntax.specs.Breaks.{BreaksNone, program_rules, is_no_block, IsBroken}
+use Rattle.v1_core.specs.Values.{Value, a_member, Step, to_member, to_element}
+use Rattle.v1_core.specs.Slots.{FramePart}
+use Rattle.v1_core.specs.Layouts.{Layout}
+use Rattle.v1_core.specs.Cells.{Cells}
+use Rattle.v1_core.specs.Seats.{Form, slot_form, header_form, stack_form, struct_form, no_form, form_of, Start, moved, behind_members, behind, Seat, seat, member_seat, field_form, field_seat, element_seat, stepped_seat, seat_behind, seat_at}
+use Rattle.v1_core.specs.PackedValues.{member_values, value_from}
+use Rattle.v1_core.specs.Laid.{AreMembers, IsLaid}
+use Rattle.v1_core.specs.Programs.{frame_kinds, first_start, seat_in, owner_number, owner_seat, part_seat}
+use Rattle.v1_core.proofs.Reading.{by_truth}
 use Rattle.v1_ready_laws.specs.Widths.{IsWide}
 use Rattle.v1_deed_laws.specs.Forms.{OneForm}
 use Rattle.v1_program_laws.specs.SourceLaws.{AllOne}

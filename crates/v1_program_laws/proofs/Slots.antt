@@ -1,24 +1,24 @@
 -- An assignment of a single value to what no stack tells.
 use Rattle.std.proofs.Common.{◌≡◌, true, Option, Some, None, IfSome, List, [], length, refl, sym, ◌∙◌, subst}
 use Rattle.std.specs.Prelude.{option_map}
-use Rattle.p416_ast.specs.Tree.{Exp16, assign}
-use Rattle.p416_rules.specs.Scopes.{Scope}
-use Rattle.p416_rules.specs.Calls.{Place}
-use Rattle.p416_rules.specs.Expressions.{kind_of, is_chosen}
-use Rattle.p416_rules.specs.Statements.{assigned_place}
-use Rattle.p416_rules.specs.Types.{takes}
-use Rattle.p416_rules.specs.Breaks.{BreaksNone, program_rules}
-use Rattle.p416_rules.specs.Declarations.{layouts_of}
-use Rattle.v1_sem.specs.Frames as sem
-use Rattle.v1_sem.specs.Frames.{put_at}
-use Rattle.v1_sem.specs.Slots.{variable_kinds}
-use Rattle.v1_sem.specs.Surroundings as meaning
-use Rattle.v1_sem.specs.Numbered.{InScope}
-use Rattle.v1_sem.specs.Expressions.{Referred, reference_of, value_of}
-use Rattle.v1_sem.specs.Statements.{assigned}
-use Rattle.v1_frames.specs.Cells.{Cells}
-use Rattle.v1_frame_values.specs.Seats.{Content, Form, slot_form}
-use Rattle.v1_frame_values.specs.Scopes.{IsScope}
+use Rattle.p416_syntax.specs.Tree.{Exp16, assign}
+use Rattle.p416_syntax.specs.Scopes.{Scope}
+use Rattle.p416_syntax.specs.Calls.{Place}
+use Rattle.p416_syntax.specs.Expressions.{kind_of, is_chosen}
+use Rattle.p416_syntax.specs.Statements.{assigned_place}
+use Rattle.p416_syntax.specs.Types.{takes}
+use Rattle.p416_syntax.specs.Breaks.{BreaksNone, program_rules}
+use Rattle.p416_syntax.specs.Declarations.{layouts_of}
+use Rattle.v1_core.specs.Frames as sem
+use Rattle.v1_core.specs.Frames.{put_at}
+use Rattle.v1_core.specs.Slots.{variable_kinds}
+use Rattle.v1_core.specs.Surroundings as meaning
+use Rattle.v1_core.specs.Numbered.{InScope}
+use Rattle.v1_core.specs.Expressions.{Referred, reference_of, value_of}
+use Rattle.v1_core.specs.Statements.{assigned}
+use Rattle.v1_core.specs.Cells.{Cells}
+use Rattle.v1_core.specs.Seats.{Content, Form, slot_form}
+use Rattle.v1_core.specs.Scopes.{IsScope}
 use Rattle.v1_ready_forms.specs.Named.{NamedSeat, seats_in}
 use Rattle.v1_ready_laws.specs.Rules.{Keeps, NamesSeated}
 use Rattle.v1_ready_forms.specs.Spots.{Told}

@@ -1,7 +1,7 @@
 -- The laws.
-use Rattle.p416_rules.specs.Kinds.{Kind, bits, unsized, boolean, error_code, header, stack, struct, packet_in, packet_out, errors, enumeration, one_of, table, applied, object, items, nothing, unknown}
-use Rattle.p416_rules.specs.Scopes.{kind_of_type}
-use Rattle.p416_rules.specs.Expressions.{kind_of}
+use Rattle.p416_syntax.specs.Kinds.{Kind, bits, unsized, boolean, error_code, header, stack, struct, packet_in, packet_out, errors, enumeration, one_of, table, applied, object, items, nothing, unknown}
+use Rattle.p416_syntax.specs.Scopes.{kind_of_type}
+use Rattle.p416_syntax.specs.Expressions.{kind_of}
 use Rattle.v1_statement_laws.specs.Behind.{Waits}
 use Rattle.v1_statement_laws.specs.Laws.{HasParts}
 use Rattle.v1_statement_laws.proofs.Sources.{Composite}

@@ -2,25 +2,25 @@
 use Rattle.std.proofs.Common.{◌≡◌, ◌≢◌, ◌⊎◌, inl, inr, ℕ, zero, suc, ◌+◌, ◌-◌, ◌*◌, ◌<◌, ◌≤◌, min, nat_lt, Bool, true, false, cond, Option, Some, List, [], ◌∷◌, ◌++◌, length, map, take, drop, get_or, refl, sym, ap, ◌∙◌, subst, arith}
 use Rattle.std.proofs.lemmas.List.{get_or-set_other, ext_get_or, get_or-take, get_or-drop, get_or-map, get_or_append_left, get_or-append_right, length-take, length-drop, length-map, length-append}
 use Rattle.std.proofs.lemmas.Bool.{ltb-true, ltb-false}
-use Rattle.p416_ast.specs.declared.program.Syntax16.{Syntax16}
-use Rattle.p416_rules.specs.Names.{Name}
-use Rattle.p416_rules.specs.Scopes.{FieldKind, fields_in}
-use Rattle.p416_rules.specs.Totals.{bits_in}
-use Rattle.p416_rules.specs.Declarations.{layouts_of}
-use Rattle.v1_sem.specs.Values.{Field, Header, no_header, a_header, cleared_field, cleared, to_element}
-use Rattle.v1_sem.specs.Slots.{FramePart}
-use Rattle.v1_sem.specs.Numbered.{made_valid}
-use Rattle.v1_sem.specs.Numbers.{is_same_truth}
-use Rattle.v1_sem.specs.HeaderCalls as sem_calls
-use Rattle.v1_frames.specs.Cells.{Cells, slot_value, header_valid, stack_place, AreWhole}
-use Rattle.v1_frame_values.specs.Seats.{header_form, stack_form, Start, moved, Seat, seat}
-use Rattle.v1_frame_values.specs.Values.{field_values, header_value, element_values}
-use Rattle.v1_frame_values.specs.Laid.{AreFields, IsHeader, OwnersAgree}
-use Rattle.v1_frame_values.specs.Programs.{frame_kinds, part_seat}
-use Rattle.v1_frame_values.specs.Frames.{IsFrameOf}
-use Rattle.v1_frame_values.proofs.Laws.{program_laid}
-use Rattle.v1_frame_values.proofs.Reading.{read_once}
-use Rattle.v1_frame_values.proofs.Kept.{validity_others, validity_value}
+use Rattle.p416_syntax.specs.declared.program.Syntax16.{Syntax16}
+use Rattle.p416_syntax.specs.Names.{Name}
+use Rattle.p416_syntax.specs.Scopes.{FieldKind, fields_in}
+use Rattle.p416_syntax.specs.Totals.{bits_in}
+use Rattle.p416_syntax.specs.Declarations.{layouts_of}
+use Rattle.v1_core.specs.Values.{Field, Header, no_header, a_header, cleared_field, cleared, to_element}
+use Rattle.v1_core.specs.Slots.{FramePart}
+use Rattle.v1_core.specs.Numbered.{made_valid}
+use Rattle.v1_core.specs.Numbers.{is_same_truth}
+use Rattle.v1_core.specs.HeaderCalls as sem_calls
+use Rattle.v1_core.specs.Cells.{Cells, slot_value, header_valid, stack_place, AreWhole}
+use Rattle.v1_core.specs.Seats.{header_form, stack_form, Start, moved, Seat, seat}
+use Rattle.v1_core.specs.PackedValues.{field_values, header_value, element_values}
+use Rattle.v1_core.specs.Laid.{AreFields, IsHeader, OwnersAgree}
+use Rattle.v1_core.specs.Programs.{frame_kinds, part_seat}
+use Rattle.v1_core.specs.PackedFrames.{IsFrameOf}
+use Rattle.v1_core.proofs.Laws.{program_laid}
+use Rattle.v1_core.proofs.Reading.{read_once}
+use Rattle.v1_core.proofs.Kept.{validity_others, validity_value}
 use Rattle.v1_ready_laws.specs.Widths.{KindsNarrow, TypesNarrow}
 use Rattle.v1_ready_laws.proofs.Paths.{element_is, elements_count}
 use Rattle.v1_ready_blocks.specs.declared.places.Range.{Range}

@@ -2,24 +2,24 @@
 use Rattle.std.proofs.Common.{◌≡◌, ℕ, ◌+◌, ◌≤◌, Bool, false, Option, Some, None, IfSome, List, [], ◌++◌, length, map, refl, subst, arith, append-nil}
 use Rattle.std.specs.Prelude.{flat_map}
 use Rattle.std.proofs.lemmas.List.{length-map}
-use Rattle.p416_ast.specs.declared.node.CaseLabel.{CaseLabel}
-use Rattle.p416_ast.specs.declared.parsers.State.{State}
-use Rattle.p416_ast.specs.declared.parsers.Parser16.{Parser16}
-use Rattle.p416_ast.specs.declared.program.Decl16.TheVariants as decl
-use Rattle.p416_ast.specs.declared.program.Syntax16.{Syntax16}
-use Rattle.p416_rules.specs.Names.{Name}
-use Rattle.p416_rules.specs.Scopes.{Scope}
-use Rattle.p416_rules.specs.Statements.{behind}
-use Rattle.p416_rules.specs.Breaks.{BreaksNone, program_rules, scope_of}
-use Rattle.p416_rules.specs.Main.{positions_of}
-use Rattle.p416_rules.specs.Unknown.{declared_name}
-use Rattle.v1_sem.specs.Frames as sem
-use Rattle.v1_sem.specs.Slots.{variable_kinds, var_kind, state_kinds}
-use Rattle.v1_sem.specs.Surroundings as meaning
-use Rattle.v1_sem.specs.Surroundings.{Setting}
-use Rattle.v1_sem.specs.Numbered.{Variable}
-use Rattle.v1_sem.specs.Parsing.{parser_of}
-use Rattle.v1_sem.specs.Statements.{no_label, run}
+use Rattle.p416_syntax.specs.declared.node.CaseLabel.{CaseLabel}
+use Rattle.p416_syntax.specs.declared.parsers.State.{State}
+use Rattle.p416_syntax.specs.declared.parsers.Parser16.{Parser16}
+use Rattle.p416_syntax.specs.declared.program.Decl16.TheVariants as decl
+use Rattle.p416_syntax.specs.declared.program.Syntax16.{Syntax16}
+use Rattle.p416_syntax.specs.Names.{Name}
+use Rattle.p416_syntax.specs.Scopes.{Scope}
+use Rattle.p416_syntax.specs.Statements.{behind}
+use Rattle.p416_syntax.specs.Breaks.{BreaksNone, program_rules, scope_of}
+use Rattle.p416_syntax.specs.Main.{positions_of}
+use Rattle.p416_syntax.specs.Unknown.{declared_name}
+use Rattle.v1_core.specs.Frames as sem
+use Rattle.v1_core.specs.Slots.{variable_kinds, var_kind, state_kinds}
+use Rattle.v1_core.specs.Surroundings as meaning
+use Rattle.v1_core.specs.Surroundings.{Setting}
+use Rattle.v1_core.specs.Numbered.{Variable}
+use Rattle.v1_core.specs.Parsing.{parser_of}
+use Rattle.v1_core.specs.Statements.{no_label, run}
 use Rattle.v1_ready_forms.specs.Named.{NamedSeat, seats_in}
 use Rattle.v1_ready_laws.specs.Rules.{NamesSeated}
 use Rattle.v1_ready_selects.specs.Selects.{Transition}

@@ -1,20 +1,20 @@
 -- Where no table is applied, evaluating changes nothing in a moment that an error stopped.
 use Rattle.std.proofs.Common.{◌≡◌, Bool, true, false, cond, is_some, Option, Some, length, refl, ap, ◌∙◌}
-use Rattle.p416_ast.specs.declared.node.BinaryOperator.{BinaryOperator}
-use Rattle.p416_ast.specs.declared.node.BinaryOperator.TheVariants.{Multiply, Add, Subtract, SaturatingAdd, SaturatingSubtract, Concatenate, ShiftLeft, ShiftRight, BitAnd, BitXor, BitOr, Less, LessEqual, Greater, GreaterEqual, Equal, NotEqual, And, Or}
-use Rattle.p416_ast.specs.Tree.{Exp16, literal, truth, error, name, member, index, slice, call, lookahead, cast, unary, binary, choice, parenthesized, no_arguments, argument, listed}
-use Rattle.p416_rules.specs.Names.{Name}
-use Rattle.p416_rules.specs.Kinds.{Kind, bits, unsized, boolean, error_code, header, stack, struct, packet_in, packet_out, errors, enumeration, one_of, table, applied, object, items, nothing, unknown}
-use Rattle.p416_rules.specs.Scopes.{Scope, kind_of_type}
-use Rattle.p416_rules.specs.Calls.{Place, value, any_bits, owner, a_stack}
-use Rattle.p416_rules.specs.Expressions.{kind_of}
-use Rattle.p416_rules.specs.Uses.{unary_place, left_place, right_place, cast_place, chosen_place}
-use Rattle.v1_sem.specs.declared.parser_error.ParserError.{ParserError}
-use Rattle.v1_sem.specs.declared.parser_error.ParserError.TheVariants.{PacketTooShort, StackOutOfBounds}
-use Rattle.v1_sem.specs.Values.{place_in, elements_in, is_true}
-use Rattle.v1_sem.specs.Frames.{Moment, raised}
-use Rattle.v1_sem.specs.Surroundings.{World}
-use Rattle.v1_sem.specs.Expressions.{Valued, is_beyond, bounded, member_value, method_value, name_in, has_bits, lookahead_value, value_of}
+use Rattle.p416_syntax.specs.declared.node.BinaryOperator.{BinaryOperator}
+use Rattle.p416_syntax.specs.declared.node.BinaryOperator.TheVariants.{Multiply, Add, Subtract, SaturatingAdd, SaturatingSubtract, Concatenate, ShiftLeft, ShiftRight, BitAnd, BitXor, BitOr, Less, LessEqual, Greater, GreaterEqual, Equal, NotEqual, And, Or}
+use Rattle.p416_syntax.specs.Tree.{Exp16, literal, truth, error, name, member, index, slice, call, lookahead, cast, unary, binary, choice, parenthesized, no_arguments, argument, listed}
+use Rattle.p416_syntax.specs.Names.{Name}
+use Rattle.p416_syntax.specs.Kinds.{Kind, bits, unsized, boolean, error_code, header, stack, struct, packet_in, packet_out, errors, enumeration, one_of, table, applied, object, items, nothing, unknown}
+use Rattle.p416_syntax.specs.Scopes.{Scope, kind_of_type}
+use Rattle.p416_syntax.specs.Calls.{Place, value, any_bits, owner, a_stack}
+use Rattle.p416_syntax.specs.Expressions.{kind_of}
+use Rattle.p416_syntax.specs.Uses.{unary_place, left_place, right_place, cast_place, chosen_place}
+use Rattle.v1_core.specs.declared.parser_error.ParserError.{ParserError}
+use Rattle.v1_core.specs.declared.parser_error.ParserError.TheVariants.{PacketTooShort, StackOutOfBounds}
+use Rattle.v1_core.specs.Values.{place_in, elements_in, is_true}
+use Rattle.v1_core.specs.Frames.{Moment, raised}
+use Rattle.v1_core.specs.Surroundings.{World}
+use Rattle.v1_core.specs.Expressions.{Valued, is_beyond, bounded, member_value, method_value, name_in, has_bits, lookahead_value, value_of}
 use Rattle.v1_program_laws.specs.Reaching.{Still}
 
 -- no table is applied

@@ -3,22 +3,22 @@ use Rattle.std.proofs.Common.{◌≡◌, inl, inr, ℕ, zero, suc, ◌&&◌, not
 use Rattle.std.specs.Prelude.{◌-◌, codes, is_none}
 use Rattle.std.specs.List.{list_any}
 use Rattle.std.specs.Str.{bytes_eq}
-use Rattle.p416_lexemes.specs.declared.lexeme.Literal16.{Literal16}
-use Rattle.p416_ast.specs.Tree.{Exp16, literal, truth, error, name, member, index, slice, call, lookahead, cast, unary, binary, choice, parenthesized, no_arguments, argument, listed}
-use Rattle.p416_rules.specs.Names.{Name, has_name}
-use Rattle.p416_rules.specs.Kinds.{Kind, bits, unsized, boolean, error_code, header, stack, struct, packet_in, packet_out, errors, enumeration, one_of, table, applied, object, items, nothing, unknown, is_bits, is_plain}
-use Rattle.p416_rules.specs.Scopes.{Layout, FieldKind, fields_in, Sort, a_type, a_value, an_enumeration, a_function, an_object, an_action, a_table, a_state, a_block, undeclared, Scope, sort_of}
-use Rattle.p416_rules.specs.Calls.{Place, target, owner, a_stack, any_bits, Signature, method_signature}
-use Rattle.p416_rules.specs.Expressions.{kind_of, sort_kind, field_kind_in, known_kind, member_kind, element_kind, slice_kind, leaves_width, is_chosen, can_write}
-use Rattle.p416_rules.specs.Uses.{Use, an_expression, a_number, owner_place, uses}
-use Rattle.p416_rules.specs.Unknown.{is_misnamed, is_unknown_member}
-use Rattle.p416_rules.specs.Sizes.{leaves_bits, leaves_size}
-use Rattle.p416_rules.specs.Types.{is_mistyped}
-use Rattle.p416_rules.specs.Writes.{writes_constant}
-use Rattle.v1_sem.specs.Values.{Slice, to_member, to_element}
-use Rattle.v1_sem.specs.Expressions.{slice_of}
-use Rattle.v1_frame_values.specs.Seats.{Content, some_bits, a_truth, an_error, Form, slot_form, header_form, stack_form, struct_form, no_form, form_of, Start, moved, behind, Seat, seat, member_seat, field_form, field_seat, element_seat, stepped_seat}
-use Rattle.v1_frame_values.proofs.Reading.{by_truth}
+use Rattle.p416_syntax.specs.declared.lexeme.Literal16.{Literal16}
+use Rattle.p416_syntax.specs.Tree.{Exp16, literal, truth, error, name, member, index, slice, call, lookahead, cast, unary, binary, choice, parenthesized, no_arguments, argument, listed}
+use Rattle.p416_syntax.specs.Names.{Name, has_name}
+use Rattle.p416_syntax.specs.Kinds.{Kind, bits, unsized, boolean, error_code, header, stack, struct, packet_in, packet_out, errors, enumeration, one_of, table, applied, object, items, nothing, unknown, is_bits, is_plain}
+use Rattle.p416_syntax.specs.Scopes.{Layout, FieldKind, fields_in, Sort, a_type, a_value, an_enumeration, a_function, an_object, an_action, a_table, a_state, a_block, undeclared, Scope, sort_of}
+use Rattle.p416_syntax.specs.Calls.{Place, target, owner, a_stack, any_bits, Signature, method_signature}
+use Rattle.p416_syntax.specs.Expressions.{kind_of, sort_kind, field_kind_in, known_kind, member_kind, element_kind, slice_kind, leaves_width, is_chosen, can_write}
+use Rattle.p416_syntax.specs.Uses.{Use, an_expression, a_number, owner_place, uses}
+use Rattle.p416_syntax.specs.Unknown.{is_misnamed, is_unknown_member}
+use Rattle.p416_syntax.specs.Sizes.{leaves_bits, leaves_size}
+use Rattle.p416_syntax.specs.Types.{is_mistyped}
+use Rattle.p416_syntax.specs.Writes.{writes_constant}
+use Rattle.v1_core.specs.Values.{Slice, to_member, to_element}
+use Rattle.v1_core.specs.Expressions.{slice_of}
+use Rattle.v1_core.specs.Seats.{Content, some_bits, a_truth, an_error, Form, slot_form, header_form, stack_form, struct_form, no_form, form_of, Start, moved, behind, Seat, seat, member_seat, field_form, field_seat, element_seat, stepped_seat}
+use Rattle.v1_core.proofs.Reading.{by_truth}
 use Rattle.v1_ready_forms.specs.Named.{NamedSeat, seat_of_name}
 use Rattle.v1_ready_forms.specs.Ways.{which_of}
 use Rattle.v1_ready_forms.specs.Spots.{Told, Spot, spot_with, spot_behind, told_in, told_spot}

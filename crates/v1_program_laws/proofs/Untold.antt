@@ -1,14 +1,14 @@
 -- Where no stack tells anything in an expression it tells nothing of what the expression means.
 use Rattle.std.proofs.Common.{◌≡◌, Option, Some, None, IfSome, List, refl, sym, ap, ◌∙◌}
-use Rattle.p416_ast.specs.Tree.{Exp16, literal, truth, error, name, member, index, slice, call, lookahead, cast, unary, binary, choice, parenthesized, no_arguments, argument, listed}
-use Rattle.p416_rules.specs.Names.{Name}
-use Rattle.p416_rules.specs.Kinds.{Kind, bits, unsized, boolean, error_code, header, stack, struct, packet_in, packet_out, errors, enumeration, one_of, table, applied, object, items, nothing, unknown}
-use Rattle.p416_rules.specs.Scopes.{Layout, Scope}
-use Rattle.p416_rules.specs.Expressions.{kind_of}
-use Rattle.v1_sem.specs.Values.{Step, to_member, to_element, Slice}
-use Rattle.v1_sem.specs.Expressions.{slice_of}
-use Rattle.v1_frames.specs.Cells.{Cells}
-use Rattle.v1_frame_values.specs.Seats.{Seat, stepped_seat}
+use Rattle.p416_syntax.specs.Tree.{Exp16, literal, truth, error, name, member, index, slice, call, lookahead, cast, unary, binary, choice, parenthesized, no_arguments, argument, listed}
+use Rattle.p416_syntax.specs.Names.{Name}
+use Rattle.p416_syntax.specs.Kinds.{Kind, bits, unsized, boolean, error_code, header, stack, struct, packet_in, packet_out, errors, enumeration, one_of, table, applied, object, items, nothing, unknown}
+use Rattle.p416_syntax.specs.Scopes.{Layout, Scope}
+use Rattle.p416_syntax.specs.Expressions.{kind_of}
+use Rattle.v1_core.specs.Values.{Step, to_member, to_element, Slice}
+use Rattle.v1_core.specs.Expressions.{slice_of}
+use Rattle.v1_core.specs.Cells.{Cells}
+use Rattle.v1_core.specs.Seats.{Seat, stepped_seat}
 use Rattle.v1_ready_forms.specs.Named.{NamedSeat, seat_of_name}
 use Rattle.v1_ready_forms.specs.Spots.{Told, Spot, spot_with, spot_behind}
 use Rattle.v1_place_laws.specs.Places.{Meant, meant, behind_meant, slice_meant, member_meant, meant_by}

@@ -1,18 +1,18 @@
 -- The variables of a parser start at 0, one after another, and then come their initial values.
 use Rattle.std.proofs.Common.{◌≡◌, ℕ, suc, ◌+◌, false, Option, Some, None, IfSome, List, [], ◌∷◌, ◌++◌, map, refl, sym, ap, ◌∙◌, subst, arith}
 use Rattle.std.specs.Prelude.{flat_map, filter_map, fold}
-use Rattle.p416_ast.specs.declared.parsers.Var.{Var}
-use Rattle.p416_ast.specs.declared.parsers.Parser16.{Parser16}
-use Rattle.p416_rules.specs.Kinds.{Kind}
-use Rattle.p416_rules.specs.Scopes.{Scope}
-use Rattle.p416_rules.specs.Breaks.{BreaksNone, program_rules}
-use Rattle.v1_sem.specs.Frames as sem
-use Rattle.v1_sem.specs.Slots.{variable_kinds, var_kind, local_kinds}
-use Rattle.v1_sem.specs.Surroundings as meaning
-use Rattle.v1_sem.specs.Surroundings.{Setting}
-use Rattle.v1_sem.specs.Numbered.{Variable, InScope, nobody}
-use Rattle.v1_sem.specs.Parsing.{parser_of}
-use Rattle.v1_sem.specs.Blocks.{with_initial, begun, variables_of, with_variables, var_in}
+use Rattle.p416_syntax.specs.declared.parsers.Var.{Var}
+use Rattle.p416_syntax.specs.declared.parsers.Parser16.{Parser16}
+use Rattle.p416_syntax.specs.Kinds.{Kind}
+use Rattle.p416_syntax.specs.Scopes.{Scope}
+use Rattle.p416_syntax.specs.Breaks.{BreaksNone, program_rules}
+use Rattle.v1_core.specs.Frames as sem
+use Rattle.v1_core.specs.Slots.{variable_kinds, var_kind, local_kinds}
+use Rattle.v1_core.specs.Surroundings as meaning
+use Rattle.v1_core.specs.Surroundings.{Setting}
+use Rattle.v1_core.specs.Numbered.{Variable, InScope, nobody}
+use Rattle.v1_core.specs.Parsing.{parser_of}
+use Rattle.v1_core.specs.Blocks.{with_initial, begun, variables_of, with_variables, var_in}
 use Rattle.v1_ready_blocks.specs.Moments.{Moment}
 use Rattle.v1_ready_blocks.specs.Tests.{World, quiet_world}
 use Rattle.v1_ready_blocks.specs.Statements as ready

@@ -1,23 +1,23 @@
 -- What a way from a seat leads to: its parts, and the value that stands there.
 use Rattle.std.proofs.Common.{◌≡◌, ℕ, zero, suc, ◌<◌, ◌≤◌, Bool, true, false, cond, Option, Some, None, IfSome, List, [], ◌∷◌, length, refl, sym, ◌∙◌, subst}
 use Rattle.std.specs.Str.{bytes_eq}
-use Rattle.p416_ast.specs.declared.program.Syntax16.{Syntax16}
-use Rattle.p416_rules.specs.Names.{Name}
-use Rattle.p416_rules.specs.Kinds.{Kind}
-use Rattle.p416_rules.specs.Scopes.{Layout as TypeLayout, FieldKind, fields_in}
-use Rattle.p416_rules.specs.Declarations.{layouts_of}
-use Rattle.p416_rules.specs.Expressions.{field_kind_in, known_kind, member_kind, element_kind}
-use Rattle.v1_sem.specs.declared.parser_error.ParserError.TheVariants.{StackOutOfBounds}
-use Rattle.v1_sem.specs.Values.{Value, part_of, Step, to_member, to_element}
-use Rattle.v1_sem.specs.Slots.{FramePart}
-use Rattle.v1_frames.specs.Cells.{Cells, stack_place, stack_size}
-use Rattle.v1_frame_values.specs.Seats.{Content, Form, slot_form, header_form, stack_form, struct_form, no_form, Start, moved, Seat, seat, field_form, field_seat, element_seat, stepped_seat}
-use Rattle.v1_frame_values.specs.Values.{value_from, seat_value}
-use Rattle.v1_frame_values.specs.Programs.{frame_kinds, part_seat}
-use Rattle.v1_frame_values.specs.Frames.{IsFrameOf}
-use Rattle.v1_frame_values.proofs.Reading.{by_truth}
-use Rattle.v1_ready_expressions.specs.declared.node.Which.{Which}
-use Rattle.v1_ready_expressions.specs.Ready.{Ended, given, failed, element_by, is_past}
+use Rattle.p416_syntax.specs.declared.program.Syntax16.{Syntax16}
+use Rattle.p416_syntax.specs.Names.{Name}
+use Rattle.p416_syntax.specs.Kinds.{Kind}
+use Rattle.p416_syntax.specs.Scopes.{Layout as TypeLayout, FieldKind, fields_in}
+use Rattle.p416_syntax.specs.Declarations.{layouts_of}
+use Rattle.p416_syntax.specs.Expressions.{field_kind_in, known_kind, member_kind, element_kind}
+use Rattle.v1_core.specs.declared.parser_error.ParserError.TheVariants.{StackOutOfBounds}
+use Rattle.v1_core.specs.Values.{Value, part_of, Step, to_member, to_element}
+use Rattle.v1_core.specs.Slots.{FramePart}
+use Rattle.v1_core.specs.Cells.{Cells, stack_place, stack_size}
+use Rattle.v1_core.specs.Seats.{Content, Form, slot_form, header_form, stack_form, struct_form, no_form, Start, moved, Seat, seat, field_form, field_seat, element_seat, stepped_seat}
+use Rattle.v1_core.specs.PackedValues.{value_from, seat_value}
+use Rattle.v1_core.specs.Programs.{frame_kinds, part_seat}
+use Rattle.v1_core.specs.PackedFrames.{IsFrameOf}
+use Rattle.v1_core.proofs.Reading.{by_truth}
+use Rattle.v1_core.specs.declared.node.Which.{Which}
+use Rattle.v1_core.specs.Ready.{Ended, given, failed, element_by, is_past}
 use Rattle.v1_ready_forms.specs.Ways.{Way, its_value, its_validity, through_member, through_element, through_told}
 use Rattle.v1_ready_forms.specs.Spots.{Told, spot, spot_with, told_in, told_spot}
 use Rattle.v1_ready_laws.specs.Asked.{asked_value}

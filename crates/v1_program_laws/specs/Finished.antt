@@ -2,15 +2,15 @@
 use Rattle.std.specs.Prelude.{◌≡◌, Some, None}
 use Rattle.match_core.specs.Fits.{Fits}
 use Rattle.match_core.specs.Tables.{tables_of}
-use Rattle.p416_ast.specs.declared.controls.Control16.{Control16}
-use Rattle.p416_rules.specs.Breaks.{BreaksNone, program_rules}
-use Rattle.v1_sem.specs.declared.block.Block.{Block}
-use Rattle.v1_sem.specs.Frames as sem
-use Rattle.v1_sem.specs.Signatures.{signature16}
-use Rattle.v1_sem.specs.Surroundings.{Setting}
-use Rattle.v1_sem.specs.Blocks.{around_control, control_at, control16}
-use Rattle.v1_sem.specs.Numbered.{nobody}
-use Rattle.v1_frame_values.specs.Frames.{IsFrameOf}
+use Rattle.p416_syntax.specs.declared.controls.Control16.{Control16}
+use Rattle.p416_syntax.specs.Breaks.{BreaksNone, program_rules}
+use Rattle.v1_core.specs.declared.block.Block.{Block}
+use Rattle.v1_core.specs.Frames as sem
+use Rattle.v1_core.specs.Signatures.{signature16}
+use Rattle.v1_core.specs.Surroundings.{Setting}
+use Rattle.v1_core.specs.Blocks.{around_control, control_at, control16}
+use Rattle.v1_core.specs.Numbered.{nobody}
+use Rattle.v1_core.specs.PackedFrames.{IsFrameOf}
 use Rattle.v1_ready_blocks.specs.Moments.{Moment}
 use Rattle.v1_ready_blocks.specs.Tables as ready
 use Rattle.v1_ready_blocks.specs.Blocks as blocks

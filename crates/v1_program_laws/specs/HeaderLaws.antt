@@ -1,11 +1,11 @@
 -- That headers are whole octets wherever they stand in the frames of a program (P4_16 1.2, "Header types"; T2).
 use Rattle.std.specs.Prelude.{◌≡◌, Some}
-use Rattle.p416_ast.specs.declared.program.Syntax16.{Syntax16}
-use Rattle.p416_rules.specs.Declarations.{layouts_of}
-use Rattle.p416_rules.specs.Breaks.{BreaksNone, program_rules}
-use Rattle.v1_sem.specs.Slots.{FramePart}
-use Rattle.v1_frame_values.specs.Seats.{Form, header_form, stack_form, Seat}
-use Rattle.v1_frame_values.specs.Programs.{part_seat}
+use Rattle.p416_syntax.specs.declared.program.Syntax16.{Syntax16}
+use Rattle.p416_syntax.specs.Declarations.{layouts_of}
+use Rattle.p416_syntax.specs.Breaks.{BreaksNone, program_rules}
+use Rattle.v1_core.specs.Slots.{FramePart}
+use Rattle.v1_core.specs.Seats.{Form, header_form, stack_form, Seat}
+use Rattle.v1_core.specs.Programs.{part_seat}
 use Rattle.v1_deed_laws.specs.Forms.{IsEmitted}
 
 -- of a header, or of a stack of headers

@@ -3,16 +3,16 @@
 use Rattle.std.specs.Prelude.{◌≡◌, ℕ, List, Some}
 use Rattle.match_core.specs.Fits.{Fits}
 use Rattle.match_core.specs.Tables.{tables_of}
-use Rattle.p416_ast.specs.declared.parsers.Parser16.{Parser16}
-use Rattle.p416_ast.specs.declared.controls.Control16.{Control16}
-use Rattle.p416_rules.specs.Breaks.{BreaksNone, program_rules}
-use Rattle.v1_sem.specs.declared.block.Block.{Block}
-use Rattle.v1_sem.specs.Signatures.{signature16}
-use Rattle.v1_sem.specs.Surroundings.{Setting}
-use Rattle.v1_sem.specs.Parsing.{parser_of}
-use Rattle.v1_sem.specs.Blocks.{control_at}
+use Rattle.p416_syntax.specs.declared.parsers.Parser16.{Parser16}
+use Rattle.p416_syntax.specs.declared.controls.Control16.{Control16}
+use Rattle.p416_syntax.specs.Breaks.{BreaksNone, program_rules}
+use Rattle.v1_core.specs.declared.block.Block.{Block}
+use Rattle.v1_core.specs.Signatures.{signature16}
+use Rattle.v1_core.specs.Surroundings.{Setting}
+use Rattle.v1_core.specs.Parsing.{parser_of}
+use Rattle.v1_core.specs.Blocks.{control_at}
 use Rattle.v1_ready_blocks.specs.Tables.{Fill}
-use Rattle.v1_ready_steps.specs.Steps.{expressions_in, ground_of, trees_of}
+use Rattle.v1_statement_run.specs.Steps.{expressions_in, ground_of, trees_of}
 use Rattle.v1_ready_states.specs.declared.states.ReadyParser.{ReadyParser}
 use Rattle.v1_ready_states.specs.Rows as rows
 use Rattle.v1_parse_run.specs.Made.{FitsParser}

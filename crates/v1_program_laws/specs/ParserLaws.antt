@@ -1,24 +1,24 @@
 -- That what a parser is made of does, where it is made ready, what it does in the program: its statements, its states and its
 -- variables (P4_16 1.2, "Packet parsing", "Parser states", "Variable declarations").
 use Rattle.std.specs.Prelude.{◌≡◌, ℕ, ◌≤◌, false, List, [], Some, None, IfSome}
-use Rattle.p416_ast.specs.declared.parsers.State.{State}
-use Rattle.p416_ast.specs.declared.parsers.Parser16.{Parser16}
-use Rattle.p416_ast.specs.declared.program.Syntax16.{Syntax16}
-use Rattle.p416_rules.specs.Names.{Name}
-use Rattle.p416_rules.specs.Scopes.{kind_of_type}
-use Rattle.p416_rules.specs.Calls.{value}
-use Rattle.p416_rules.specs.Statements.{behind}
-use Rattle.p416_rules.specs.Breaks.{BreaksNone, program_rules}
-use Rattle.v1_sem.specs.declared.parser_error.ParserError.{ParserError}
-use Rattle.v1_sem.specs.Frames as sem
-use Rattle.v1_sem.specs.Slots.{variable_kinds, state_kinds}
-use Rattle.v1_sem.specs.Surroundings as meaning
-use Rattle.v1_sem.specs.Surroundings.{Setting}
-use Rattle.v1_sem.specs.Numbered.{Variable, nobody}
-use Rattle.v1_sem.specs.Parsing as parsing
-use Rattle.v1_sem.specs.Parsing.{parser_of, parse16}
-use Rattle.v1_sem.specs.Blocks.{begun}
-use Rattle.v1_frame_values.specs.Programs.{part_seat}
+use Rattle.p416_syntax.specs.declared.parsers.State.{State}
+use Rattle.p416_syntax.specs.declared.parsers.Parser16.{Parser16}
+use Rattle.p416_syntax.specs.declared.program.Syntax16.{Syntax16}
+use Rattle.p416_syntax.specs.Names.{Name}
+use Rattle.p416_syntax.specs.Scopes.{kind_of_type}
+use Rattle.p416_syntax.specs.Calls.{value}
+use Rattle.p416_syntax.specs.Statements.{behind}
+use Rattle.p416_syntax.specs.Breaks.{BreaksNone, program_rules}
+use Rattle.v1_core.specs.declared.parser_error.ParserError.{ParserError}
+use Rattle.v1_core.specs.Frames as sem
+use Rattle.v1_core.specs.Slots.{variable_kinds, state_kinds}
+use Rattle.v1_core.specs.Surroundings as meaning
+use Rattle.v1_core.specs.Surroundings.{Setting}
+use Rattle.v1_core.specs.Numbered.{Variable, nobody}
+use Rattle.v1_core.specs.Parsing as parsing
+use Rattle.v1_core.specs.Parsing.{parser_of, parse16}
+use Rattle.v1_core.specs.Blocks.{begun}
+use Rattle.v1_core.specs.Programs.{part_seat}
 use Rattle.v1_ready_selects.specs.Selects.{Transition}
 use Rattle.v1_ready_selects.specs.Transitions.{transition_ready}
 use Rattle.v1_ready_blocks.specs.Moments.{Moment}

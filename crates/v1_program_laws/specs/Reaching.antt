@@ -1,27 +1,27 @@
 -- That the parts which are reached by a source are those of the header, the stack or the struct that an expression is (P4_16
 -- 1.2, "Expressions", "Operations on header stacks", "Conditional operator").
 use Rattle.std.specs.Prelude.{◌≡◌, List, Some, None, IfSome}
-use Rattle.p416_ast.specs.declared.program.Syntax16.{Syntax16}
-use Rattle.p416_ast.specs.Tree.{Exp16, member, index, choice}
-use Rattle.p416_rules.specs.Kinds.{Kind, boolean}
-use Rattle.p416_rules.specs.Scopes.{Layout, Scope}
-use Rattle.p416_rules.specs.Calls.{Place, value}
-use Rattle.p416_rules.specs.Declarations.{layouts_of}
-use Rattle.p416_rules.specs.Expressions.{known_kind, member_kind, element_kind}
-use Rattle.v1_sem.specs.declared.parser_error.ParserError.{ParserError}
-use Rattle.v1_sem.specs.declared.parser_error.ParserError.TheVariants.{StackOutOfBounds}
-use Rattle.v1_sem.specs.Values.{Value}
-use Rattle.v1_sem.specs.Frames as sem
-use Rattle.v1_sem.specs.Slots.{FramePart}
-use Rattle.v1_sem.specs.Surroundings as meaning
-use Rattle.v1_sem.specs.Numbered.{InScope}
-use Rattle.v1_sem.specs.Expressions as sem_expressions
-use Rattle.v1_sem.specs.Expressions.{value_of}
-use Rattle.v1_frames.specs.Cells.{Cells}
-use Rattle.v1_frame_values.specs.Seats.{Seat}
-use Rattle.v1_frame_values.specs.Values.{seat_value}
-use Rattle.v1_frame_values.specs.Programs.{part_seat}
-use Rattle.v1_ready_expressions.specs.Ready.{given, failed}
+use Rattle.p416_syntax.specs.declared.program.Syntax16.{Syntax16}
+use Rattle.p416_syntax.specs.Tree.{Exp16, member, index, choice}
+use Rattle.p416_syntax.specs.Kinds.{Kind, boolean}
+use Rattle.p416_syntax.specs.Scopes.{Layout, Scope}
+use Rattle.p416_syntax.specs.Calls.{Place, value}
+use Rattle.p416_syntax.specs.Declarations.{layouts_of}
+use Rattle.p416_syntax.specs.Expressions.{known_kind, member_kind, element_kind}
+use Rattle.v1_core.specs.declared.parser_error.ParserError.{ParserError}
+use Rattle.v1_core.specs.declared.parser_error.ParserError.TheVariants.{StackOutOfBounds}
+use Rattle.v1_core.specs.Values.{Value}
+use Rattle.v1_core.specs.Frames as sem
+use Rattle.v1_core.specs.Slots.{FramePart}
+use Rattle.v1_core.specs.Surroundings as meaning
+use Rattle.v1_core.specs.Numbered.{InScope}
+use Rattle.v1_core.specs.Expressions as sem_expressions
+use Rattle.v1_core.specs.Expressions.{value_of}
+use Rattle.v1_core.specs.Cells.{Cells}
+use Rattle.v1_core.specs.Seats.{Seat}
+use Rattle.v1_core.specs.PackedValues.{seat_value}
+use Rattle.v1_core.specs.Programs.{part_seat}
+use Rattle.v1_core.specs.Ready.{given, failed}
 use Rattle.v1_ready_forms.specs.Named.{seats_in}
 use Rattle.v1_ready_forms.specs.Ways.{Way, its_value, its_validity, through_member, through_element, through_told}
 use Rattle.v1_ready_laws.specs.Asked.{asked_value}

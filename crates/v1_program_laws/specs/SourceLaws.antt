@@ -1,32 +1,32 @@
 -- What the sources of ready statements reach, which ready copies do the same, and that pushing and popping do (P4_16 1.2,
 -- "Assignment statement", "Variable declarations", "Operations on header stacks").
 use Rattle.std.specs.Prelude.{◌≡◌, ℕ, ◌+◌, ◌≤◌, Bool, true, [], ◌∷◌, length, Option, Some, None, IfSome}
-use Rattle.p416_lexemes.specs.declared.lexeme.Literal16.{Literal16}
-use Rattle.p416_ast.specs.declared.parts.Type16.{Type16}
-use Rattle.p416_ast.specs.declared.parsers.Var.{Var}
-use Rattle.p416_ast.specs.declared.program.Syntax16.{Syntax16}
-use Rattle.p416_ast.specs.Tree.{Exp16, literal, member, call, assign, expression, var_is}
-use Rattle.p416_rules.specs.Names.{Name}
-use Rattle.p416_rules.specs.Kinds.{bits, stack}
-use Rattle.p416_rules.specs.Scopes.{Scope, kind_of_type}
-use Rattle.p416_rules.specs.Calls.{Place, value, literal_of}
-use Rattle.p416_rules.specs.Types.{takes}
-use Rattle.p416_rules.specs.Expressions.{kind_of}
-use Rattle.p416_rules.specs.Uses.{arguments_of}
-use Rattle.p416_rules.specs.Statements.{assigned_place}
-use Rattle.p416_rules.specs.Declarations.{layouts_of}
-use Rattle.p416_rules.specs.Breaks.{BreaksNone, program_rules}
-use Rattle.v1_sem.specs.Values.{number_in}
-use Rattle.v1_sem.specs.Frames as sem
-use Rattle.v1_sem.specs.Slots.{FramePart, the_variable, variable_kinds}
-use Rattle.v1_sem.specs.Surroundings as meaning
-use Rattle.v1_sem.specs.Numbered.{InScope, number_of}
-use Rattle.v1_sem.specs.Expressions.{literal_number, value_of}
-use Rattle.v1_sem.specs.Blocks.{with_initial}
-use Rattle.v1_frames.specs.Cells.{Cells}
-use Rattle.v1_frame_values.specs.Seats.{Form, header_form, stack_form, struct_form, form_of, Seat}
-use Rattle.v1_frame_values.specs.Scopes.{IsScope}
-use Rattle.v1_frame_values.specs.Programs.{part_seat, owner_seat}
+use Rattle.p416_syntax.specs.declared.lexeme.Literal16.{Literal16}
+use Rattle.p416_syntax.specs.declared.parts.Type16.{Type16}
+use Rattle.p416_syntax.specs.declared.parsers.Var.{Var}
+use Rattle.p416_syntax.specs.declared.program.Syntax16.{Syntax16}
+use Rattle.p416_syntax.specs.Tree.{Exp16, literal, member, call, assign, expression, var_is}
+use Rattle.p416_syntax.specs.Names.{Name}
+use Rattle.p416_syntax.specs.Kinds.{bits, stack}
+use Rattle.p416_syntax.specs.Scopes.{Scope, kind_of_type}
+use Rattle.p416_syntax.specs.Calls.{Place, value, literal_of}
+use Rattle.p416_syntax.specs.Types.{takes}
+use Rattle.p416_syntax.specs.Expressions.{kind_of}
+use Rattle.p416_syntax.specs.Uses.{arguments_of}
+use Rattle.p416_syntax.specs.Statements.{assigned_place}
+use Rattle.p416_syntax.specs.Declarations.{layouts_of}
+use Rattle.p416_syntax.specs.Breaks.{BreaksNone, program_rules}
+use Rattle.v1_core.specs.Values.{number_in}
+use Rattle.v1_core.specs.Frames as sem
+use Rattle.v1_core.specs.Slots.{FramePart, the_variable, variable_kinds}
+use Rattle.v1_core.specs.Surroundings as meaning
+use Rattle.v1_core.specs.Numbered.{InScope, number_of}
+use Rattle.v1_core.specs.Expressions.{literal_number, value_of}
+use Rattle.v1_core.specs.Blocks.{with_initial}
+use Rattle.v1_core.specs.Cells.{Cells}
+use Rattle.v1_core.specs.Seats.{Form, header_form, stack_form, struct_form, form_of, Seat}
+use Rattle.v1_core.specs.Scopes.{IsScope}
+use Rattle.v1_core.specs.Programs.{part_seat, owner_seat}
 use Rattle.v1_ready_forms.specs.Named.{seats_in}
 use Rattle.v1_ready_forms.specs.Ways.{Way}
 use Rattle.v1_ready_laws.specs.Rules.{NamesSeated}

@@ -1,22 +1,22 @@
 -- That assignments and initial values in controls do the same, of single values and of those with parts, where tests tell the values
 -- of expressions (P4_16 1.2, "Assignment statement", "Variable declarations").
 use Rattle.std.specs.Prelude.{◌≡◌, ℕ, ◌+◌, ◌≤◌, true, [], ◌∷◌, Option, Some, IfSome}
-use Rattle.p416_ast.specs.declared.parts.Type16.{Type16}
-use Rattle.p416_ast.specs.declared.controls.Control16.{Control16}
-use Rattle.p416_ast.specs.Tree.{Exp16, assign, var_is}
-use Rattle.p416_rules.specs.Names.{Name}
-use Rattle.p416_rules.specs.Scopes.{Scope, kind_of_type}
-use Rattle.p416_rules.specs.Calls.{value, target}
-use Rattle.p416_rules.specs.Expressions.{kind_of, is_chosen}
-use Rattle.p416_rules.specs.Statements.{assigned_place}
-use Rattle.p416_rules.specs.Breaks.{BreaksNone, program_rules}
-use Rattle.v1_sem.specs.declared.block.Block.{Block}
-use Rattle.v1_sem.specs.Slots.{variable_kinds}
-use Rattle.v1_sem.specs.Surroundings as meaning
-use Rattle.v1_sem.specs.Surroundings.{Setting}
-use Rattle.v1_sem.specs.Numbered.{InScope}
-use Rattle.v1_sem.specs.Blocks.{around_control, control_world, control_at}
-use Rattle.v1_frames.specs.Cells.{Cells}
+use Rattle.p416_syntax.specs.declared.parts.Type16.{Type16}
+use Rattle.p416_syntax.specs.declared.controls.Control16.{Control16}
+use Rattle.p416_syntax.specs.Tree.{Exp16, assign, var_is}
+use Rattle.p416_syntax.specs.Names.{Name}
+use Rattle.p416_syntax.specs.Scopes.{Scope, kind_of_type}
+use Rattle.p416_syntax.specs.Calls.{value, target}
+use Rattle.p416_syntax.specs.Expressions.{kind_of, is_chosen}
+use Rattle.p416_syntax.specs.Statements.{assigned_place}
+use Rattle.p416_syntax.specs.Breaks.{BreaksNone, program_rules}
+use Rattle.v1_core.specs.declared.block.Block.{Block}
+use Rattle.v1_core.specs.Slots.{variable_kinds}
+use Rattle.v1_core.specs.Surroundings as meaning
+use Rattle.v1_core.specs.Surroundings.{Setting}
+use Rattle.v1_core.specs.Numbered.{InScope}
+use Rattle.v1_core.specs.Blocks.{around_control, control_world, control_at}
+use Rattle.v1_core.specs.Cells.{Cells}
 use Rattle.v1_ready_forms.specs.Named.{seats_in}
 use Rattle.v1_ready_blocks.specs.Tests.{World}
 use Rattle.v1_block_laws.specs.Standing.{AreOfKinds}

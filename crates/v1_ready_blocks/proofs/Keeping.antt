@@ -2,8 +2,8 @@
 use Rattle.std.proofs.Common.{◌≡◌, ℕ, ◌+◌, ◌<◌, ◌≤◌, List, [], ◌∷◌, ◌++◌, length, get_or, refl, ap, subst, ◌∙◌, arith}
 use Rattle.node_lists.specs.Trees.{Adds}
 use Rattle.node_lists.proofs.Growth as growth
-use Rattle.v1_ready_expressions.specs.Ready.{Ready}
-use Rattle.v1_ready_expressions.specs.Nodes.{ready_at}
+use Rattle.v1_core.specs.Ready.{Ready}
+use Rattle.v1_core.specs.Nodes.{ready_at}
 use Rattle.v1_ready_blocks.specs.declared.nodes.TestNode.{TestNode}
 use Rattle.v1_ready_blocks.specs.declared.nodes.TestNode.TheVariants as test_node
 use Rattle.v1_ready_blocks.specs.declared.nodes.SourceNode.{SourceNode}

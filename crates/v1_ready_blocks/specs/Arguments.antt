@@ -2,9 +2,9 @@
 -- positions (P4_16 1.2, "Calling convention: call by copy in/copy out").
 use Rattle.std.specs.Prelude.{ℕ, Bool, if◌then◌else◌, List, [], ◌∷◌, ◌++◌, None}
 use Rattle.p4x_bits.specs.BitLists.{bits}
-use Rattle.v1_sem.specs.Values.{Value, number_in, width_in}
-use Rattle.v1_frames.specs.Cells.{Cells, slot_value}
-use Rattle.v1_ready_expressions.specs.Ready.{Ended, given, failed}
+use Rattle.v1_core.specs.Values.{Value, number_in, width_in}
+use Rattle.v1_core.specs.Cells.{Cells, slot_value}
+use Rattle.v1_core.specs.Ready.{Ended, given, failed}
 use Rattle.v1_ready_blocks.specs.declared.places.Target.{Target}
 use Rattle.v1_ready_blocks.specs.declared.places.Range.{Range}
 use Rattle.v1_ready_blocks.specs.Moments.{Moment, with_cells, with_waiting, is_stopped, raised, going_on}

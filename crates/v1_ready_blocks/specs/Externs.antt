@@ -6,12 +6,12 @@ use Rattle.state_store.specs.State.{count as count_in_store, read as read_in_sto
 use Rattle.state_store.specs.Ports.{drop_port}
 use Rattle.calc_core.specs.Calculations.{csum16, crc16, crc32, identity}
 use Rattle.fabric.specs.declared.items.RequestKind.{RequestKind}
-use Rattle.p416_ast.specs.declared.parts.HashAlgorithm.{HashAlgorithm}
-use Rattle.p416_ast.specs.declared.parts.HashAlgorithm.TheVariants.{Csum16, Crc16, Crc32, Identity}
-use Rattle.v1_sem.specs.Values.{Value, no_value, number_in, width_in, is_true}
-use Rattle.v1_sem.specs.Frames.{Hit}
-use Rattle.v1_sem.specs.Externs.Hashes.{in_range}
-use Rattle.v1_frames.specs.Cells.{slot_value, with_request}
+use Rattle.p416_syntax.specs.declared.parts.HashAlgorithm.{HashAlgorithm}
+use Rattle.p416_syntax.specs.declared.parts.HashAlgorithm.TheVariants.{Csum16, Crc16, Crc32, Identity}
+use Rattle.v1_core.specs.Values.{Value, no_value, number_in, width_in, is_true}
+use Rattle.v1_core.specs.Frames.{Hit}
+use Rattle.v1_core.specs.Externs.Hashes.{in_range}
+use Rattle.v1_core.specs.Cells.{slot_value, with_request}
 use Rattle.v1_ready_blocks.specs.declared.places.Target.{Target}
 use Rattle.v1_ready_blocks.specs.declared.externs.Extern.{Extern}
 use Rattle.v1_ready_blocks.specs.declared.externs.Extern.TheVariants as extern

@@ -1,10 +1,10 @@
 -- What statements work on: a packed frame, and what stands around it (the count of work is this project's own).
 use Rattle.std.specs.Prelude.{ℕ, ◌+◌, ◌%◌, ◌^◌, Bool, if◌then◌else◌, is_some, List, Option, Some}
 use Rattle.state_store.specs.State.{Contents}
-use Rattle.v1_sem.specs.declared.parser_error.ParserError.{ParserError}
-use Rattle.v1_sem.specs.Frames.{Hit}
-use Rattle.v1_frames.specs.Cells.{Cells}
-use Rattle.v1_ready_expressions.specs.Ready.{Ready, Ended, ready_value}
+use Rattle.v1_core.specs.declared.parser_error.ParserError.{ParserError}
+use Rattle.v1_core.specs.Frames.{Hit}
+use Rattle.v1_core.specs.Cells.{Cells}
+use Rattle.v1_core.specs.Ready.{Ready, Ended, ready_value}
 
 pub record Moment : Type 0 where
   pub cells : Cells

@@ -4,9 +4,9 @@ use Rattle.std.specs.Prelude.{ℕ, ◌+◌, ◌*◌, ◌^◌, ◌<◌, ◌≤◌
 use Rattle.node_lists.specs.Trees.{tree_at, grow, AllInOrder}
 use Rattle.state_store.specs.declared.shapes.Shape.{Shape}
 use Rattle.state_store.specs.State.{IsCounterAt, IsRegisterAt, IsMeterAt}
-use Rattle.v1_frames.specs.Layouts.{Layout}
-use Rattle.v1_ready_expressions.specs.Ready.{Ready}
-use Rattle.v1_ready_expressions.specs.Nodes.{nothing as no_expression, ready_at, IsElement, IsWidth}
+use Rattle.v1_core.specs.Layouts.{Layout}
+use Rattle.v1_core.specs.Ready.{Ready}
+use Rattle.v1_core.specs.Nodes.{nothing as no_expression, ready_at, IsElement, IsWidth}
 use Rattle.v1_ready_blocks.specs.declared.places.Slice.{Slice}
 use Rattle.v1_ready_blocks.specs.declared.places.Target.{Target}
 use Rattle.v1_ready_blocks.specs.declared.places.SlotPlace.{SlotPlace}

@@ -2,10 +2,10 @@
 -- "Deparsing").
 use Rattle.std.specs.Prelude.{ℕ, zero, suc, ◌+◌, ◌*◌, ◌/◌, min, Bool, true, nat_lt, if◌then◌else◌, List, [], ◌++◌, length, take, drop}
 use Rattle.p4x_bits.specs.BitLists.{num, bits, octet_bits}
-use Rattle.v1_sem.specs.declared.parser_error.ParserError.TheVariants.{PacketTooShort}
-use Rattle.v1_frames.specs.Cells.{Cells, slot_value, with_slot, header_valid, with_validity, stack_place, stack_size, with_stack_place}
-use Rattle.v1_ready_expressions.specs.declared.node.Which.{Which}
-use Rattle.v1_ready_expressions.specs.declared.node.Which.TheVariants.{Next, Last}
+use Rattle.v1_core.specs.declared.parser_error.ParserError.TheVariants.{PacketTooShort}
+use Rattle.v1_core.specs.Cells.{Cells, slot_value, with_slot, header_valid, with_validity, stack_place, stack_size, with_stack_place}
+use Rattle.v1_core.specs.declared.node.Which.{Which}
+use Rattle.v1_core.specs.declared.node.Which.TheVariants.{Next, Last}
 use Rattle.v1_ready_blocks.specs.declared.places.Range.{Range}
 use Rattle.v1_ready_blocks.specs.declared.places.RangePlace.{RangePlace}
 use Rattle.v1_ready_blocks.specs.declared.places.RangePlace.TheVariants as range_place

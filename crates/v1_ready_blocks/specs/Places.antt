@@ -1,11 +1,11 @@
 -- Where statements write, and what a write does to a packed frame (P4_16 1.2, "L-values", "Assignment statement", "Operations
 -- on headers", "Operations on header stacks", "Default values"). A write to a field of an invalid header does nothing.
 use Rattle.std.specs.Prelude.{ℕ, zero, suc, ◌+◌, ◌*◌, ◌%◌, ◌^◌, min, false, if◌then◌else◌, slice_index, Option, Some, None}
-use Rattle.v1_sem.specs.Values.{Value, as_number, spliced}
-use Rattle.v1_sem.specs.Values as values
-use Rattle.v1_frames.specs.Cells.{Cells, slot_value, with_slot, header_valid, with_validity, stack_place, stack_size, with_stack_place}
-use Rattle.v1_ready_expressions.specs.declared.node.Element.{Element}
-use Rattle.v1_ready_expressions.specs.Ready.{element_by, is_past, part_number}
+use Rattle.v1_core.specs.Values.{Value, as_number, spliced}
+use Rattle.v1_core.specs.Values as values
+use Rattle.v1_core.specs.Cells.{Cells, slot_value, with_slot, header_valid, with_validity, stack_place, stack_size, with_stack_place}
+use Rattle.v1_core.specs.declared.node.Element.{Element}
+use Rattle.v1_core.specs.Ready.{element_by, is_past, part_number}
 use Rattle.v1_ready_blocks.specs.declared.places.Slice.{Slice}
 use Rattle.v1_ready_blocks.specs.declared.places.Target.{Target}
 use Rattle.v1_ready_blocks.specs.declared.places.SlotPlace.{SlotPlace}

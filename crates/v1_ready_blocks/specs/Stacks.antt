@@ -1,7 +1,7 @@
 -- Elements of a stack that move (P4_16 1.2, "Operations on header stacks"; that the place of the stack stays is this project's
 -- own).
 use Rattle.std.specs.Prelude.{ℕ, zero, suc, ◌+◌, ◌-◌, ◌*◌, ◌/◌, min}
-use Rattle.v1_frames.specs.Cells.{Cells}
+use Rattle.v1_core.specs.Cells.{Cells}
 use Rattle.v1_ready_blocks.specs.declared.places.Range.{Range}
 use Rattle.v1_ready_blocks.specs.Places.{copied, made_invalid, all_made}
 

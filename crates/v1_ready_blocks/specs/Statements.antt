@@ -3,8 +3,8 @@
 -- project's own). Each statement that begins to run counts one, but for blocks, empty statements and variables without an
 -- initial value. Once an error stopped the parser none begins.
 use Rattle.std.specs.Prelude.{ℕ, ◌==◌, Bool, false, if◌then◌else◌, List, Option, Some, None}
-use Rattle.v1_sem.specs.Values.{is_true}
-use Rattle.v1_frames.specs.Cells.{with_validity}
+use Rattle.v1_core.specs.Values.{is_true}
+use Rattle.v1_core.specs.Cells.{with_validity}
 use Rattle.v1_ready_blocks.specs.declared.places.Slice.{Slice}
 use Rattle.v1_ready_blocks.specs.declared.places.SlotPlace.{SlotPlace}
 use Rattle.v1_ready_blocks.specs.declared.places.Range.{Range}

@@ -6,10 +6,10 @@ use Rattle.match_core.specs.declared.entries.Entry.{Entry}
 use Rattle.match_core.specs.declared.entries.DefaultCall.{DefaultCall}
 use Rattle.match_core.specs.declared.entries.TableFill.{TableFill}
 use Rattle.match_core.specs.Best.{Filled, best, entry_at}
-use Rattle.v1_sem.specs.Values.{as_number}
-use Rattle.v1_sem.specs.Frames.{Hit}
-use Rattle.v1_frames.specs.Cells.{Cells, with_event}
-use Rattle.v1_ready_expressions.specs.Ready.{Ready, Ended, given, failed}
+use Rattle.v1_core.specs.Values.{as_number}
+use Rattle.v1_core.specs.Frames.{Hit}
+use Rattle.v1_core.specs.Cells.{Cells, with_event}
+use Rattle.v1_core.specs.Ready.{Ready, Ended, given, failed}
 use Rattle.v1_ready_blocks.specs.Moments.{Moment, with_cells, with_hit, value_at}
 use Rattle.v1_ready_blocks.specs.Places.{put}
 use Rattle.v1_ready_blocks.specs.Tests.{Applied}

@@ -2,13 +2,13 @@
 -- "Match-action unit invocation"). They are evaluated from left to right; `&&`, `||` and `? :` evaluate what they need; and
 -- the first error ends that.
 use Rattle.std.specs.Prelude.{ℕ, Bool, false, not, if◌then◌else◌, Option, Some, None}
-use Rattle.p416_ast.specs.declared.node.BinaryOperator.{BinaryOperator}
-use Rattle.v1_sem.specs.declared.parser_error.ParserError.{ParserError}
-use Rattle.v1_sem.specs.declared.parser_error.ParserError.TheVariants.{StackOutOfBounds}
-use Rattle.v1_sem.specs.Values.{Value, a_number, a_truth, number_in, is_true, sliced}
-use Rattle.v1_sem.specs.Numbers.{unary_value}
-use Rattle.v1_ready_expressions.specs.Scalars.{bits_value, truth_value, pair_value}
-use Rattle.v1_ready_expressions.specs.Ready.{Ready, Ended, given, failed, slice_at}
+use Rattle.p416_syntax.specs.declared.node.BinaryOperator.{BinaryOperator}
+use Rattle.v1_core.specs.declared.parser_error.ParserError.{ParserError}
+use Rattle.v1_core.specs.declared.parser_error.ParserError.TheVariants.{StackOutOfBounds}
+use Rattle.v1_core.specs.Values.{Value, a_number, a_truth, number_in, is_true, sliced}
+use Rattle.v1_core.specs.Numbers.{unary_value}
+use Rattle.v1_core.specs.Scalars.{bits_value, truth_value, pair_value}
+use Rattle.v1_core.specs.Ready.{Ready, Ended, given, failed, slice_at}
 use Rattle.v1_ready_blocks.specs.declared.nodes.Single.{Single}
 use Rattle.v1_ready_blocks.specs.declared.nodes.Single.TheVariants as single
 use Rattle.v1_ready_blocks.specs.declared.places.Range.{Range}

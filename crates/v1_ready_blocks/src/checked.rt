@@ -1,14 +1,13 @@
 // Whether what nodes name fits the frames of a layout and the objects of a program.
 ghost use Rattle.std.specs.Prelude.{◌≡◌, ◌+◌, ◌*◌, true, IfSome};
 ghost use Rattle.state_store.specs.State.{IsCounterAt, IsMeterAt, IsRegisterAt};
-ghost use Rattle.v1_ready_expressions.specs.Nodes.{IsElement, IsWidth};
+ghost use Rattle.v1_core.specs.Nodes.{IsElement, IsWidth};
 ghost use Rattle.v1_ready_blocks.specs.Nodes.{AreWithin, IsHeaderPlace, IsRange, IsRangePlace, IsSingle, IsSliceOf, IsSlot, IsSlotPlace, IsTarget, IsToldRange};
 
 use crate::nodes::Single;
 use crate::places::{Range, RangePlace, Slice, SlotPlace, Target, ToldRange};
 use state_store::Shape;
-use v1_frames::FrameLayout;
-use v1_ready_expressions::Element;
+use v1_core::{Element, FrameLayout};
 
 /// Whether so many from a number on are among so many.
 fn are_within(first: u32, count: u32, all: usize) -> bool

@@ -1,7 +1,7 @@
 // Externs of `v1model.p4` with their objects, their targets and what is written in the program.
 use crate::places::Target;
 use fabric::RequestKind;
-use p416_ast::HashAlgorithm;
+use p416_syntax::HashAlgorithm;
 
 /// An extern of which only single values are still to be evaluated. Objects are named by their numbers in the signature.
 #[derive(Clone, Copy, Drop)]

@@ -2,7 +2,7 @@
 // stand in a list of their own.
 use crate::externs::Extern;
 use crate::places::{Range, RangePlace, Slice, SlotPlace, Target};
-use p416_ast::{BinaryOperator, UnaryOperator};
+use p416_syntax::{BinaryOperator, UnaryOperator};
 
 /// An operator on one value.
 #[derive(Clone, Copy, Drop)]

@@ -1,8 +1,8 @@
 // Where statements read and write.
-use v1_ready_expressions::{Element, Which};
+use v1_core::{Element, Which};
 
 /// So many bits of a slot, from a place on, counted from the least significant bit, 0.
-#[derive(Clone, Copy, Debug, PartialEq, Eq, Drop)]
+#[derive(Clone, Copy, PartialEq, Eq, Drop)]
 pub struct Slice {
     /// The place.
     pub low: u8,
@@ -11,7 +11,7 @@ pub struct Slice {
 }
 
 /// A slot, or a slice of it.
-#[derive(Clone, Copy, Debug, PartialEq, Eq, Drop)]
+#[derive(Clone, Copy, PartialEq, Eq, Drop)]
 pub struct Target {
     /// The slot.
     pub slot: u32,
@@ -29,7 +29,7 @@ pub enum SlotPlace {
 }
 
 /// The parts of a header, of a stack or of a struct: so many slots, headers and stacks, each from a number on.
-#[derive(Clone, Copy, Debug, PartialEq, Eq, Drop)]
+#[derive(Clone, Copy, PartialEq, Eq, Drop)]
 pub struct Range {
     /// The first slot.
     pub slot: u32,

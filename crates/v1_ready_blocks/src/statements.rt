@@ -1,7 +1,7 @@
 // Ready statements, kept as nodes.
 ghost use Rattle.std.specs.Prelude.{◌≡◌, ◌<◌, true, [], List, length, IfOk, OnOk, OnErr};
 ghost use Rattle.node_lists.specs.Trees.{Adds};
-ghost use Rattle.v1_ready_expressions.specs.Ready.{Ready};
+ghost use Rattle.v1_core.specs.Ready.{Ready};
 ghost use Rattle.v1_ready_blocks.specs.Nodes.{IsArgument, IsExtern, IsIncoming, IsNode, IsOutgoing, IsSource, IsStatement, IsTest, at, tree_of, trees};
 ghost use Rattle.v1_ready_blocks.specs.Kept.{kept, needed, needed_by, over, over_node};
 
@@ -17,7 +17,7 @@ use p4x_bits::OutOfMemory;
 use state_store::Shape;
 use std::alloc::Global;
 use std::marker::Model;
-use v1_frames::FrameLayout;
+use v1_core::FrameLayout;
 
 /// How many expressions there are at least, with the one that a node of an expression names.
 fn needed_by(node: TestNode, expressions: usize) -> Result<usize, OutOfMemory>
@@ -44,12 +44,22 @@ fn needed(node: Node, expressions: usize) -> Result<usize, OutOfMemory>
 
 /// Statements over the frames of a layout and the objects of a program, each kept as a node over earlier ones and over
 /// expressions, which stand by themselves. They are known by their places, from 0 in the order in which they were added.
-#[derive(Drop)]
 pub struct Statements<'l> {
     layout: &'l FrameLayout,
     shapes: Vec<Shape>,
     expressions: usize,
     nodes: Vec<Node>,
+}
+
+impl Drop for Statements<'_> {
+    fn drop(self) {
+        let Statements {
+            layout: _layout,
+            shapes: _shapes,
+            expressions: _expressions,
+            nodes: _nodes,
+        } = self;
+    }
 }
 
 impl<'l> Model for Statements<'l> {

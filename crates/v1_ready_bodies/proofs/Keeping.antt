@@ -2,7 +2,7 @@
 use Rattle.std.proofs.Common.{◌≡◌, ℕ, ◌<◌, ◌≤◌, Option, Some, None, List, [], ◌∷◌, length, refl, sym, ap, ◌∙◌, subst, arith}
 use Rattle.node_lists.specs.Trees.{Adds}
 use Rattle.node_lists.proofs.Growth as growth
-use Rattle.p416_rules.specs.Declarations.{layouts_of}
+use Rattle.p416_syntax.specs.Declarations.{layouts_of}
 use Rattle.v1_ready_blocks.specs.declared.nodes.StatementNode.{StatementNode}
 use Rattle.v1_ready_blocks.specs.declared.nodes.Node.TheVariants as node
 use Rattle.v1_ready_blocks.specs.Tests.{Test}

@@ -1,7 +1,7 @@
 -- Variables are put in front from the last one on.
 use Rattle.std.proofs.Common.{◌≡◌, ℕ, suc, ◌-◌, ◌<◌, ◌≤◌, List, ◌∷◌, length, drop, get_or, Option, sym, ap, ◌∙◌, arith}
 use Rattle.std.proofs.Math.Seq.{drop-cons}
-use Rattle.p416_rules.specs.Scopes.{Scope}
+use Rattle.p416_syntax.specs.Scopes.{Scope}
 use Rattle.v1_ready_forms.specs.Named.{NamedSeat}
 use Rattle.v1_ready_blocks.specs.Statements.{Statement, sequence}
 use Rattle.v1_ready_statements.specs.Around.{Around}

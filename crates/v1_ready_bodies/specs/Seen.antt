@@ -1,6 +1,6 @@
 -- The test, or the statement, at a place, where there is one; and where statements stand.
 use Rattle.std.specs.Prelude.{◌≡◌, ℕ, ◌<◌, length, Option, option_map, IfSome}
-use Rattle.p416_rules.specs.Declarations.{layouts_of}
+use Rattle.p416_syntax.specs.Declarations.{layouts_of}
 use Rattle.v1_ready_blocks.specs.Tests.{Test}
 use Rattle.v1_ready_blocks.specs.Statements.{Statement}
 use Rattle.v1_ready_blocks.specs.Nodes.{test_at, statement_at}

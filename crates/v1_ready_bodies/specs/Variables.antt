@@ -1,9 +1,9 @@
 -- The variables of a block in front of a statement (P4_16 1.2, "Variable declarations"): all start, and then come their initial
 -- values, in order.
 use Rattle.std.specs.Prelude.{ℕ, List, [], ◌∷◌, Option, Some, None}
-use Rattle.p416_ast.specs.declared.parsers.Var.{Var}
-use Rattle.p416_ast.specs.Tree.{Exp16}
-use Rattle.p416_rules.specs.Scopes.{Scope, kind_of_type}
+use Rattle.p416_syntax.specs.declared.parsers.Var.{Var}
+use Rattle.p416_syntax.specs.Tree.{Exp16}
+use Rattle.p416_syntax.specs.Scopes.{Scope, kind_of_type}
 use Rattle.v1_ready_forms.specs.Named.{NamedSeat}
 use Rattle.v1_ready_blocks.specs.Statements.{Statement, sequence}
 use Rattle.v1_ready_statements.specs.Around.{Around}

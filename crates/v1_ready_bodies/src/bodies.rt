@@ -1,6 +1,6 @@
 // A statement is made ready with all within it.
 ghost use Rattle.std.specs.Prelude.{◌≡◌, ◌<◌, [], ◌∷◌, IfOk, OnOk};
-ghost use Rattle.p416_rules.specs.Statements.{behind};
+ghost use Rattle.p416_syntax.specs.Statements.{behind};
 ghost use Rattle.p416_scopes.specs.Seen.{seen_scope};
 ghost use Rattle.v1_ready_program.specs.Seen.{seen_seats};
 ghost use Rattle.v1_ready_statements.specs.Around.{Around};
@@ -16,7 +16,7 @@ use crate::making::{Work, put_case_parts, put_parts, take_made};
 use crate::singles::Singles;
 use crate::standing::Standing;
 use p4x_bits::OutOfMemory;
-use p416_ast::StmtView;
+use p416_syntax::StmtView;
 use std::alloc::Global;
 use v1_ready_nodes::ReadyNodes;
 use work_stack::Stack;

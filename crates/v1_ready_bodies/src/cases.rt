@@ -10,7 +10,7 @@ use crate::making::take_made;
 use crate::putting::{put_labelled, put_otherwise, put_switch};
 use crate::singles::Singles;
 use p4x_bits::{OutOfMemory, Text};
-use p416_ast::{CaseLabel, StmtHead, StmtView};
+use p416_syntax::{CaseLabel, StmtHead, StmtView};
 use v1_ready_nodes::ReadyNodes;
 use work_stack::Stack;
 

@@ -1,10 +1,10 @@
 // Statements are joined, and single ones made.
 ghost use Rattle.std.specs.Prelude.{◌≡◌, ◌∷◌, List, Some, IfOk, OnOk};
-ghost use Rattle.p416_ast.specs.declared.program.Decl16.{Decl16};
+ghost use Rattle.p416_syntax.specs.declared.program.Decl16.{Decl16};
 ghost use Rattle.v1_ready_bodies.specs.declared.making.Work.TheVariants as work;
-ghost use Rattle.p416_rules.specs.Kinds.{boolean};
-ghost use Rattle.p416_rules.specs.Calls.{value};
-ghost use Rattle.p416_rules.specs.Statements.{behind};
+ghost use Rattle.p416_syntax.specs.Kinds.{boolean};
+ghost use Rattle.p416_syntax.specs.Calls.{value};
+ghost use Rattle.p416_syntax.specs.Statements.{behind};
 ghost use Rattle.p416_scopes.specs.Seen.{seen_scope};
 ghost use Rattle.v1_ready_blocks.specs.Statements.{nothing};
 ghost use Rattle.v1_ready_program.specs.Seen.{seen_seats};
@@ -20,7 +20,7 @@ use crate::putting::{put_branch, put_sequence, ready_nothing};
 use crate::singles::Singles;
 use crate::standing::Standing;
 use p4x_bits::OutOfMemory;
-use p416_ast::{ExpView, StmtHead, StmtView};
+use p416_syntax::{ExpView, StmtHead, StmtView};
 use std::alloc::Global;
 use v1_ready_nodes::ReadyNodes;
 use work_stack::Stack;

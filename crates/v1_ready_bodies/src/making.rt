@@ -1,7 +1,7 @@
 // What is still to be done is kept on a stack, and so is what was made.
 ghost use Rattle.std.specs.Prelude.{◌≡◌, ◌<◌, ◌+◌, ◌∷◌, true, false, List, IfOk, OnOk};
-ghost use Rattle.p416_ast.specs.declared.program.Decl16.{Decl16};
-ghost use Rattle.p416_ast.specs.Tree.{no_cases};
+ghost use Rattle.p416_syntax.specs.declared.program.Decl16.{Decl16};
+ghost use Rattle.p416_syntax.specs.Tree.{no_cases};
 ghost use Rattle.v1_ready_statements.specs.Around.{Around};
 ghost use Rattle.v1_ready_statements.specs.Statements.{has_default};
 ghost use Rattle.v1_ready_nodes.specs.Held.{Held};
@@ -11,7 +11,7 @@ ghost use Rattle.v1_ready_bodies.specs.internal.Steps.{seen_all, AreNodesIn, fir
 
 use crate::cases::has_default;
 use p4x_bits::{OutOfMemory, Text};
-use p416_ast::{CaseLabel, ExpView, StmtHead, StmtView};
+use p416_syntax::{CaseLabel, ExpView, StmtHead, StmtView};
 use work_stack::Stack;
 
 /// What is still to be done.

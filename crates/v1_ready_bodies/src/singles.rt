@@ -1,9 +1,9 @@
 // What makes single statements ready.
 ghost use Rattle.std.specs.Prelude.{◌≡◌, option_map, IfOk, OnOk};
-ghost use Rattle.p416_rules.specs.Kinds.{boolean};
-ghost use Rattle.p416_rules.specs.Calls.{value};
-ghost use Rattle.p416_rules.specs.Declarations.{layouts_of};
-ghost use Rattle.p416_kinds.specs.Seen.{seen_kind};
+ghost use Rattle.p416_syntax.specs.Kinds.{boolean};
+ghost use Rattle.p416_syntax.specs.Calls.{value};
+ghost use Rattle.p416_syntax.specs.Declarations.{layouts_of};
+ghost use Rattle.p416_names.specs.SeenKinds.{seen_kind};
 ghost use Rattle.p416_scopes.specs.Seen.{seen_scope};
 ghost use Rattle.v1_seats.specs.Seen.{seen_seat};
 ghost use Rattle.v1_ready_program.specs.Seen.{seen_seats};
@@ -16,8 +16,8 @@ ghost use Rattle.v1_ready_statements.specs.Blocks.{number_in};
 ghost use Rattle.v1_ready_bodies.specs.Seen.{seen_test, seen_statement, IsNodeIn};
 
 use p4x_bits::OutOfMemory;
-use p416_ast::ExpView;
-use p416_kinds::Kind;
+use p416_names::Kind;
+use p416_syntax::ExpView;
 use std::alloc::Global;
 use v1_ready_nodes::ReadyNodes;
 use v1_ready_program::Around;

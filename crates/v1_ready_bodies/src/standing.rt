@@ -1,6 +1,6 @@
 // Where statements stand (P4_16 1.2, "Variable declarations").
 ghost use Rattle.std.specs.Prelude.{◌≡◌, ◌-◌, suc, length, drop, OnOk};
-ghost use Rattle.p416_rules.specs.Statements.{with_variable};
+ghost use Rattle.p416_syntax.specs.Statements.{with_variable};
 ghost use Rattle.p416_scopes.specs.Seen.{seen_scope};
 ghost use Rattle.p416_visits.specs.Left.{height, shortened};
 ghost use Rattle.v1_ready_program.specs.Seen.{seen_seats};
@@ -9,14 +9,13 @@ ghost use Rattle.v1_ready_bodies.specs.Seen.{Stays};
 
 use crate::singles::Singles;
 use p4x_bits::{OutOfMemory, Text};
-use p416_ast::Type16;
 use p416_scopes::Scope;
+use p416_syntax::Type16;
 use p416_visits::{declare_variable, shorten};
 use v1_ready_program::{Around, NamedSeats};
 use v1_seats::TypeTable;
 
 /// Where a statement stands.
-#[derive(Drop)]
 pub struct Standing<'t, 'a> {
     /// What names mean.
     pub scope: Scope<'t, 'a>,
@@ -26,6 +25,17 @@ pub struct Standing<'t, 'a> {
     pub types: &'t TypeTable<'t, 'a>,
     /// The number of the variable that is declared next, among all variables and parameters of actions of the program, from 0.
     pub number: usize,
+}
+
+impl Drop for Standing<'_, '_> {
+    fn drop(self) {
+        let Standing {
+            scope: _scope,
+            seats: _seats,
+            types: _types,
+            number: _number,
+        } = self;
+    }
 }
 
 impl<'t, 'a> Standing<'t, 'a> {

@@ -1,6 +1,6 @@
 // The variables of a block start, and then come their initial values (P4_16 1.2, "Variable declarations").
 ghost use Rattle.std.specs.Prelude.{◌≡◌, IfOk, OnOk};
-ghost use Rattle.p416_rules.specs.Scopes.{kind_of_type};
+ghost use Rattle.p416_syntax.specs.Scopes.{kind_of_type};
 ghost use Rattle.p416_scopes.specs.Seen.{seen_scope};
 ghost use Rattle.v1_ready_blocks.specs.Statements.{sequence};
 ghost use Rattle.v1_ready_program.specs.Seen.{seen_seats};
@@ -13,7 +13,7 @@ use crate::putting::put_sequence;
 use crate::singles::Singles;
 use crate::standing::Standing;
 use p4x_bits::OutOfMemory;
-use p416_ast::{ExpView, Type16, Var};
+use p416_syntax::{ExpView, Type16, Var};
 use std::alloc::Global;
 use v1_ready_nodes::ReadyNodes;
 

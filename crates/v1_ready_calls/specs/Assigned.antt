@@ -1,13 +1,13 @@
 -- What is assigned to an l-value, where tables have these numbers: as `assigned_to` and `assignment_ready` of v1_ready_statements, which
 -- ask the block for these numbers alone.
 use Rattle.std.specs.Prelude.{ℕ, List, Option, option_map, option_and_then}
-use Rattle.p416_ast.specs.Tree.{Exp16}
-use Rattle.p416_rules.specs.Names.{Name}
-use Rattle.p416_rules.specs.Scopes.{Scope}
-use Rattle.p416_rules.specs.Calls.{Place}
-use Rattle.p416_rules.specs.Expressions.{kind_of}
-use Rattle.p416_rules.specs.Statements.{assigned_place}
-use Rattle.v1_frame_values.specs.Seats.{Form, slot_form}
+use Rattle.p416_syntax.specs.Tree.{Exp16}
+use Rattle.p416_syntax.specs.Names.{Name}
+use Rattle.p416_syntax.specs.Scopes.{Scope}
+use Rattle.p416_syntax.specs.Calls.{Place}
+use Rattle.p416_syntax.specs.Expressions.{kind_of}
+use Rattle.p416_syntax.specs.Statements.{assigned_place}
+use Rattle.v1_core.specs.Seats.{Form, slot_form}
 use Rattle.v1_ready_forms.specs.Named.{NamedSeat}
 use Rattle.v1_ready_blocks.specs.Statements.{Deed, Statement, does}
 use Rattle.v1_place_laws.specs.Places.{Meant, meant_by, slot_place_of}

@@ -1,10 +1,3 @@
--- The definitions of ready sources, statements, methods and calls are those of v1_ready_statements. Assigned says which of an assignment
--- ask for tables alone, SeenStatements which statement is put at a place; Functions and Objects which of calls ask for tables and slots
--- alone; Callees what calls in a block name, and Seen which parts of a call of an action stand at a place.
+-- Assigned says which of an assignment ask for tables alone. All else that the contracts cite stands below.
 pub mod internal
 pub mod Assigned
-pub mod SeenStatements
-pub mod Functions
-pub mod Objects
-pub mod Callees
-pub mod Seen

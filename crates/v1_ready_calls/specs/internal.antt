@@ -1,6 +1,2 @@
 -- What private functions and proofs name.
-pub mod SourcePasses
-pub mod Coded
-pub mod Looked
-pub mod Passes
 pub mod Calls

@@ -1,10 +1,10 @@
 // Assignments and variables (P4_16 1.2, "Assignment statement", "Variable declarations").
 ghost use Rattle.std.specs.Prelude.{◌≡◌, option_map, option_and_then, IfOk, OnOk};
 ghost use Rattle.name_numbers.specs.Names.{find_name};
-ghost use Rattle.p416_rules.specs.Declarations.{layouts_of};
-ghost use Rattle.p416_rules.specs.Calls.{value};
-ghost use Rattle.p416_rules.specs.Statements.{assigned_place};
-ghost use Rattle.p416_kinds.specs.Seen.{seen_kind};
+ghost use Rattle.p416_syntax.specs.Declarations.{layouts_of};
+ghost use Rattle.p416_syntax.specs.Calls.{value};
+ghost use Rattle.p416_syntax.specs.Statements.{assigned_place};
+ghost use Rattle.p416_names.specs.SeenKinds.{seen_kind};
 ghost use Rattle.p416_calls.specs.Seen.{seen_place};
 ghost use Rattle.p416_scopes.specs.Seen.{seen_scope};
 ghost use Rattle.v1_seats.specs.Seen.{seen_seat};
@@ -17,18 +17,17 @@ ghost use Rattle.v1_ready_nodes.specs.Held.{IsHeld, Grows};
 ghost use Rattle.v1_ready_statements.specs.Tested.{ready_test, ready_source};
 ghost use Rattle.v1_ready_statements.specs.Statements.{assigns, assigns_parts, whole_seat};
 ghost use Rattle.v1_ready_calls.specs.Assigned.{assigned_by, assignment_by};
-ghost use Rattle.v1_ready_calls.specs.SeenStatements.{seen_statement, IsStatementIn};
+ghost use Rattle.v1_ready_operands.specs.SeenStatements.{seen_statement, IsStatementIn};
 
-use crate::putting::put_statement;
-use crate::sources::ready_source;
 use name_numbers::Numbering;
 use p4x_bits::OutOfMemory;
-use p416_ast::ExpView;
 use p416_calls::Place;
-use p416_kinds::Kind;
+use p416_names::Kind;
+use p416_syntax::ExpView;
 use std::alloc::Global;
 use v1_ready_blocks::{RangePlace, Slice, SlotPlace, StatementNode};
 use v1_ready_nodes::ReadyNodes;
+use v1_ready_operands::{put_statement, ready_source};
 use v1_ready_places::{Meant, kind_of, parts_of, range_of, ready_place, slot_place_of};
 use v1_ready_program::Around;
 use v1_ready_program::spots::Spot;
@@ -47,7 +46,7 @@ fn assigned_place(kind: Kind<'_>) -> Place<'_>
 }
 
 /// A single value at its place goes to a slot, or to a slice of it.
-#[tactic(auto, using(crate::proofs::KeepingStatements::sliced_again))]
+#[tactic(auto, using(v1_ready_operands::proofs::KeepingStatements::sliced_again))]
 fn assign_value<'a>(
     alloc: Global,
     nodes: &mut ReadyNodes<'_>,

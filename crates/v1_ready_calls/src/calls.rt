@@ -1,33 +1,32 @@
 // Calls as statements (P4_16 1.2, "Function calls and method invocations").
 ghost use Rattle.std.specs.Prelude.{◌≡◌, option_map, IfOk, OnOk};
-ghost use Rattle.p416_ast.specs.Heads.{of_exp_head};
-ghost use Rattle.p416_ast.specs.Tree as tree;
-ghost use Rattle.p416_rules.specs.Declarations.{layouts_of, top_names};
-ghost use Rattle.p416_rules.specs.Expressions.{kind_of};
+ghost use Rattle.p416_syntax.specs.Heads.{of_exp_head};
+ghost use Rattle.p416_syntax.specs.Tree as tree;
+ghost use Rattle.p416_syntax.specs.Declarations.{layouts_of, top_names};
+ghost use Rattle.p416_syntax.specs.Expressions.{kind_of};
 ghost use Rattle.p416_names.specs.Seen.{seen_sort};
-ghost use Rattle.p416_rules.specs.Uses.{arguments_of};
-ghost use Rattle.p416_rules.specs.Scopes.{sort_of};
+ghost use Rattle.p416_syntax.specs.Uses.{arguments_of};
+ghost use Rattle.p416_syntax.specs.Scopes.{sort_of};
 ghost use Rattle.p416_scopes.specs.Seen.{seen_scope};
 ghost use Rattle.v1_ready_blocks.specs.Statements.{does};
 ghost use Rattle.v1_ready_program.specs.Seen.{seen_seats};
 ghost use Rattle.v1_ready_nodes.specs.Held.{IsHeld, Grows};
 ghost use Rattle.v1_ready_statements.specs.Called.{named_statement, method_deed, call_ready, expression_ready};
-ghost use Rattle.v1_ready_calls.specs.SeenStatements.{seen_statement, IsStatementIn};
-ghost use Rattle.v1_ready_calls.specs.Callees.{around_of, AreCallees};
-ghost use Rattle.v1_ready_calls.specs.internal.Passes.{let_go_ready};
+ghost use Rattle.v1_ready_operands.specs.SeenStatements.{seen_statement, IsStatementIn};
+ghost use Rattle.v1_ready_operands.specs.Callees.{around_of, AreCallees};
+ghost use Rattle.v1_ready_operands.specs.internal.Passes.{let_go_ready};
 ghost use Rattle.v1_ready_calls.specs.internal.Calls.{call_in, ready_by};
 
-use crate::actions::ready_action;
-use crate::callees::Callees;
-use crate::functions::ready_function;
-use crate::method_statements::ready_let_go;
-use crate::methods::ready_method;
 use p4x_bits::OutOfMemory;
-use p416_ast::{ExpHead, ExpView};
 use p416_calls::Place;
 use p416_names::Sort;
+use p416_syntax::{ExpHead, ExpView};
 use std::alloc::Global;
+use v1_ready_actions::ready_action;
+use v1_ready_functions::ready_function;
+use v1_ready_methods::{ready_let_go, ready_method};
 use v1_ready_nodes::ReadyNodes;
+use v1_ready_operands::Callees;
 use v1_ready_places::kind_of;
 use v1_ready_program::Around;
 

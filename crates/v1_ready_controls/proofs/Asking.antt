@@ -3,12 +3,12 @@ use Rattle.std.proofs.Common.{◌≡◌, ℕ, List, Option, option_map, ap, ◌�
 use Rattle.std.proofs.Math.Path.{fun_ext}
 use Rattle.std.specs.Prelude.{option_and_then}
 use Rattle.name_numbers.specs.Names.{find_name}
-use Rattle.p416_ast.specs.Tree.{Exp16}
-use Rattle.p416_rules.specs.Names.{Name}
-use Rattle.p416_rules.specs.Kinds.{Kind}
-use Rattle.p416_rules.specs.Scopes.{Layout, Scope}
-use Rattle.p416_rules.specs.Calls.{Place, value}
-use Rattle.v1_frame_values.specs.Seats.{Seat}
+use Rattle.p416_syntax.specs.Tree.{Exp16}
+use Rattle.p416_syntax.specs.Names.{Name}
+use Rattle.p416_syntax.specs.Kinds.{Kind}
+use Rattle.p416_syntax.specs.Scopes.{Layout, Scope}
+use Rattle.p416_syntax.specs.Calls.{Place, value}
+use Rattle.v1_core.specs.Seats.{Seat}
 use Rattle.v1_place_laws.specs.Places.{range_of}
 use Rattle.v1_ready_forms.specs.Named.{NamedSeat}
 use Rattle.v1_ready_blocks.specs.Tests.{Test}
@@ -18,9 +18,9 @@ use Rattle.v1_ready_statements.specs.Tested.{ready_test}
 use Rattle.v1_ready_statements.specs.Statements.{assigned_to, whole_seat, start_ready, initial_ready, assignment_ready}
 use Rattle.v1_ready_calls.specs.Assigned.{assigned_by, assignment_by}
 use Rattle.v1_ready_calls.proofs.Assigning.{assigned_in, assignment_in}
-use Rattle.v1_ready_calls.specs.declared.callees.Callees.{Callees}
-use Rattle.v1_ready_calls.specs.Callees.{around_of, AreCallees}
-use Rattle.v1_ready_calls.proofs.Naming.{tables_found}
+use Rattle.v1_ready_operands.specs.declared.callees.Callees.{Callees}
+use Rattle.v1_ready_operands.specs.Callees.{around_of, AreCallees}
+use Rattle.v1_ready_operands.proofs.Naming.{tables_found}
 
 module _ (c : Callees) (are : AreCallees c) where
   pub table_is : (text : Name) (r : Option ℕ) → r ≡ find_name c.tables.now text → r ≡ table_found (around_of c) text

@@ -5,27 +5,27 @@ use Rattle.std.specs.Prelude.{filter_map, codes}
 use Rattle.state_store.specs.declared.shapes.Shape.{Shape}
 use Rattle.node_lists.proofs.Growth as growth
 use Rattle.name_numbers.specs.Names.{find_name}
-use Rattle.p416_ast.specs.declared.controls.Local.{Local}
-use Rattle.p416_ast.specs.declared.controls.Control16.{Control16}
-use Rattle.p416_ast.specs.declared.program.Decl16.{Decl16}
-use Rattle.p416_ast.specs.declared.program.Syntax16.{Syntax16}
-use Rattle.p416_rules.specs.Names.{Name}
-use Rattle.p416_rules.specs.Scopes.{Scope}
-use Rattle.p416_rules.specs.Declarations.{action_in, control_scope, layouts_of, top_scope, table_in}
-use Rattle.p416_rules.specs.Main.{positions_from}
+use Rattle.p416_syntax.specs.declared.controls.Local.{Local}
+use Rattle.p416_syntax.specs.declared.controls.Control16.{Control16}
+use Rattle.p416_syntax.specs.declared.program.Decl16.{Decl16}
+use Rattle.p416_syntax.specs.declared.program.Syntax16.{Syntax16}
+use Rattle.p416_syntax.specs.Names.{Name}
+use Rattle.p416_syntax.specs.Scopes.{Scope}
+use Rattle.p416_syntax.specs.Declarations.{action_in, control_scope, layouts_of, top_scope, table_in}
+use Rattle.p416_syntax.specs.Main.{positions_from}
 use Rattle.p416_scopes.specs.Seen.{seen_scope}
-use Rattle.v1_sem.specs.declared.block.Block.{Block as BlockName}
-use Rattle.v1_sem.specs.Numbered as numbered
-use Rattle.v1_sem.specs.Slots.{local_kinds}
-use Rattle.v1_sem.specs.Signatures.{key_scope, own_object, table_names}
-use Rattle.v1_sem.specs.Blocks.{var_in}
-use Rattle.v1_frame_values.specs.Programs.{frame_kinds, first_start}
+use Rattle.v1_core.specs.declared.block.Block.{Block as BlockName}
+use Rattle.v1_core.specs.Numbered as numbered
+use Rattle.v1_core.specs.Slots.{local_kinds}
+use Rattle.v1_core.specs.Signatures.{key_scope, own_object, table_names}
+use Rattle.v1_core.specs.Blocks.{var_in}
+use Rattle.v1_core.specs.Programs.{frame_kinds, first_start}
 use Rattle.v1_seats.specs.Seen.{seen_seat}
 use Rattle.v1_seats.specs.Frame.{seats_from}
 use Rattle.p416_signature.specs.internal.Gathered.{objects_seen, AreObjects}
-use Rattle.v1_frames.specs.Layouts.{Layout}
-use Rattle.v1_ready_expressions.specs.Nodes.{ready_of}
-use Rattle.v1_ready_expressions.specs.Kept as expressions
+use Rattle.v1_core.specs.Layouts.{Layout}
+use Rattle.v1_core.specs.Nodes.{ready_of}
+use Rattle.v1_core.specs.Kept as expressions
 use Rattle.v1_ready_blocks.specs.Nodes.{Ground, tree_of}
 use Rattle.v1_ready_blocks.specs.Kept as statements
 use Rattle.v1_ready_forms.specs.Named.{seats_in}
@@ -39,9 +39,9 @@ use Rattle.v1_block_tables.specs.Parts.{CanApply}
 use Rattle.v1_ready_statements.specs.Around.{Around, ActionPlace}
 use Rattle.v1_ready_statements.specs.Blocks.{around_control}
 use Rattle.v1_ready_nodes.specs.Held.{Held, ready_in, trees_in, IsHeld, Grows}
-use Rattle.v1_ready_calls.specs.declared.callees.Callees.{Callees}
-use Rattle.v1_ready_calls.specs.Callees.{around_of, seen_action, action_name, table_name, AreCallees}
-use Rattle.v1_ready_calls.proofs.Naming.{action_numbered}
+use Rattle.v1_ready_operands.specs.declared.callees.Callees.{Callees}
+use Rattle.v1_ready_operands.specs.Callees.{around_of, seen_action, action_name, table_name, AreCallees}
+use Rattle.v1_ready_operands.proofs.Naming.{action_numbered}
 use Rattle.v1_ready_tables.specs.declared.names.TableNames.{TableNames}
 use Rattle.v1_ready_tables.specs.Seen.{IsTableIn}
 use Rattle.v1_ready_tables.specs.Tables.{AreNames}
@@ -49,10 +49,10 @@ use Rattle.v1_ready_controls.specs.declared.program.ProgramParts.{ProgramParts}
 use Rattle.v1_ready_controls.specs.declared.control.Control.{Control}
 use Rattle.v1_ready_controls.specs.declared.whole.Parts.{Parts}
 use Rattle.v1_ready_controls.specs.Program.{slot_in_standard, IsProgram}
-use Rattle.v1_ready_controls.specs.Seen.{IsActionIn, code_of, IsReadyOver}
+use Rattle.v1_ready_locals.specs.Seen.{IsActionIn, code_of, IsReadyOver}
 use Rattle.v1_ready_controls.specs.internal.Declared.{AreDeclared, IsControl, ArePartsIn}
-use Rattle.v1_ready_controls.specs.internal.Zipped.{number_in, zip_actions, zip_variables}
-use Rattle.v1_ready_controls.proofs.Owning.{actions_are, variables_are}
+use Rattle.v1_ready_locals.specs.internal.Zipped.{number_in, zip_actions, zip_variables}
+use Rattle.v1_ready_locals.proofs.Owning.{actions_are, variables_are}
 
 pub scope_is : (p : ProgramParts) (c : Control16) (s : Scope) (positions : List ℕ) → IsProgram p → positions ≡ positions_from 0 p.places.now c.name → s ≡ control_scope (top_scope p.top.now positions) c → s ≡ scope_in_control p.syntax.now c
 scope_is p c s positions are at is =

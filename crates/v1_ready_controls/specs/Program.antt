@@ -1,13 +1,13 @@
 -- What the blocks of a program are made ready among: these are the parts of the program.
 use Rattle.std.specs.Prelude.{◌≡◌, ℕ, [], ◌∷◌, map, Option, codes}
-use Rattle.p416_ast.specs.declared.program.Syntax16.{Syntax16}
-use Rattle.p416_rules.specs.Names.{Name}
-use Rattle.p416_rules.specs.Declarations.{layouts_of}
+use Rattle.p416_syntax.specs.declared.program.Syntax16.{Syntax16}
+use Rattle.p416_syntax.specs.Names.{Name}
+use Rattle.p416_syntax.specs.Declarations.{layouts_of}
 use Rattle.p416_signature.specs.internal.Gathered.{AreObjects}
-use Rattle.v1_sem.specs.Values.{to_member}
-use Rattle.v1_sem.specs.Slots.{the_standard, part_with}
-use Rattle.v1_sem.specs.Signatures.{table_names}
-use Rattle.v1_frame_values.specs.Programs.{frame_kinds, first_start, part_seat}
+use Rattle.v1_core.specs.Values.{to_member}
+use Rattle.v1_core.specs.Slots.{the_standard, part_with}
+use Rattle.v1_core.specs.Signatures.{table_names}
+use Rattle.v1_core.specs.Programs.{frame_kinds, first_start, part_seat}
 use Rattle.v1_seats.specs.Seen.{seen_seat}
 use Rattle.v1_seats.specs.Frame.{seats_from}
 use Rattle.v1_ready_statements.specs.Around.{slot_of_seat}

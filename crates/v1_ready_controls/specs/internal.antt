@@ -1,3 +1,2 @@
 -- What private functions name.
-pub mod Zipped
 pub mod Declared

@@ -1,14 +1,14 @@
 // A control made ready (P4_16 1.2, "Control blocks").
 ghost use Rattle.std.specs.Prelude.{◌≡◌, option_map, IfOk, IfSome, OnOk};
 ghost use Rattle.p416_scopes.specs.Seen.{seen_scope};
-ghost use Rattle.v1_sem.specs.Signatures.{key_scope};
+ghost use Rattle.v1_core.specs.Signatures.{key_scope};
 ghost use Rattle.v1_block_laws.specs.Variables.{scope_in_control};
 ghost use Rattle.v1_ready_nodes.specs.Held.{IsHeld, Grows};
 ghost use Rattle.v1_block_tables.specs.Parts.{CanApply};
 ghost use Rattle.v1_ready_statements.specs.Blocks.{ready_control};
 ghost use Rattle.v1_block_run.specs.Blocks.{seen_block};
 ghost use Rattle.v1_ready_controls.specs.Program.{IsProgram};
-ghost use Rattle.v1_ready_controls.specs.Seen.{code_of, IsReadyOver};
+ghost use Rattle.v1_ready_locals.specs.Seen.{code_of, IsReadyOver};
 ghost use Rattle.v1_ready_controls.specs.internal.Declared.{seen_parts, ArePartsIn, IsControl};
 
 use crate::declared::{Declared, callees_of, declarations_of, names_of};
@@ -16,18 +16,17 @@ use crate::program::ProgramParts;
 use crate::singles::InBlock;
 use crate::whole::{Parts, ready_parts};
 use p4x_bits::OutOfMemory;
-use p416_ast::Control16;
 use p416_scopes::{Part, Scope};
+use p416_syntax::Control16;
 use state_store::Shape;
 use std::alloc::Global;
 use v1_block_run::ReadyBlock;
 use v1_block_seats::{control_from, control_numbers, control_seats};
-use v1_frames::FrameLayout;
+use v1_core::{Block, FrameLayout};
 use v1_ready_bodies::Standing;
 use v1_ready_nodes::ReadyNodes;
 use v1_ready_program::NamedSeats;
-use v1_ready_steps::Code;
-use v1_sem::Block;
+use v1_statement_run::Code;
 
 /// A control that stands in the program: the scopes of its statements and of its keys, its names with their seats, what it
 /// declares, and the number of the first variable of its statements.

@@ -2,20 +2,19 @@
 ghost use Rattle.std.specs.Prelude.{◌≡◌, IfOk};
 ghost use Rattle.v1_ready_controls.specs.internal.Declared.{AreDeclared};
 
-use crate::own::{action_names, own_actions, own_tables, own_variables, table_names};
 use name_numbers::Numbering;
 use p4x_bits::OutOfMemory;
-use p416_ast::{Local, Syntax16, Table16};
 use p416_signature::{ByName, Objects};
+use p416_syntax::{Local, Syntax16, Table16};
 use std::alloc::Global;
 use v1_block_seats::ControlNumbers;
 use v1_ready_bodies::OwnVariable;
-use v1_ready_calls::{Callees, OwnAction};
+use v1_ready_locals::{action_names, own_actions, own_tables, own_variables, table_names};
+use v1_ready_operands::{Callees, OwnAction};
 use v1_ready_tables::TableNames;
 use v1_seats::Seat;
 
 /// What a control declares, in the order of the text.
-#[derive(Drop)]
 pub(crate) struct Declared<'a> {
     /// Its variables.
     pub(crate) variables: Vec<OwnVariable<'a>>,
@@ -29,6 +28,19 @@ pub(crate) struct Declared<'a> {
     pub(crate) table_names: Numbering<'a>,
     /// Its objects.
     pub(crate) objects: ByName<'a>,
+}
+
+impl Drop for Declared<'_> {
+    fn drop(self) {
+        let Declared {
+            variables: _variables,
+            actions: _actions,
+            action_names: _action_names,
+            tables: _tables,
+            table_names: _table_names,
+            objects: _objects,
+        } = self;
+    }
 }
 
 /// What a control declares, where variables and actions have these numbers. The one error is want of memory.

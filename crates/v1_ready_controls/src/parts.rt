@@ -1,9 +1,9 @@
 // What single statements ask a block for, and how they are made (P4_16 1.2, "Statements").
 ghost use Rattle.std.specs.Prelude.{◌≡◌, option_map, IfOk, OnOk};
-ghost use Rattle.p416_kinds.specs.Seen.{seen_kind};
-ghost use Rattle.p416_rules.specs.Kinds.{boolean};
-ghost use Rattle.p416_rules.specs.Calls.{value};
-ghost use Rattle.p416_rules.specs.Declarations.{layouts_of};
+ghost use Rattle.p416_names.specs.SeenKinds.{seen_kind};
+ghost use Rattle.p416_syntax.specs.Kinds.{boolean};
+ghost use Rattle.p416_syntax.specs.Calls.{value};
+ghost use Rattle.p416_syntax.specs.Declarations.{layouts_of};
 ghost use Rattle.p416_scopes.specs.Seen.{seen_scope};
 ghost use Rattle.v1_seats.specs.Seen.{seen_seat};
 ghost use Rattle.v1_ready_program.specs.Seen.{seen_seats};
@@ -12,17 +12,18 @@ ghost use Rattle.v1_ready_statements.specs.Around.{action_found, table_found, va
 ghost use Rattle.v1_ready_statements.specs.Blocks.{number_in};
 ghost use Rattle.v1_ready_statements.specs.Tested.{ready_test};
 ghost use Rattle.v1_ready_statements.specs.Statements.{start_ready, initial_ready, assignment_ready};
-ghost use Rattle.v1_ready_calls.specs.Callees.{around_of, AreCallees};
+ghost use Rattle.v1_ready_operands.specs.Callees.{around_of, AreCallees};
 ghost use Rattle.v1_ready_bodies.specs.Seen.{seen_test, seen_statement, IsNodeIn};
 
 use p4x_bits::OutOfMemory;
-use p416_ast::ExpView;
 use p416_calls::Place;
-use p416_kinds::Kind;
+use p416_names::Kind;
+use p416_syntax::ExpView;
 use std::alloc::Global;
 use v1_block_seats::variable_seat;
-use v1_ready_calls::{Callees, ready_assignment, ready_initial, ready_start};
+use v1_ready_calls::{ready_assignment, ready_initial, ready_start};
 use v1_ready_nodes::ReadyNodes;
+use v1_ready_operands::Callees;
 use v1_ready_program::Around;
 use v1_ready_tests::ready_test;
 use v1_seats::Seat;
@@ -37,7 +38,7 @@ pub(crate) fn table_called(callees: Callees<'_, '_>, name: &[u8]) -> Option<u32>
 }
 
 /// The number of the action of this name.
-#[tactic(auto, using(v1_ready_calls::proofs::Naming::action_numbered))]
+#[tactic(auto, using(v1_ready_operands::proofs::Naming::action_numbered))]
 pub(crate) fn action_numbered(callees: Callees<'_, '_>, name: &[u8]) -> Option<u32>
     requires { AreCallees callees }
     ensures { result ≡ option_map number_in (action_found (around_of callees.entry) name.now) }

@@ -1,9 +1,9 @@
 // What the blocks of a program are made ready among.
 use name_numbers::Numbering;
-use p416_ast::Syntax16;
 use p416_main_check::MainPlaces;
 use p416_names::Top;
 use p416_signature::Objects;
+use p416_syntax::Syntax16;
 use v1_seats::{Seat, TypeTable};
 
 /// What the blocks of a program are made ready among.

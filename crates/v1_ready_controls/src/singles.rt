@@ -1,18 +1,19 @@
 // The single statements of a block (P4_16 1.2, "Statements").
 ghost use Rattle.std.specs.Prelude.{◌≡◌};
-ghost use Rattle.v1_ready_calls.specs.Callees.{around_of, AreCallees};
+ghost use Rattle.v1_ready_operands.specs.Callees.{around_of, AreCallees};
 
 use crate::parts::{
     action_numbered, assignment_of, condition_of, initial_of, seat_numbered, start_of, table_called,
 };
 use p4x_bits::OutOfMemory;
-use p416_ast::ExpView;
-use p416_kinds::Kind;
+use p416_names::Kind;
+use p416_syntax::ExpView;
 use std::alloc::Global;
 use std::marker::Model;
 use v1_ready_bodies::Singles;
-use v1_ready_calls::{Callees, ready_call};
+use v1_ready_calls::ready_call;
 use v1_ready_nodes::ReadyNodes;
+use v1_ready_operands::Callees;
 use v1_ready_program::Around;
 use v1_seats::Seat;
 
@@ -24,11 +25,11 @@ pub struct InBlock<'b, 'a> {
 
 impl<'b, 'a> Model for InBlock<'b, 'a> {
     ghost use Rattle.std.specs.Coded.{codes};
-    ghost use Rattle.p416_ast.specs.contracts.program.Syntax16 as program;
-    ghost use Rattle.p416_ast.specs.contracts.controls.Local as local;
-    ghost use Rattle.p416_ast.specs.contracts.controls.Action16 as action;
+    ghost use Rattle.p416_syntax.specs.contracts.program.Syntax16 as program;
+    ghost use Rattle.p416_syntax.specs.contracts.controls.Local as local;
+    ghost use Rattle.p416_syntax.specs.contracts.controls.Action16 as action;
     ghost use Rattle.v1_ready_statements.specs.Around.{Around as Block};
-    ghost use Rattle.v1_ready_calls.specs.Callees.{around_of, AreCallees};
+    ghost use Rattle.v1_ready_operands.specs.Callees.{around_of, AreCallees};
 
     ghost Value = { Block };
 

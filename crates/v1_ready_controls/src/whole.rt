@@ -1,30 +1,30 @@
 // The parts of a control, one after another (P4_16 1.2, "Control blocks").
 ghost use Rattle.std.specs.Prelude.{◌≡◌, All, List, map, option_map, IfOk, IfSome, OnOk, ℕ};
 ghost use Rattle.p416_scopes.specs.Seen.{seen_scope};
-ghost use Rattle.v1_sem.specs.Signatures.{key_scope};
-ghost use Rattle.v1_frames.specs.Layouts.{Layout};
+ghost use Rattle.v1_core.specs.Signatures.{key_scope};
+ghost use Rattle.v1_core.specs.Layouts.{Layout};
 ghost use Rattle.v1_ready_program.specs.Seen.{seen_seats};
 ghost use Rattle.v1_ready_nodes.specs.Held.{Held, IsHeld, Grows};
 ghost use Rattle.v1_ready_statements.specs.Blocks.{all_of, body_ready, parameter_slots, with_all};
 ghost use Rattle.v1_ready_statements.specs.Statements.{ready_of_statement};
 ghost use Rattle.v1_block_run.specs.Blocks.{seen_parameters};
-ghost use Rattle.v1_ready_calls.specs.Callees.{seen_action};
+ghost use Rattle.v1_ready_operands.specs.Callees.{seen_action};
 ghost use Rattle.v1_ready_tables.specs.Seen.{seen_tables, IsTableIn};
 ghost use Rattle.v1_ready_tables.specs.Tables.{table_by};
 ghost use Rattle.v1_ready_bodies.specs.Seen.{seen_statement, IsNodeIn, IsStanding};
 ghost use Rattle.v1_ready_bodies.specs.Variables.{variables_ready};
-ghost use Rattle.v1_ready_controls.specs.Seen.{seen_bodies, IsActionIn};
+ghost use Rattle.v1_ready_locals.specs.Seen.{seen_bodies, IsActionIn};
 ghost use Rattle.v1_ready_controls.specs.internal.Declared.{seen_parts, ArePartsIn};
 
-use crate::actions::ready_actions;
 use crate::declared::Declared;
 use p4x_bits::{OutOfMemory, Rows};
-use p416_ast::{Control16, Table16};
 use p416_scopes::Scope;
+use p416_syntax::{Control16, Table16};
 use std::alloc::Global;
 use v1_block_run::{ReadyAction, ReadyTable};
-use v1_frames::FrameLayout;
+use v1_core::FrameLayout;
 use v1_ready_bodies::{Singles, Standing, ready_body, ready_variables};
+use v1_ready_locals::ready_actions;
 use v1_ready_nodes::ReadyNodes;
 use v1_ready_program::Around;
 use v1_ready_tables::{TableNames, ready_tables};
@@ -82,7 +82,7 @@ fn whole_body<'a, S: Singles<'a>>(
 }
 
 /// Makes the tables of a control ready, whose keys stand in this scope.
-#[tactic(auto, using(crate::proofs::Joining::types_there))]
+#[tactic(auto, using(v1_ready_locals::proofs::Joining::types_there))]
 fn within_keys<'a>(
     alloc: Global,
     nodes: &mut ReadyNodes<'_>,

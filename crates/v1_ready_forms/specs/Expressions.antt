@@ -2,22 +2,22 @@
 -- of which a part is asked is a choice between these parts. None where an expression is no single value, or applies a table;
 -- an error's name, a member of an enumeration and a list in braces by themselves are none either.
 use Rattle.std.specs.Prelude.{suc, ◌-◌, List, Option, Some, None, option_map}
-use Rattle.p416_lexemes.specs.declared.lexeme.Literal16.{Literal16}
-use Rattle.p416_ast.specs.declared.node.CastType.{CastType}
-use Rattle.p416_ast.specs.declared.node.CastType.TheVariants as cast_to
-use Rattle.p416_ast.specs.declared.node.BinaryOperator.{BinaryOperator}
-use Rattle.p416_ast.specs.declared.node.BinaryOperator.TheVariants.{And, Or}
-use Rattle.p416_ast.specs.Tree.{Exp16, literal, truth, error, name, member, index, slice, call, lookahead, cast, unary, binary, choice}
-use Rattle.p416_rules.specs.Names.{Name}
-use Rattle.p416_rules.specs.Kinds.{Kind, bits, boolean, header, stack, errors, enumeration}
-use Rattle.p416_rules.specs.Scopes.{Layout, Scope, kind_of_type}
-use Rattle.p416_rules.specs.Calls.{Place, value, any_bits, owner, a_stack}
-use Rattle.p416_rules.specs.Expressions.{kind_of}
-use Rattle.p416_rules.specs.Uses.{unary_place, left_place, right_place, cast_place, chosen_place}
-use Rattle.v1_sem.specs.Values.{a_truth, an_error}
-use Rattle.v1_sem.specs.Expressions.{literal_number, number_of_error}
-use Rattle.v1_ready_expressions.specs.Ready as ready
-use Rattle.v1_ready_expressions.specs.Ready.{Ready}
+use Rattle.p416_syntax.specs.declared.lexeme.Literal16.{Literal16}
+use Rattle.p416_syntax.specs.declared.node.CastType.{CastType}
+use Rattle.p416_syntax.specs.declared.node.CastType.TheVariants as cast_to
+use Rattle.p416_syntax.specs.declared.node.BinaryOperator.{BinaryOperator}
+use Rattle.p416_syntax.specs.declared.node.BinaryOperator.TheVariants.{And, Or}
+use Rattle.p416_syntax.specs.Tree.{Exp16, literal, truth, error, name, member, index, slice, call, lookahead, cast, unary, binary, choice}
+use Rattle.p416_syntax.specs.Names.{Name}
+use Rattle.p416_syntax.specs.Kinds.{Kind, bits, boolean, header, stack, errors, enumeration}
+use Rattle.p416_syntax.specs.Scopes.{Layout, Scope, kind_of_type}
+use Rattle.p416_syntax.specs.Calls.{Place, value, any_bits, owner, a_stack}
+use Rattle.p416_syntax.specs.Expressions.{kind_of}
+use Rattle.p416_syntax.specs.Uses.{unary_place, left_place, right_place, cast_place, chosen_place}
+use Rattle.v1_core.specs.Values.{a_truth, an_error}
+use Rattle.v1_core.specs.Expressions.{literal_number, number_of_error}
+use Rattle.v1_core.specs.Ready as ready
+use Rattle.v1_core.specs.Ready.{Ready}
 use Rattle.v1_ready_forms.specs.Named.{NamedSeat, seat_of_name}
 use Rattle.v1_ready_forms.specs.Ways.{Way, its_value, its_validity, through_member, through_element, through_told, which_of}
 use Rattle.v1_ready_forms.specs.Spots.{spot_with, ready_behind, way_ready}

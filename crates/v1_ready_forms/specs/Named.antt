@@ -3,14 +3,14 @@
 -- the parameters of the blocks).
 use Rattle.std.specs.Prelude.{if◌then◌else◌, List, [], ◌∷◌, ◌++◌, map, Option, None}
 use Rattle.std.specs.Str.{bytes_eq}
-use Rattle.p416_ast.specs.declared.program.Syntax16.{Syntax16}
-use Rattle.p416_rules.specs.Names.{Name}
-use Rattle.v1_sem.specs.Frames.{Owner, of_headers, of_metadata, of_standard, of_variables, of_inner, of_nothing}
-use Rattle.v1_sem.specs.Surroundings.{Root}
-use Rattle.v1_sem.specs.Slots.{the_headers, the_metadata, the_standard, the_variable}
-use Rattle.v1_sem.specs.Numbered.{Variable, InScope}
-use Rattle.v1_frame_values.specs.Seats.{Seat}
-use Rattle.v1_frame_values.specs.Programs.{owner_seat}
+use Rattle.p416_syntax.specs.declared.program.Syntax16.{Syntax16}
+use Rattle.p416_syntax.specs.Names.{Name}
+use Rattle.v1_core.specs.Frames.{Owner, of_headers, of_metadata, of_standard, of_variables, of_inner, of_nothing}
+use Rattle.v1_core.specs.Surroundings.{Root}
+use Rattle.v1_core.specs.Slots.{the_headers, the_metadata, the_standard, the_variable}
+use Rattle.v1_core.specs.Numbered.{Variable, InScope}
+use Rattle.v1_core.specs.Seats.{Seat}
+use Rattle.v1_core.specs.Programs.{owner_seat}
 
 -- a name, and the seat of what it means; none where that is no value of the frame
 pub record NamedSeat : Type 0 where

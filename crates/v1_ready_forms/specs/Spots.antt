@@ -1,13 +1,13 @@
 -- Where a part of a frame stands, also one in an element that the place of a stack tells (this project's own).
 use Rattle.std.specs.Prelude.{ℕ, List, length, Option, Some, None}
-use Rattle.p416_rules.specs.Scopes.{Layout, fields_in}
-use Rattle.v1_sem.specs.Values.{Step, to_member, to_element}
-use Rattle.v1_frame_values.specs.Seats.{Content, some_bits, a_truth, an_error, Form, slot_form, header_form, stack_form, Seat, stepped_seat}
-use Rattle.v1_ready_expressions.specs.declared.node.Content.{Content as SlotContent}
-use Rattle.v1_ready_expressions.specs.declared.node.Content.TheVariants as content
-use Rattle.v1_ready_expressions.specs.declared.node.Which.{Which}
-use Rattle.v1_ready_expressions.specs.declared.node.Element.{Element}
-use Rattle.v1_ready_expressions.specs.Ready.{Ready, slot, element_slot, valid, element_valid}
+use Rattle.p416_syntax.specs.Scopes.{Layout, fields_in}
+use Rattle.v1_core.specs.Values.{Step, to_member, to_element}
+use Rattle.v1_core.specs.Seats.{Content, some_bits, a_truth, an_error, Form, slot_form, header_form, stack_form, Seat, stepped_seat}
+use Rattle.v1_core.specs.declared.node.Content.{Content as SlotContent}
+use Rattle.v1_core.specs.declared.node.Content.TheVariants as content
+use Rattle.v1_core.specs.declared.node.Which.{Which}
+use Rattle.v1_core.specs.declared.node.Element.{Element}
+use Rattle.v1_core.specs.Ready.{Ready, slot, element_slot, valid, element_valid}
 use Rattle.v1_ready_forms.specs.Ways.{Way, its_value, its_validity, through_member, through_element, through_told}
 
 -- an element that the place of a stack tells, and how many slots the elements of the stack have each

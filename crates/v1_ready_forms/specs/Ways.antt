@@ -1,10 +1,10 @@
 -- What is asked of a header, a stack or a struct: a way to a part of it, and what is asked there (P4_16 1.2, "Operations on
 -- headers", "Operations on header stacks", "Operations on struct types").
 use Rattle.std.specs.Prelude.{ℕ, if◌then◌else◌}
-use Rattle.p416_rules.specs.Names.{Name}
-use Rattle.v1_sem.specs.Expressions.{is_last}
-use Rattle.v1_ready_expressions.specs.declared.node.Which.{Which}
-use Rattle.v1_ready_expressions.specs.declared.node.Which.TheVariants.{Next, Last}
+use Rattle.p416_syntax.specs.Names.{Name}
+use Rattle.v1_core.specs.Expressions.{is_last}
+use Rattle.v1_core.specs.declared.node.Which.{Which}
+use Rattle.v1_core.specs.declared.node.Which.TheVariants.{Next, Last}
 
 pub data Way : Type 0 where
   -- the value; whether the header is valid

@@ -2,14 +2,14 @@
 use Rattle.std.proofs.Common.{◌≡◌, inl, inr, ◌||◌, not, Bool, true, false, List, [], ◌∷◌, flat_map, refl, ap, ◌∙◌}
 use Rattle.std.specs.List.{list_any}
 use Rattle.std.proofs.lemmas.List.Folds.{list_any-append}
-use Rattle.p416_ast.specs.declared.program.Decl16.{Decl16}
-use Rattle.p416_ast.specs.declared.program.Syntax16.{Syntax16}
-use Rattle.p416_rules.specs.declared.rule.ProgramRule.TheVariants.{T2}
-use Rattle.p416_rules.specs.Declarations.{layouts_of}
-use Rattle.p416_rules.specs.Sizes.{leaves_size}
-use Rattle.p416_rules.specs.Main.{is_main}
-use Rattle.p416_rules.specs.Breaks.{DeclarationBreaks, has_use, SomeDeclaration, scope_of, uses_in, program_uses, IsBroken, program_rules, BreaksNone}
-use Rattle.v1_frame_values.specs.Programs.{frame_kinds}
+use Rattle.p416_syntax.specs.declared.program.Decl16.{Decl16}
+use Rattle.p416_syntax.specs.declared.program.Syntax16.{Syntax16}
+use Rattle.p416_syntax.specs.declared.rule.ProgramRule.TheVariants.{T2}
+use Rattle.p416_syntax.specs.Declarations.{layouts_of}
+use Rattle.p416_syntax.specs.Sizes.{leaves_size}
+use Rattle.p416_syntax.specs.Main.{is_main}
+use Rattle.p416_syntax.specs.Breaks.{DeclarationBreaks, has_use, SomeDeclaration, scope_of, uses_in, program_uses, IsBroken, program_rules, BreaksNone}
+use Rattle.v1_core.specs.Programs.{frame_kinds}
 use Rattle.v1_ready_laws.specs.Widths.{TypesNarrow, KindsNarrow}
 use Rattle.v1_ready_laws.specs.Kinds.{TypesSized}
 use Rattle.v1_ready_laws.proofs.Narrow.{types_kept}

@@ -1,30 +1,30 @@
 -- Where no size is left, no variable and no parameter of an action is wider than 128 bits.
 use Rattle.std.proofs.Common.{◌≡◌, ℕ, ◌≤◌, ◌&&◌, Bool, true, false, List, [], ◌∷◌, ◌++◌, map, flat_map, filter_map, refl}
 use Rattle.std.specs.List.{list_any, cons_option}
-use Rattle.p416_ast.specs.declared.parts.Param.{Param}
-use Rattle.p416_ast.specs.declared.parsers.Var.{Var}
-use Rattle.p416_ast.specs.declared.parsers.State.{State}
-use Rattle.p416_ast.specs.declared.parsers.Parser16.{Parser16}
-use Rattle.p416_ast.specs.declared.controls.Action16.{Action16}
-use Rattle.p416_ast.specs.declared.controls.Local.{Local}
-use Rattle.p416_ast.specs.declared.controls.Control16.{Control16}
-use Rattle.p416_ast.specs.declared.controls.Local.TheVariants as local
-use Rattle.p416_ast.specs.declared.program.Decl16.{Decl16}
-use Rattle.p416_ast.specs.declared.program.Decl16.TheVariants as decl
-use Rattle.p416_ast.specs.declared.program.Syntax16.{Syntax16}
-use Rattle.p416_ast.specs.Tree.{Stmt16, no_statements, then, block, empty, var, var_is, assign, expression, if_then, if_else, switch, no_cases, case_of}
-use Rattle.p416_rules.specs.Kinds.{Kind, bits, unsized, boolean, error_code, header, stack, struct, packet_in, packet_out, errors, enumeration, one_of, table, applied, object, items, nothing, unknown}
-use Rattle.p416_rules.specs.Scopes.{Layout as TypeLayout, FieldKind, Known, Scope, kind_of_type, known_parameter}
-use Rattle.p416_rules.specs.Totals.{bits_in}
-use Rattle.p416_rules.specs.Calls.{value}
-use Rattle.p416_rules.specs.Uses.{Use, names_of_scope, some_parameters, of_variable, of_action_parameter, of_block_parameter, type_uses, uses}
-use Rattle.p416_rules.specs.Sizes.{leaves_size}
-use Rattle.p416_rules.specs.Statements.{behind, Visit, visit, visits, own_uses, visit_uses}
-use Rattle.p416_rules.specs.Declarations.{note_uses, var_uses, known_var, parameter_name, parameter_uses, body_uses, transition_uses, state_uses, known_state, parser_names, parser_scope, parser_uses, action_scope, action_uses, known_local, control_names, control_scope, local_uses, control_uses, layouts_of}
-use Rattle.p416_rules.specs.Main.{headers_kind, metadata_kind, is_header_field, is_metadata_field, is_struct_where, are_headers, is_metadata, is_main}
-use Rattle.p416_rules.specs.Breaks.{scope_of, uses_in, program_uses}
-use Rattle.v1_sem.specs.Slots.{declared_kind, visited_kind, kinds_in, var_kind, parameter_kind, state_kinds, local_kinds, parser_kinds, control_kinds, kinds_of}
-use Rattle.v1_frame_values.specs.Programs.{frame_kinds}
+use Rattle.p416_syntax.specs.declared.parts.Param.{Param}
+use Rattle.p416_syntax.specs.declared.parsers.Var.{Var}
+use Rattle.p416_syntax.specs.declared.parsers.State.{State}
+use Rattle.p416_syntax.specs.declared.parsers.Parser16.{Parser16}
+use Rattle.p416_syntax.specs.declared.controls.Action16.{Action16}
+use Rattle.p416_syntax.specs.declared.controls.Local.{Local}
+use Rattle.p416_syntax.specs.declared.controls.Control16.{Control16}
+use Rattle.p416_syntax.specs.declared.controls.Local.TheVariants as local
+use Rattle.p416_syntax.specs.declared.program.Decl16.{Decl16}
+use Rattle.p416_syntax.specs.declared.program.Decl16.TheVariants as decl
+use Rattle.p416_syntax.specs.declared.program.Syntax16.{Syntax16}
+use Rattle.p416_syntax.specs.Tree.{Stmt16, no_statements, then, block, empty, var, var_is, assign, expression, if_then, if_else, switch, no_cases, case_of}
+use Rattle.p416_syntax.specs.Kinds.{Kind, bits, unsized, boolean, error_code, header, stack, struct, packet_in, packet_out, errors, enumeration, one_of, table, applied, object, items, nothing, unknown}
+use Rattle.p416_syntax.specs.Scopes.{Layout as TypeLayout, FieldKind, Known, Scope, kind_of_type, known_parameter}
+use Rattle.p416_syntax.specs.Totals.{bits_in}
+use Rattle.p416_syntax.specs.Calls.{value}
+use Rattle.p416_syntax.specs.Uses.{Use, names_of_scope, some_parameters, of_variable, of_action_parameter, of_block_parameter, type_uses, uses}
+use Rattle.p416_syntax.specs.Sizes.{leaves_size}
+use Rattle.p416_syntax.specs.Statements.{behind, Visit, visit, visits, own_uses, visit_uses}
+use Rattle.p416_syntax.specs.Declarations.{note_uses, var_uses, known_var, parameter_name, parameter_uses, body_uses, transition_uses, state_uses, known_state, parser_names, parser_scope, parser_uses, action_scope, action_uses, known_local, control_names, control_scope, local_uses, control_uses, layouts_of}
+use Rattle.p416_syntax.specs.Main.{headers_kind, metadata_kind, is_header_field, is_metadata_field, is_struct_where, are_headers, is_metadata, is_main}
+use Rattle.p416_syntax.specs.Breaks.{scope_of, uses_in, program_uses}
+use Rattle.v1_core.specs.Slots.{declared_kind, visited_kind, kinds_in, var_kind, parameter_kind, state_kinds, local_kinds, parser_kinds, control_kinds, kinds_of}
+use Rattle.v1_core.specs.Programs.{frame_kinds}
 use Rattle.v1_ready_laws.specs.Widths.{KindsNarrow}
 use Rattle.v1_ready_laws.proofs.Rules.{front_none, rest_none}
 use Rattle.v1_ready_laws.proofs.Narrow.{SortPlain, AllPlain, small, type_plain, instance_plain, top_plain}

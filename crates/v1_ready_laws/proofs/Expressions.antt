@@ -1,25 +1,25 @@
 -- Where an expression is ready, its ready form gives what is asked of it.
 use Rattle.std.proofs.Common.{◌≡◌, inl, suc, ◌-◌, cond, Option, Some, None, IfSome, option_map, List, refl, ap}
-use Rattle.p416_ast.specs.declared.node.CastType.{CastType}
-use Rattle.p416_ast.specs.declared.node.CastType.TheVariants as cast_to
-use Rattle.p416_ast.specs.declared.node.BinaryOperator.{BinaryOperator}
-use Rattle.p416_ast.specs.declared.node.BinaryOperator.TheVariants.{Multiply, Add, Subtract, SaturatingAdd, SaturatingSubtract, Concatenate, ShiftLeft, ShiftRight, BitAnd, BitXor, BitOr, Less, LessEqual, Greater, GreaterEqual, Equal, NotEqual, And, Or}
-use Rattle.p416_ast.specs.Tree.{Exp16, literal, truth, error, name, member, index, slice, call, lookahead, cast, unary, binary, choice, parenthesized, no_arguments, argument, listed}
-use Rattle.p416_rules.specs.Names.{Name}
-use Rattle.p416_rules.specs.Kinds.{boolean}
-use Rattle.p416_rules.specs.Scopes.{Scope, kind_of_type}
-use Rattle.p416_rules.specs.Calls.{Place, value, any_bits, owner, a_stack}
-use Rattle.p416_rules.specs.Expressions.{kind_of}
-use Rattle.p416_rules.specs.Uses.{unary_place, left_place, right_place, cast_place, chosen_place}
-use Rattle.v1_sem.specs.Values.{a_number, a_truth, number_in, is_true, sliced}
-use Rattle.v1_sem.specs.Numbers.{unary_value, binary_value, cast_value}
-use Rattle.v1_sem.specs.Frames.{Moment, read}
-use Rattle.v1_sem.specs.Surroundings.{World, named}
-use Rattle.v1_sem.specs.Expressions.{Valued, valued, literal_number, slice_of, value_of}
-use Rattle.v1_frames.specs.Cells.{Cells}
-use Rattle.v1_ready_expressions.specs.Ready as ready
-use Rattle.v1_ready_expressions.specs.Ready.{Ready, Ended, given, and_then, ready_value}
-use Rattle.v1_ready_expressions.specs.Scalars.{pair_value, bits_value, truth_value}
+use Rattle.p416_syntax.specs.declared.node.CastType.{CastType}
+use Rattle.p416_syntax.specs.declared.node.CastType.TheVariants as cast_to
+use Rattle.p416_syntax.specs.declared.node.BinaryOperator.{BinaryOperator}
+use Rattle.p416_syntax.specs.declared.node.BinaryOperator.TheVariants.{Multiply, Add, Subtract, SaturatingAdd, SaturatingSubtract, Concatenate, ShiftLeft, ShiftRight, BitAnd, BitXor, BitOr, Less, LessEqual, Greater, GreaterEqual, Equal, NotEqual, And, Or}
+use Rattle.p416_syntax.specs.Tree.{Exp16, literal, truth, error, name, member, index, slice, call, lookahead, cast, unary, binary, choice, parenthesized, no_arguments, argument, listed}
+use Rattle.p416_syntax.specs.Names.{Name}
+use Rattle.p416_syntax.specs.Kinds.{boolean}
+use Rattle.p416_syntax.specs.Scopes.{Scope, kind_of_type}
+use Rattle.p416_syntax.specs.Calls.{Place, value, any_bits, owner, a_stack}
+use Rattle.p416_syntax.specs.Expressions.{kind_of}
+use Rattle.p416_syntax.specs.Uses.{unary_place, left_place, right_place, cast_place, chosen_place}
+use Rattle.v1_core.specs.Values.{a_number, a_truth, number_in, is_true, sliced}
+use Rattle.v1_core.specs.Numbers.{unary_value, binary_value, cast_value}
+use Rattle.v1_core.specs.Frames.{Moment, read}
+use Rattle.v1_core.specs.Surroundings.{World, named}
+use Rattle.v1_core.specs.Expressions.{Valued, valued, literal_number, slice_of, value_of}
+use Rattle.v1_core.specs.Cells.{Cells}
+use Rattle.v1_core.specs.Ready as ready
+use Rattle.v1_core.specs.Ready.{Ready, Ended, given, and_then, ready_value}
+use Rattle.v1_core.specs.Scalars.{pair_value, bits_value, truth_value}
 use Rattle.v1_ready_forms.specs.Named.{NamedSeat}
 use Rattle.v1_ready_forms.specs.Ways.{Way, its_value, through_element}
 use Rattle.v1_ready_forms.specs.Expressions.{name_ready, slice_ready, cast_ready, binary_ready, alone, with_two, with_three, asked_ready}

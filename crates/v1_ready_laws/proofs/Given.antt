@@ -1,20 +1,20 @@
 -- What an expression gives, made up of what its parts give.
 use Rattle.std.proofs.Common.{◌≡◌, inl, inr, ℕ, ◌+◌, ◌*◌, ◌-◌, nat_lt, ◌==◌, Bool, true, false, not, cond, Option, Some, None, IfSome, option_map, is_some, length, take, refl, sym, ap, subst, ◌∙◌}
 use Rattle.p4x_bits.specs.BitLists.{num, octet_bits}
-use Rattle.p416_ast.specs.Tree.{Exp16, literal, truth, error, name, member, index, slice, call, lookahead, cast, unary, binary, choice, parenthesized, no_arguments, argument, listed}
-use Rattle.p416_rules.specs.Names.{Name}
-use Rattle.p416_rules.specs.Kinds.{Kind, bits, unsized, boolean, error_code, header, stack, struct, packet_in, packet_out, errors, enumeration, one_of, table, applied, object, items, nothing, unknown}
-use Rattle.p416_rules.specs.Scopes.{Scope}
-use Rattle.p416_rules.specs.Calls.{owner}
-use Rattle.v1_sem.specs.declared.parser_error.ParserError.{ParserError}
-use Rattle.v1_sem.specs.declared.parser_error.ParserError.TheVariants.{PacketTooShort, StackOutOfBounds}
-use Rattle.v1_sem.specs.Values.{Value, a_number, a_truth, an_error, header_in, place_in, elements_in, part_of, to_member, to_element, is_true}
-use Rattle.v1_sem.specs.Frames.{Moment, raised}
-use Rattle.v1_sem.specs.Surroundings.{World}
-use Rattle.v1_sem.specs.Expressions.{Valued, valued, number_of_error, is_last, element_by as element_by16, is_beyond, member_value, method_value, lookahead_value, value_of}
-use Rattle.v1_frames.specs.Cells.{Cells}
-use Rattle.v1_ready_expressions.specs.declared.node.Which.TheVariants.{Next, Last}
-use Rattle.v1_ready_expressions.specs.Ready.{Ready, constant, ahead, Ended, given, failed, and_then, element_by, is_past, ready_value}
+use Rattle.p416_syntax.specs.Tree.{Exp16, literal, truth, error, name, member, index, slice, call, lookahead, cast, unary, binary, choice, parenthesized, no_arguments, argument, listed}
+use Rattle.p416_syntax.specs.Names.{Name}
+use Rattle.p416_syntax.specs.Kinds.{Kind, bits, unsized, boolean, error_code, header, stack, struct, packet_in, packet_out, errors, enumeration, one_of, table, applied, object, items, nothing, unknown}
+use Rattle.p416_syntax.specs.Scopes.{Scope}
+use Rattle.p416_syntax.specs.Calls.{owner}
+use Rattle.v1_core.specs.declared.parser_error.ParserError.{ParserError}
+use Rattle.v1_core.specs.declared.parser_error.ParserError.TheVariants.{PacketTooShort, StackOutOfBounds}
+use Rattle.v1_core.specs.Values.{Value, a_number, a_truth, an_error, header_in, place_in, elements_in, part_of, to_member, to_element, is_true}
+use Rattle.v1_core.specs.Frames.{Moment, raised}
+use Rattle.v1_core.specs.Surroundings.{World}
+use Rattle.v1_core.specs.Expressions.{Valued, valued, number_of_error, is_last, element_by as element_by16, is_beyond, member_value, method_value, lookahead_value, value_of}
+use Rattle.v1_core.specs.Cells.{Cells}
+use Rattle.v1_core.specs.declared.node.Which.TheVariants.{Next, Last}
+use Rattle.v1_core.specs.Ready.{Ready, constant, ahead, Ended, given, failed, and_then, element_by, is_past, ready_value}
 use Rattle.v1_ready_forms.specs.Ways.{Way, its_value, its_validity, through_member, through_element, through_told, which_of}
 use Rattle.v1_ready_forms.specs.Expressions.{alone, with_two, with_three, only_error, member_ready, method_ready, lookahead_ready}
 use Rattle.v1_ready_laws.specs.Asked.{asked_value, stopped_by, Gives}

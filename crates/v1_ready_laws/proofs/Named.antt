@@ -1,26 +1,26 @@
 -- What is asked of a name is asked of the value that it means.
 use Rattle.std.proofs.Common.{◌≡◌, ℕ, zero, suc, Bool, true, false, cond, Option, Some, None, IfSome, List, [], ◌∷◌, ◌++◌, length, map, get_or, refl, sym, ap, ◌∙◌, subst, append_assoc}
 use Rattle.std.specs.Str.{bytes_eq}
-use Rattle.p416_ast.specs.declared.program.Syntax16.{Syntax16}
-use Rattle.p416_rules.specs.Names.{Name}
-use Rattle.p416_rules.specs.Kinds.{Kind}
-use Rattle.p416_rules.specs.Scopes.{Layout as TypeLayout, Scope}
-use Rattle.p416_rules.specs.Declarations.{layouts_of}
-use Rattle.v1_sem.specs.Values.{Value, no_value, to_member, part_of, member_in, has_member}
-use Rattle.v1_sem.specs.Frames.{Frame, Moment, Owner, of_headers, of_metadata, of_standard, of_variables, of_inner, of_nothing, whole, stepped, read}
-use Rattle.v1_sem.specs.Surroundings.{Root, World, by_root, named}
-use Rattle.v1_sem.specs.Slots.{PartOwner, the_headers, the_metadata, the_standard, the_variable}
-use Rattle.v1_sem.specs.Numbered.{owner_value, Variable, InScope, named_values, frame_in}
-use Rattle.v1_frames.specs.Layouts.{Layout}
-use Rattle.v1_frames.specs.Cells.{Cells}
-use Rattle.v1_frame_values.specs.Seats.{form_of, Start, behind, Seat}
-use Rattle.v1_frame_values.specs.Values.{seat_value}
-use Rattle.v1_frame_values.specs.Programs.{layout16, frame_kinds, first_start, seat_in, AreLaid, owner_number, owner_seat, values_from, numbered16}
-use Rattle.v1_frame_values.specs.Frames.{IsFrameOf}
-use Rattle.v1_frame_values.proofs.Reading.{by_truth}
-use Rattle.v1_frame_values.proofs.Owned.{seat_laid}
-use Rattle.v1_frame_values.proofs.Laws.{numbered_is, program_laid}
-use Rattle.v1_ready_expressions.specs.Ready.{ready_value}
+use Rattle.p416_syntax.specs.declared.program.Syntax16.{Syntax16}
+use Rattle.p416_syntax.specs.Names.{Name}
+use Rattle.p416_syntax.specs.Kinds.{Kind}
+use Rattle.p416_syntax.specs.Scopes.{Layout as TypeLayout, Scope}
+use Rattle.p416_syntax.specs.Declarations.{layouts_of}
+use Rattle.v1_core.specs.Values.{Value, no_value, to_member, part_of, member_in, has_member}
+use Rattle.v1_core.specs.Frames.{Frame, Moment, Owner, of_headers, of_metadata, of_standard, of_variables, of_inner, of_nothing, whole, stepped, read}
+use Rattle.v1_core.specs.Surroundings.{Root, World, by_root, named}
+use Rattle.v1_core.specs.Slots.{PartOwner, the_headers, the_metadata, the_standard, the_variable}
+use Rattle.v1_core.specs.Numbered.{owner_value, Variable, InScope, named_values, frame_in}
+use Rattle.v1_core.specs.Layouts.{Layout}
+use Rattle.v1_core.specs.Cells.{Cells}
+use Rattle.v1_core.specs.Seats.{form_of, Start, behind, Seat}
+use Rattle.v1_core.specs.PackedValues.{seat_value}
+use Rattle.v1_core.specs.Programs.{layout16, frame_kinds, first_start, seat_in, AreLaid, owner_number, owner_seat, values_from, numbered16}
+use Rattle.v1_core.specs.PackedFrames.{IsFrameOf}
+use Rattle.v1_core.proofs.Reading.{by_truth}
+use Rattle.v1_core.proofs.Owned.{seat_laid}
+use Rattle.v1_core.proofs.Laws.{numbered_is, program_laid}
+use Rattle.v1_core.specs.Ready.{ready_value}
 use Rattle.v1_ready_forms.specs.Named.{NamedSeat, seat_of_name, seats_in, root_seat, seat_of_root, seat_of_variable}
 use Rattle.v1_ready_forms.specs.Ways.{Way}
 use Rattle.v1_ready_forms.specs.Spots.{spot, spot_with, ready_behind, way_ready}

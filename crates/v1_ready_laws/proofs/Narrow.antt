@@ -3,25 +3,25 @@ use Rattle.std.proofs.Common.{◌≡◌, ℕ, ◌≤◌, nat_lt, Bool, true, fal
 use Rattle.std.specs.List.{list_any}
 use Rattle.std.specs.Str.{bytes_eq}
 use Rattle.std.proofs.lemmas.Bool.{ltb-false}
-use Rattle.p416_lexemes.specs.declared.lexeme.Literal16.{Literal16}
-use Rattle.p416_ast.specs.declared.parts.Type16.{Type16}
-use Rattle.p416_ast.specs.declared.parts.Type16.TheVariants.{Bit, Bool as BoolType, Named}
-use Rattle.p416_ast.specs.declared.parts.BitField.{BitField}
-use Rattle.p416_ast.specs.declared.parts.StructField.{StructField}
-use Rattle.p416_ast.specs.declared.controls.Instance.{Instance}
-use Rattle.p416_ast.specs.declared.controls.Instance.TheVariants as instance
-use Rattle.p416_ast.specs.declared.program.Decl16.{Decl16}
-use Rattle.p416_ast.specs.declared.program.Decl16.TheVariants as decl
-use Rattle.p416_ast.specs.declared.program.Syntax16.{Syntax16}
-use Rattle.p416_rules.specs.Names.{Name}
-use Rattle.p416_rules.specs.Kinds.{Kind, bits, unsized, boolean, error_code, header, stack, struct, packet_in, packet_out, errors, enumeration, one_of, table, applied, object, items, nothing, unknown, is_unsized}
-use Rattle.p416_rules.specs.Scopes.{Layout as TypeLayout, FieldKind, fields_in, Sort, a_type, a_value, an_enumeration, a_function, an_object, an_action, a_table, a_state, a_block, undeclared, Known, known, Scope, sort_in, type_sort, stack_kind, kind_of_type}
-use Rattle.p416_rules.specs.Totals.{bits_in}
-use Rattle.p416_rules.specs.BuiltIn.{functions, built_in, standard_layout}
-use Rattle.p416_rules.specs.Uses.{TypePlace, of_field, type_uses, a_header}
-use Rattle.p416_rules.specs.Sizes.{is_bad_width, leaves_size}
-use Rattle.p416_rules.specs.Declarations.{instance_sort, top_name, top_names, bit_field, struct_field, layout_in, layouts_of, field_width, note_uses, struct_field_uses, declaration_uses}
-use Rattle.p416_rules.specs.Breaks.{scope_of, uses_in, program_uses}
+use Rattle.p416_syntax.specs.declared.lexeme.Literal16.{Literal16}
+use Rattle.p416_syntax.specs.declared.parts.Type16.{Type16}
+use Rattle.p416_syntax.specs.declared.parts.Type16.TheVariants.{Bit, Bool as BoolType, Named}
+use Rattle.p416_syntax.specs.declared.parts.BitField.{BitField}
+use Rattle.p416_syntax.specs.declared.parts.StructField.{StructField}
+use Rattle.p416_syntax.specs.declared.controls.Instance.{Instance}
+use Rattle.p416_syntax.specs.declared.controls.Instance.TheVariants as instance
+use Rattle.p416_syntax.specs.declared.program.Decl16.{Decl16}
+use Rattle.p416_syntax.specs.declared.program.Decl16.TheVariants as decl
+use Rattle.p416_syntax.specs.declared.program.Syntax16.{Syntax16}
+use Rattle.p416_syntax.specs.Names.{Name}
+use Rattle.p416_syntax.specs.Kinds.{Kind, bits, unsized, boolean, error_code, header, stack, struct, packet_in, packet_out, errors, enumeration, one_of, table, applied, object, items, nothing, unknown, is_unsized}
+use Rattle.p416_syntax.specs.Scopes.{Layout as TypeLayout, FieldKind, fields_in, Sort, a_type, a_value, an_enumeration, a_function, an_object, an_action, a_table, a_state, a_block, undeclared, Known, known, Scope, sort_in, type_sort, stack_kind, kind_of_type}
+use Rattle.p416_syntax.specs.Totals.{bits_in}
+use Rattle.p416_syntax.specs.BuiltIn.{functions, built_in, standard_layout}
+use Rattle.p416_syntax.specs.Uses.{TypePlace, of_field, type_uses, a_header}
+use Rattle.p416_syntax.specs.Sizes.{is_bad_width, leaves_size}
+use Rattle.p416_syntax.specs.Declarations.{instance_sort, top_name, top_names, bit_field, struct_field, layout_in, layouts_of, field_width, note_uses, struct_field_uses, declaration_uses}
+use Rattle.p416_syntax.specs.Breaks.{scope_of, uses_in, program_uses}
 use Rattle.v1_ready_laws.specs.Widths.{FieldsNarrow, TypesNarrow}
 use Rattle.v1_ready_laws.specs.Kinds.{FieldsSized, TypesSized}
 use Rattle.v1_ready_laws.proofs.Rules.{second_false, front_none, rest_none, first_false}

@@ -6,31 +6,31 @@ use Rattle.std.proofs.lemmas.Bool.Decides.{leb_tells}
 use Rattle.std.proofs.lemmas.Slice.Eq.{bytes_eq-Decides}
 use Rattle.std.specs.Str.{bytes_eq}
 use Rattle.p4x_bits.specs.BitLists.{num, octet_bits}
-use Rattle.p416_lexemes.specs.declared.lexeme.Literal16.{Literal16}
-use Rattle.p416_ast.specs.declared.node.CastType.{CastType}
-use Rattle.p416_ast.specs.declared.node.CastType.TheVariants as cast_to
-use Rattle.p416_ast.specs.declared.node.UnaryOperator.{UnaryOperator}
-use Rattle.p416_ast.specs.declared.node.UnaryOperator.TheVariants.{Not, Complement, Negate}
-use Rattle.p416_ast.specs.declared.node.BinaryOperator.{BinaryOperator}
-use Rattle.p416_ast.specs.declared.node.BinaryOperator.TheVariants.{Multiply, Add, Subtract, SaturatingAdd, SaturatingSubtract, Concatenate, ShiftLeft, ShiftRight, BitAnd, BitXor, BitOr, Less, LessEqual, Greater, GreaterEqual, Equal, NotEqual, And, Or}
-use Rattle.p416_rules.specs.Names.{Name, has_name}
-use Rattle.p416_rules.specs.Kinds.{Kind, bits, unsized, boolean, error_code, header, stack, struct, packet_in, packet_out, errors, enumeration, one_of, table, applied, object, items, nothing, unknown, is_unsized, is_same_kind}
-use Rattle.p416_rules.specs.Scopes.{Layout as TypeLayout, FieldKind, fields_in}
-use Rattle.p416_rules.specs.Totals.{bits_in}
-use Rattle.p416_rules.specs.BuiltIn.{members_of, error_names}
-use Rattle.p416_rules.specs.Calls.{Place, value, any_bits}
-use Rattle.p416_rules.specs.Expressions.{field_kind_in, member_kind, known_kind, element_kind, slice_kind, lookahead_kind, cast_kind, unary_kind, binary_kind, number_kind, joint_bits, concatenated, same_choice, leaves_width}
-use Rattle.p416_rules.specs.Uses.{joint_place, unary_place, left_place, right_place, chosen_place}
-use Rattle.p416_rules.specs.Literals.{width_of_place}
-use Rattle.v1_sem.specs.declared.parser_error.ParserError.TheVariants.{PacketTooShort}
-use Rattle.v1_sem.specs.Values.{Field, Header, Value, a_number, a_truth, an_error, a_header, a_stack, no_members, a_member, a_symbol, some_bits, no_value, no_header, Step, to_member, to_element, part_of, member_in, field_in, field_value, place_in}
-use Rattle.v1_sem.specs.Numbers.{unary_value, binary_value, cast_value, of_numbers, of_truths, of_errors}
-use Rattle.v1_sem.specs.Frames.{Moment, raised}
-use Rattle.v1_sem.specs.Expressions.{Valued, valued, element_by, member_value, lookahead_value, has_bits}
-use Rattle.v1_frames.specs.Cells.{Cells, slot_value, header_valid}
-use Rattle.v1_frame_values.specs.Seats.{form_of, struct_form, Start, moved, behind}
-use Rattle.v1_frame_values.specs.Values.{field_values, element_values, member_values, value_from}
-use Rattle.v1_frame_values.proofs.Reading.{by_truth, member_part}
+use Rattle.p416_syntax.specs.declared.lexeme.Literal16.{Literal16}
+use Rattle.p416_syntax.specs.declared.node.CastType.{CastType}
+use Rattle.p416_syntax.specs.declared.node.CastType.TheVariants as cast_to
+use Rattle.p416_syntax.specs.declared.node.UnaryOperator.{UnaryOperator}
+use Rattle.p416_syntax.specs.declared.node.UnaryOperator.TheVariants.{Not, Complement, Negate}
+use Rattle.p416_syntax.specs.declared.node.BinaryOperator.{BinaryOperator}
+use Rattle.p416_syntax.specs.declared.node.BinaryOperator.TheVariants.{Multiply, Add, Subtract, SaturatingAdd, SaturatingSubtract, Concatenate, ShiftLeft, ShiftRight, BitAnd, BitXor, BitOr, Less, LessEqual, Greater, GreaterEqual, Equal, NotEqual, And, Or}
+use Rattle.p416_syntax.specs.Names.{Name, has_name}
+use Rattle.p416_syntax.specs.Kinds.{Kind, bits, unsized, boolean, error_code, header, stack, struct, packet_in, packet_out, errors, enumeration, one_of, table, applied, object, items, nothing, unknown, is_unsized, is_same_kind}
+use Rattle.p416_syntax.specs.Scopes.{Layout as TypeLayout, FieldKind, fields_in}
+use Rattle.p416_syntax.specs.Totals.{bits_in}
+use Rattle.p416_syntax.specs.BuiltIn.{members_of, error_names}
+use Rattle.p416_syntax.specs.Calls.{Place, value, any_bits}
+use Rattle.p416_syntax.specs.Expressions.{field_kind_in, member_kind, known_kind, element_kind, slice_kind, lookahead_kind, cast_kind, unary_kind, binary_kind, number_kind, joint_bits, concatenated, same_choice, leaves_width}
+use Rattle.p416_syntax.specs.Uses.{joint_place, unary_place, left_place, right_place, chosen_place}
+use Rattle.p416_syntax.specs.Literals.{width_of_place}
+use Rattle.v1_core.specs.declared.parser_error.ParserError.TheVariants.{PacketTooShort}
+use Rattle.v1_core.specs.Values.{Field, Header, Value, a_number, a_truth, an_error, a_header, a_stack, no_members, a_member, a_symbol, some_bits, no_value, no_header, Step, to_member, to_element, part_of, member_in, field_in, field_value, place_in}
+use Rattle.v1_core.specs.Numbers.{unary_value, binary_value, cast_value, of_numbers, of_truths, of_errors}
+use Rattle.v1_core.specs.Frames.{Moment, raised}
+use Rattle.v1_core.specs.Expressions.{Valued, valued, element_by, member_value, lookahead_value, has_bits}
+use Rattle.v1_core.specs.Cells.{Cells, slot_value, header_valid}
+use Rattle.v1_core.specs.Seats.{form_of, struct_form, Start, moved, behind}
+use Rattle.v1_core.specs.PackedValues.{field_values, element_values, member_values, value_from}
+use Rattle.v1_core.proofs.Reading.{by_truth, member_part}
 use Rattle.v1_ready_laws.specs.Operands.{WidthsFit, PairFits}
 use Rattle.v1_ready_laws.specs.Kinds.{HasWidth, HasNoParts, IsOf, IsOfAt, FieldsSized, TypesSized, Join, one_width, left_width, right_width, no_width, Concatenated, both_widths, KindsFit}
 use Rattle.v1_ready_laws.proofs.Paths.{element_is, elements_count}

@@ -1,13 +1,13 @@
 -- Operators give the same where the widths of their operands fit, and so do casts.
 use Rattle.std.proofs.Common.{◌≡◌, ℕ, ◌+◌, ◌≤◌, ◌*◌, ◌^◌, nat_eq, nat_le, Bool, cond, refl, ap, subst}
 use Rattle.std.proofs.lemmas.Bool.{eq-eqb, le-leb}
-use Rattle.p416_lexemes.specs.declared.lexeme.Literal16.{Literal16}
-use Rattle.p416_ast.specs.declared.node.CastType.TheVariants as cast_to
-use Rattle.p416_ast.specs.declared.node.BinaryOperator.{BinaryOperator}
-use Rattle.p416_ast.specs.declared.node.BinaryOperator.TheVariants.{Multiply, Add, Subtract, SaturatingAdd, SaturatingSubtract, Concatenate, ShiftLeft, ShiftRight, BitAnd, BitXor, BitOr, Less, LessEqual, Greater, GreaterEqual, Equal, NotEqual, And, Or}
-use Rattle.v1_sem.specs.Values.{Value, a_number, a_truth, an_error, a_header, a_stack, no_members, a_member, a_symbol, some_bits, no_value}
-use Rattle.v1_sem.specs.Numbers.{of_numbers, binary_value, cast_value}
-use Rattle.v1_ready_expressions.specs.Scalars.{word_value, pair_value, bits_value, truth_value}
+use Rattle.p416_syntax.specs.declared.lexeme.Literal16.{Literal16}
+use Rattle.p416_syntax.specs.declared.node.CastType.TheVariants as cast_to
+use Rattle.p416_syntax.specs.declared.node.BinaryOperator.{BinaryOperator}
+use Rattle.p416_syntax.specs.declared.node.BinaryOperator.TheVariants.{Multiply, Add, Subtract, SaturatingAdd, SaturatingSubtract, Concatenate, ShiftLeft, ShiftRight, BitAnd, BitXor, BitOr, Less, LessEqual, Greater, GreaterEqual, Equal, NotEqual, And, Or}
+use Rattle.v1_core.specs.Values.{Value, a_number, a_truth, an_error, a_header, a_stack, no_members, a_member, a_symbol, some_bits, no_value}
+use Rattle.v1_core.specs.Numbers.{of_numbers, binary_value, cast_value}
+use Rattle.v1_core.specs.Scalars.{word_value, pair_value, bits_value, truth_value}
 use Rattle.v1_ready_laws.specs.Operands.{WidthsFit, PairFits}
 
 joint : (operator : BinaryOperator) (v w a b : ℕ) → v ≡ w → cond (nat_eq v w) (of_numbers operator v a v b) no_value ≡ of_numbers operator v a w b

@@ -2,22 +2,22 @@
 use Rattle.std.proofs.Common.{◌≡◌, ℕ, zero, suc, ◌+◌, ◌*◌, ◌<◌, ◌≤◌, min, nat_lt, not, Bool, true, false, cond, Option, Some, None, IfSome, List, [], ◌∷◌, length, get_or, refl, sym, ap, ap₂, ◌∙◌, subst, arith}
 use Rattle.std.proofs.lemmas.Bool.{ltb-true, eqb-false}
 use Rattle.std.specs.Str.{bytes_eq}
-use Rattle.p416_rules.specs.Names.{Name}
-use Rattle.p416_rules.specs.Scopes.{Layout as TypeLayout, FieldKind, fields_in}
-use Rattle.p416_rules.specs.Totals.{bits_in}
-use Rattle.v1_sem.specs.declared.parser_error.ParserError.TheVariants.{StackOutOfBounds}
-use Rattle.v1_sem.specs.Values.{Field, Header, Value, a_number, a_truth, a_header, a_stack, no_header, header_in, field_in, field_value, Step, to_member, to_element, part_of}
-use Rattle.v1_frames.specs.Layouts.{Layout}
-use Rattle.v1_frames.specs.Cells.{Cells, slot_value, header_valid, stack_place, stack_size}
-use Rattle.v1_frame_values.specs.Seats.{some_bits, a_truth as truth_content, an_error as error_content, Form, slot_form, header_form, stack_form, struct_form, no_form, Start, moved, Seat, seat, field_form, field_seat, stepped_seat}
-use Rattle.v1_frame_values.specs.Values.{field_values, header_value, element_values, value_from, seat_value}
-use Rattle.v1_frame_values.specs.Laid.{AreFields, IsHeader, AreElements}
-use Rattle.v1_frame_values.proofs.Reading.{by_truth, read_once}
-use Rattle.v1_frame_values.proofs.Making.{same_start}
-use Rattle.v1_ready_expressions.specs.declared.node.Content.TheVariants.{Bits}
-use Rattle.v1_ready_expressions.specs.declared.node.Which.{Which}
-use Rattle.v1_ready_expressions.specs.declared.node.Which.TheVariants.{Next, Last}
-use Rattle.v1_ready_expressions.specs.Ready.{Ended, given, failed, element_by, is_past, value_in, within_stack, part_number, ready_value}
+use Rattle.p416_syntax.specs.Names.{Name}
+use Rattle.p416_syntax.specs.Scopes.{Layout as TypeLayout, FieldKind, fields_in}
+use Rattle.p416_syntax.specs.Totals.{bits_in}
+use Rattle.v1_core.specs.declared.parser_error.ParserError.TheVariants.{StackOutOfBounds}
+use Rattle.v1_core.specs.Values.{Field, Header, Value, a_number, a_truth, a_header, a_stack, no_header, header_in, field_in, field_value, Step, to_member, to_element, part_of}
+use Rattle.v1_core.specs.Layouts.{Layout}
+use Rattle.v1_core.specs.Cells.{Cells, slot_value, header_valid, stack_place, stack_size}
+use Rattle.v1_core.specs.Seats.{some_bits, a_truth as truth_content, an_error as error_content, Form, slot_form, header_form, stack_form, struct_form, no_form, Start, moved, Seat, seat, field_form, field_seat, stepped_seat}
+use Rattle.v1_core.specs.PackedValues.{field_values, header_value, element_values, value_from, seat_value}
+use Rattle.v1_core.specs.Laid.{AreFields, IsHeader, AreElements}
+use Rattle.v1_core.proofs.Reading.{by_truth, read_once}
+use Rattle.v1_core.proofs.Making.{same_start}
+use Rattle.v1_core.specs.declared.node.Content.TheVariants.{Bits}
+use Rattle.v1_core.specs.declared.node.Which.{Which}
+use Rattle.v1_core.specs.declared.node.Which.TheVariants.{Next, Last}
+use Rattle.v1_core.specs.Ready.{Ended, given, failed, element_by, is_past, value_in, within_stack, part_number, ready_value}
 use Rattle.v1_ready_forms.specs.Ways.{Way, its_value, its_validity, through_member, through_element, through_told}
 use Rattle.v1_ready_forms.specs.Spots.{Told, spot, spot_with, told_in, element_with, told_spot, value_ready, validity_ready, ready_behind, way_ready}
 use Rattle.v1_ready_laws.specs.Asked.{asked_value}

@@ -1,18 +1,18 @@
 -- The ready expressions of a program give what its expressions mean.
 use Rattle.std.proofs.Common.{◌≡◌, None, IfSome}
-use Rattle.p416_ast.specs.declared.program.Syntax16.{Syntax16}
-use Rattle.p416_ast.specs.Tree.{Exp16}
-use Rattle.p416_rules.specs.Scopes.{Scope}
-use Rattle.p416_rules.specs.Calls.{Place}
-use Rattle.p416_rules.specs.Declarations.{layouts_of}
-use Rattle.v1_sem.specs.Frames.{Moment}
-use Rattle.v1_sem.specs.Surroundings.{World}
-use Rattle.v1_sem.specs.Expressions.{value_of}
-use Rattle.v1_sem.specs.Numbered.{InScope, frame_in}
-use Rattle.v1_frames.specs.Cells.{Cells}
-use Rattle.v1_frame_values.specs.Programs.{frame_kinds, numbered16}
-use Rattle.v1_frame_values.specs.Frames.{IsFrameOf}
-use Rattle.v1_ready_expressions.specs.Ready.{ready_value}
+use Rattle.p416_syntax.specs.declared.program.Syntax16.{Syntax16}
+use Rattle.p416_syntax.specs.Tree.{Exp16}
+use Rattle.p416_syntax.specs.Scopes.{Scope}
+use Rattle.p416_syntax.specs.Calls.{Place}
+use Rattle.p416_syntax.specs.Declarations.{layouts_of}
+use Rattle.v1_core.specs.Frames.{Moment}
+use Rattle.v1_core.specs.Surroundings.{World}
+use Rattle.v1_core.specs.Expressions.{value_of}
+use Rattle.v1_core.specs.Numbered.{InScope, frame_in}
+use Rattle.v1_core.specs.Cells.{Cells}
+use Rattle.v1_core.specs.Programs.{frame_kinds, numbered16}
+use Rattle.v1_core.specs.PackedFrames.{IsFrameOf}
+use Rattle.v1_core.specs.Ready.{ready_value}
 use Rattle.v1_ready_forms.specs.Named.{seats_in}
 use Rattle.v1_ready_forms.specs.Ways.{Way}
 use Rattle.v1_ready_forms.specs.Expressions.{asked_ready}

@@ -1,20 +1,20 @@
 -- Where names are declared as what stands at their seats, what they mean is of their kinds.
 use Rattle.std.proofs.Common.{◌≡◌, Option, Some, None, IfSome, List, sym, subst}
-use Rattle.p416_ast.specs.declared.program.Syntax16.{Syntax16}
-use Rattle.p416_rules.specs.Kinds.{Kind, bits, unsized, boolean, error_code, header, stack, struct, packet_in, packet_out, errors, enumeration, one_of, table, applied, object, items, nothing, unknown}
-use Rattle.p416_rules.specs.Scopes.{Layout as TypeLayout, Sort, a_type, a_value, an_enumeration, a_function, an_object, an_action, a_table, a_state, a_block, undeclared, Scope, sort_of}
-use Rattle.p416_rules.specs.Calls.{Place}
-use Rattle.p416_rules.specs.Declarations.{layouts_of}
-use Rattle.p416_rules.specs.Expressions.{sort_kind}
-use Rattle.v1_sem.specs.Values.{Value}
-use Rattle.v1_sem.specs.Frames.{Frame, read}
-use Rattle.v1_sem.specs.Surroundings.{World, named}
-use Rattle.v1_sem.specs.Numbered.{InScope, frame_in}
-use Rattle.v1_frames.specs.Cells.{Cells}
-use Rattle.v1_frame_values.specs.Seats.{Form, Seat}
-use Rattle.v1_frame_values.specs.Values.{value_from}
-use Rattle.v1_frame_values.specs.Programs.{frame_kinds, numbered16}
-use Rattle.v1_frame_values.specs.Frames.{IsFrameOf}
+use Rattle.p416_syntax.specs.declared.program.Syntax16.{Syntax16}
+use Rattle.p416_syntax.specs.Kinds.{Kind, bits, unsized, boolean, error_code, header, stack, struct, packet_in, packet_out, errors, enumeration, one_of, table, applied, object, items, nothing, unknown}
+use Rattle.p416_syntax.specs.Scopes.{Layout as TypeLayout, Sort, a_type, a_value, an_enumeration, a_function, an_object, an_action, a_table, a_state, a_block, undeclared, Scope, sort_of}
+use Rattle.p416_syntax.specs.Calls.{Place}
+use Rattle.p416_syntax.specs.Declarations.{layouts_of}
+use Rattle.p416_syntax.specs.Expressions.{sort_kind}
+use Rattle.v1_core.specs.Values.{Value}
+use Rattle.v1_core.specs.Frames.{Frame, read}
+use Rattle.v1_core.specs.Surroundings.{World, named}
+use Rattle.v1_core.specs.Numbered.{InScope, frame_in}
+use Rattle.v1_core.specs.Cells.{Cells}
+use Rattle.v1_core.specs.Seats.{Form, Seat}
+use Rattle.v1_core.specs.PackedValues.{value_from}
+use Rattle.v1_core.specs.Programs.{frame_kinds, numbered16}
+use Rattle.v1_core.specs.PackedFrames.{IsFrameOf}
 use Rattle.v1_ready_forms.specs.Named.{seat_of_name, seats_in}
 use Rattle.v1_ready_laws.specs.Widths.{KindsNarrow}
 use Rattle.v1_ready_laws.specs.Kinds.{IsOfAt, NamesAreOf}

@@ -2,16 +2,16 @@
 use Rattle.std.proofs.Common.{ℕ, zero, suc, ◌<◌, Bool, true, false, cond, List, [], ◌∷◌, ◌++◌, length, get_or, refl, sym, subst, arith}
 use Rattle.std.specs.List.{AllZip}
 use Rattle.std.specs.Str.{bytes_eq}
-use Rattle.p416_ast.specs.declared.program.Syntax16.{Syntax16}
-use Rattle.p416_rules.specs.Names.{Name}
-use Rattle.p416_rules.specs.Kinds.{Kind, unknown}
-use Rattle.p416_rules.specs.Scopes.{Layout as TypeLayout, Sort, a_value, Known, Scope, sort_in, inside}
-use Rattle.p416_rules.specs.Declarations.{layouts_of}
-use Rattle.v1_sem.specs.Surroundings.{Root}
-use Rattle.v1_sem.specs.Slots.{the_variable}
-use Rattle.v1_sem.specs.Numbered.{Variable, InScope}
-use Rattle.v1_frame_values.specs.Seats.{form_of, Start, behind}
-use Rattle.v1_frame_values.specs.Programs.{frame_kinds, first_start, seat_in, owner_seat}
+use Rattle.p416_syntax.specs.declared.program.Syntax16.{Syntax16}
+use Rattle.p416_syntax.specs.Names.{Name}
+use Rattle.p416_syntax.specs.Kinds.{Kind, unknown}
+use Rattle.p416_syntax.specs.Scopes.{Layout as TypeLayout, Sort, a_value, Known, Scope, sort_in, inside}
+use Rattle.p416_syntax.specs.Declarations.{layouts_of}
+use Rattle.v1_core.specs.Surroundings.{Root}
+use Rattle.v1_core.specs.Slots.{the_variable}
+use Rattle.v1_core.specs.Numbered.{Variable, InScope}
+use Rattle.v1_core.specs.Seats.{form_of, Start, behind}
+use Rattle.v1_core.specs.Programs.{frame_kinds, first_start, seat_in, owner_seat}
 use Rattle.v1_ready_forms.specs.Named.{NamedSeat, seat_of_name, seats_in, seat_of_variable}
 use Rattle.v1_ready_laws.specs.Rules.{SortSeated, NamesSeated, IsVariable, with_inner_ones}
 

@@ -1,18 +1,18 @@
 -- A step from a seat leads to the seat of that part.
 use Rattle.std.proofs.Common.{◌≡◌, ℕ, zero, suc, ◌≤◌, Bool, cond, Option, Some, None, IfSome, List, [], ◌∷◌, length}
 use Rattle.std.specs.Str.{bytes_eq}
-use Rattle.p416_rules.specs.Names.{Name}
-use Rattle.p416_rules.specs.Kinds.{Kind, bits, unsized, boolean, error_code, header, stack, struct, packet_in, packet_out, errors, enumeration, one_of, table, applied, object, items, nothing, unknown}
-use Rattle.p416_rules.specs.Scopes.{Layout as TypeLayout, FieldKind, fields_in}
-use Rattle.p416_rules.specs.Totals.{bits_in}
-use Rattle.v1_sem.specs.Values.{Value, Step, to_member, to_element, part_of}
-use Rattle.v1_frames.specs.Layouts.{Layout}
-use Rattle.v1_frames.specs.Cells.{Cells}
-use Rattle.v1_frame_values.specs.Seats.{Form, slot_form, header_form, stack_form, struct_form, no_form, form_of, Start, moved, behind, Seat, seat, member_seat, field_form, field_seat, element_seat, stepped_seat, seat_behind}
-use Rattle.v1_frame_values.specs.Values.{value_from, seat_value}
-use Rattle.v1_frame_values.specs.Laid.{AreMembers, IsLaid, IsSeatLaid}
-use Rattle.v1_frame_values.proofs.Reading.{by_truth, seat_read}
-use Rattle.v1_frame_values.proofs.Owned.{seat_laid}
+use Rattle.p416_syntax.specs.Names.{Name}
+use Rattle.p416_syntax.specs.Kinds.{Kind, bits, unsized, boolean, error_code, header, stack, struct, packet_in, packet_out, errors, enumeration, one_of, table, applied, object, items, nothing, unknown}
+use Rattle.p416_syntax.specs.Scopes.{Layout as TypeLayout, FieldKind, fields_in}
+use Rattle.p416_syntax.specs.Totals.{bits_in}
+use Rattle.v1_core.specs.Values.{Value, Step, to_member, to_element, part_of}
+use Rattle.v1_core.specs.Layouts.{Layout}
+use Rattle.v1_core.specs.Cells.{Cells}
+use Rattle.v1_core.specs.Seats.{Form, slot_form, header_form, stack_form, struct_form, no_form, form_of, Start, moved, behind, Seat, seat, member_seat, field_form, field_seat, element_seat, stepped_seat, seat_behind}
+use Rattle.v1_core.specs.PackedValues.{value_from, seat_value}
+use Rattle.v1_core.specs.Laid.{AreMembers, IsLaid, IsSeatLaid}
+use Rattle.v1_core.proofs.Reading.{by_truth, seat_read}
+use Rattle.v1_core.proofs.Owned.{seat_laid}
 use Rattle.v1_ready_laws.specs.Widths.{FieldsWide, ElementsWide, IsWide, IsNarrow, FieldsNarrow, TypesNarrow}
 
 -- a part that is where its layout has it, with its widths, which are at most 128

@@ -1,23 +1,23 @@
 -- Where names are of their kinds and operands of kinds that the rules allow, values are of their kinds, and operands fit.
 use Rattle.std.proofs.Common.{◌≡◌, ℕ, Bool, true, false, cond, Option, Some, None, List, length, take, refl, sym, subst}
 use Rattle.p4x_bits.specs.BitLists.{num, octet_bits}
-use Rattle.p416_ast.specs.declared.node.BinaryOperator.{BinaryOperator}
-use Rattle.p416_ast.specs.declared.node.BinaryOperator.TheVariants.{Multiply, Add, Subtract, SaturatingAdd, SaturatingSubtract, Concatenate, ShiftLeft, ShiftRight, BitAnd, BitXor, BitOr, Less, LessEqual, Greater, GreaterEqual, Equal, NotEqual, And, Or}
-use Rattle.p416_ast.specs.Tree.{Exp16, literal, truth, error, name, member, index, slice, call, lookahead, cast, unary, binary, choice, parenthesized, no_arguments, argument, listed}
-use Rattle.p416_rules.specs.Names.{Name}
-use Rattle.p416_rules.specs.Kinds.{Kind, bits, unsized, boolean, error_code, header, stack, struct, packet_in, packet_out, errors, enumeration, one_of, table, applied, object, items, nothing, unknown}
-use Rattle.p416_rules.specs.Scopes.{Layout as TypeLayout, Scope, sort_of, kind_of_type}
-use Rattle.p416_rules.specs.Calls.{Place, value, any_bits, owner, a_stack, method_signature}
-use Rattle.p416_rules.specs.Expressions.{kind_of, call_kind, binary_kind, same_choice, sort_kind}
-use Rattle.p416_rules.specs.Uses.{unary_place, left_place, right_place, cast_place, chosen_place}
-use Rattle.v1_sem.specs.declared.parser_error.ParserError.{ParserError}
-use Rattle.v1_sem.specs.declared.parser_error.ParserError.TheVariants.{PacketTooShort, StackOutOfBounds}
-use Rattle.v1_sem.specs.Values.{a_number, header_in, place_in, elements_in, no_value, is_true, number_in, sliced}
-use Rattle.v1_sem.specs.Numbers.{binary_value}
-use Rattle.v1_sem.specs.Frames.{Frame, Moment, read, raised, is_stopped}
-use Rattle.v1_sem.specs.Surroundings.{World, named}
-use Rattle.v1_sem.specs.Expressions.{Valued, valued, literal_number, member_value, method_value, has_bits, lookahead_value, is_beyond, slice_of as slice_from, value_of}
-use Rattle.v1_frames.specs.Cells.{Cells}
+use Rattle.p416_syntax.specs.declared.node.BinaryOperator.{BinaryOperator}
+use Rattle.p416_syntax.specs.declared.node.BinaryOperator.TheVariants.{Multiply, Add, Subtract, SaturatingAdd, SaturatingSubtract, Concatenate, ShiftLeft, ShiftRight, BitAnd, BitXor, BitOr, Less, LessEqual, Greater, GreaterEqual, Equal, NotEqual, And, Or}
+use Rattle.p416_syntax.specs.Tree.{Exp16, literal, truth, error, name, member, index, slice, call, lookahead, cast, unary, binary, choice, parenthesized, no_arguments, argument, listed}
+use Rattle.p416_syntax.specs.Names.{Name}
+use Rattle.p416_syntax.specs.Kinds.{Kind, bits, unsized, boolean, error_code, header, stack, struct, packet_in, packet_out, errors, enumeration, one_of, table, applied, object, items, nothing, unknown}
+use Rattle.p416_syntax.specs.Scopes.{Layout as TypeLayout, Scope, sort_of, kind_of_type}
+use Rattle.p416_syntax.specs.Calls.{Place, value, any_bits, owner, a_stack, method_signature}
+use Rattle.p416_syntax.specs.Expressions.{kind_of, call_kind, binary_kind, same_choice, sort_kind}
+use Rattle.p416_syntax.specs.Uses.{unary_place, left_place, right_place, cast_place, chosen_place}
+use Rattle.v1_core.specs.declared.parser_error.ParserError.{ParserError}
+use Rattle.v1_core.specs.declared.parser_error.ParserError.TheVariants.{PacketTooShort, StackOutOfBounds}
+use Rattle.v1_core.specs.Values.{a_number, header_in, place_in, elements_in, no_value, is_true, number_in, sliced}
+use Rattle.v1_core.specs.Numbers.{binary_value}
+use Rattle.v1_core.specs.Frames.{Frame, Moment, read, raised, is_stopped}
+use Rattle.v1_core.specs.Surroundings.{World, named}
+use Rattle.v1_core.specs.Expressions.{Valued, valued, literal_number, member_value, method_value, has_bits, lookahead_value, is_beyond, slice_of as slice_from, value_of}
+use Rattle.v1_core.specs.Cells.{Cells}
 use Rattle.v1_ready_laws.specs.Operands.{OperandsFit}
 use Rattle.v1_ready_laws.specs.Kinds.{IsOfAt, NamesAreOf, TypesSized, KindsFit, IsNoTable, OperandKindsFit}
 use Rattle.v1_ready_laws.proofs.OfKinds.{nothing_of, truth_of, member_of, indexed_of, slice_of, cast_of, lookahead_of, unary_of, binary_of, first_of, second_of, pair_fits}

@@ -2,14 +2,14 @@
 use Rattle.std.proofs.Common.{◌≡◌, ℕ, zero, suc, ◌+◌, ◌*◌, List, [], ◌∷◌, ◌++◌, length, map, get_or, refl, sym, ap, ◌∙◌, arith, length-append, append_assoc, append-nil}
 use Rattle.std.proofs.lemmas.List.{length-map}
 use Rattle.std.proofs.Math.Seq.{get_or-append_seam}
-use Rattle.p416_ast.specs.declared.program.Syntax16.{Syntax16}
-use Rattle.p416_rules.specs.Kinds.{Kind}
-use Rattle.p416_rules.specs.Scopes.{Layout as TypeLayout, FieldKind, fields_in}
-use Rattle.p416_rules.specs.Declarations.{layouts_of}
-use Rattle.v1_frames.specs.Layouts.{Layout, no_parts, with_header_part}
-use Rattle.v1_frame_values.specs.Seats.{Form, slot_form, header_form, stack_form, struct_form, no_form, form_of, Start, moved, behind_members, behind}
-use Rattle.v1_frame_values.specs.Laid.{AreMembers}
-use Rattle.v1_frame_values.specs.Programs.{slot_width, field_width, with_elements, with_members, with_value, with_values, frame_kinds, first_start, layout16}
+use Rattle.p416_syntax.specs.declared.program.Syntax16.{Syntax16}
+use Rattle.p416_syntax.specs.Kinds.{Kind}
+use Rattle.p416_syntax.specs.Scopes.{Layout as TypeLayout, FieldKind, fields_in}
+use Rattle.p416_syntax.specs.Declarations.{layouts_of}
+use Rattle.v1_core.specs.Layouts.{Layout, no_parts, with_header_part}
+use Rattle.v1_core.specs.Seats.{Form, slot_form, header_form, stack_form, struct_form, no_form, form_of, Start, moved, behind_members, behind}
+use Rattle.v1_core.specs.Laid.{AreMembers}
+use Rattle.v1_core.specs.Programs.{slot_width, field_width, with_elements, with_members, with_value, with_values, frame_kinds, first_start, layout16}
 use Rattle.v1_ready_laws.specs.Widths.{FieldsWide, ElementsWide, IsWide, AreWide}
 
 -- the widths and the sizes that a value adds

@@ -1,12 +1,12 @@
 -- What is asked of a value, and what evaluating an expression gives where it is asked (P4_16 1.2, "Expressions", "Operations on
 -- headers", "Operations on header stacks").
 use Rattle.std.specs.Prelude.{◌≡◌, ◌⊎◌, if◌then◌else◌, length, Some}
-use Rattle.v1_sem.specs.declared.parser_error.ParserError.{ParserError}
-use Rattle.v1_sem.specs.declared.parser_error.ParserError.TheVariants.{StackOutOfBounds}
-use Rattle.v1_sem.specs.Values.{Value, a_truth, header_in, place_in, elements_in, part_of, to_member, to_element}
-use Rattle.v1_sem.specs.Frames.{Moment}
-use Rattle.v1_sem.specs.Expressions.{Valued}
-use Rattle.v1_ready_expressions.specs.Ready.{Ended, given, failed, element_by, is_past}
+use Rattle.v1_core.specs.declared.parser_error.ParserError.{ParserError}
+use Rattle.v1_core.specs.declared.parser_error.ParserError.TheVariants.{StackOutOfBounds}
+use Rattle.v1_core.specs.Values.{Value, a_truth, header_in, place_in, elements_in, part_of, to_member, to_element}
+use Rattle.v1_core.specs.Frames.{Moment}
+use Rattle.v1_core.specs.Expressions.{Valued}
+use Rattle.v1_core.specs.Ready.{Ended, given, failed, element_by, is_past}
 use Rattle.v1_ready_forms.specs.Ways.{Way, its_value, its_validity, through_member, through_element, through_told}
 
 -- what a way from a value leads to

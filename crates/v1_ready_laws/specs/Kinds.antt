@@ -1,21 +1,21 @@
 -- Which values are of a kind, and expressions whose operands are of kinds that the rules on types allow (P4_16 1.2,
 -- "Expressions", "Operations on fixed-width bit types (unsigned integers)").
 use Rattle.std.specs.Prelude.{◌≡◌, ◌⊎◌, ℕ, ◌+◌, ◌≤◌, List, [], ◌∷◌, false, unwrap_or}
-use Rattle.p416_ast.specs.declared.node.BinaryOperator.{BinaryOperator}
-use Rattle.p416_ast.specs.declared.node.BinaryOperator.TheVariants.{Multiply, Add, Subtract, SaturatingAdd, SaturatingSubtract, Concatenate, BitAnd, BitXor, BitOr}
-use Rattle.p416_ast.specs.Tree.{Exp16, member, index, slice, call, cast, unary, binary, choice}
-use Rattle.p416_rules.specs.Names.{Name}
-use Rattle.p416_rules.specs.Kinds.{Kind, bits, unsized, header, stack, struct, table, is_unsized}
-use Rattle.p416_rules.specs.Scopes.{Layout, FieldKind, fields_in, Scope, sort_of}
-use Rattle.p416_rules.specs.Calls.{Place}
-use Rattle.p416_rules.specs.Expressions.{sort_kind, kind_of}
-use Rattle.p416_rules.specs.Literals.{width_of_place}
-use Rattle.v1_sem.specs.Values.{Value, a_number, a_header, a_stack, no_value, Step, part_of}
-use Rattle.v1_sem.specs.Frames.{Frame, read}
-use Rattle.v1_sem.specs.Surroundings.{World, named}
-use Rattle.v1_frames.specs.Cells.{Cells, stack_place}
-use Rattle.v1_frame_values.specs.Seats.{struct_form, Start}
-use Rattle.v1_frame_values.specs.Values.{header_value, element_values, value_from}
+use Rattle.p416_syntax.specs.declared.node.BinaryOperator.{BinaryOperator}
+use Rattle.p416_syntax.specs.declared.node.BinaryOperator.TheVariants.{Multiply, Add, Subtract, SaturatingAdd, SaturatingSubtract, Concatenate, BitAnd, BitXor, BitOr}
+use Rattle.p416_syntax.specs.Tree.{Exp16, member, index, slice, call, cast, unary, binary, choice}
+use Rattle.p416_syntax.specs.Names.{Name}
+use Rattle.p416_syntax.specs.Kinds.{Kind, bits, unsized, header, stack, struct, table, is_unsized}
+use Rattle.p416_syntax.specs.Scopes.{Layout, FieldKind, fields_in, Scope, sort_of}
+use Rattle.p416_syntax.specs.Calls.{Place}
+use Rattle.p416_syntax.specs.Expressions.{sort_kind, kind_of}
+use Rattle.p416_syntax.specs.Literals.{width_of_place}
+use Rattle.v1_core.specs.Values.{Value, a_number, a_header, a_stack, no_value, Step, part_of}
+use Rattle.v1_core.specs.Frames.{Frame, read}
+use Rattle.v1_core.specs.Surroundings.{World, named}
+use Rattle.v1_core.specs.Cells.{Cells, stack_place}
+use Rattle.v1_core.specs.Seats.{struct_form, Start}
+use Rattle.v1_core.specs.PackedValues.{header_value, element_values, value_from}
 
 -- a number has so many bits
 abbrev pub HasWidth : ℕ → Value → Type 0

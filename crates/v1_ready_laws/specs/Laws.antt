@@ -1,21 +1,21 @@
 -- That a ready expression gives what the expression means.
 use Rattle.std.specs.Prelude.{◌≡◌, List, IfSome, None}
 use Rattle.std.specs.List.{AllZip}
-use Rattle.p416_ast.specs.declared.program.Syntax16.{Syntax16}
-use Rattle.p416_ast.specs.Tree.{Exp16}
-use Rattle.p416_rules.specs.Names.{Name}
-use Rattle.p416_rules.specs.Scopes.{Known, Scope, inside}
-use Rattle.p416_rules.specs.Calls.{Place}
-use Rattle.p416_rules.specs.Declarations.{layouts_of}
-use Rattle.p416_rules.specs.Breaks.{BreaksNone, program_rules}
-use Rattle.v1_sem.specs.Frames.{Moment, read}
-use Rattle.v1_sem.specs.Surroundings.{Root, World, named}
-use Rattle.v1_sem.specs.Expressions.{value_of}
-use Rattle.v1_sem.specs.Numbered.{Variable, InScope, frame_in}
-use Rattle.v1_frames.specs.Cells.{Cells}
-use Rattle.v1_frame_values.specs.Programs.{frame_kinds, numbered16}
-use Rattle.v1_frame_values.specs.Frames.{IsFrameOf}
-use Rattle.v1_ready_expressions.specs.Ready.{ready_value}
+use Rattle.p416_syntax.specs.declared.program.Syntax16.{Syntax16}
+use Rattle.p416_syntax.specs.Tree.{Exp16}
+use Rattle.p416_syntax.specs.Names.{Name}
+use Rattle.p416_syntax.specs.Scopes.{Known, Scope, inside}
+use Rattle.p416_syntax.specs.Calls.{Place}
+use Rattle.p416_syntax.specs.Declarations.{layouts_of}
+use Rattle.p416_syntax.specs.Breaks.{BreaksNone, program_rules}
+use Rattle.v1_core.specs.Frames.{Moment, read}
+use Rattle.v1_core.specs.Surroundings.{Root, World, named}
+use Rattle.v1_core.specs.Expressions.{value_of}
+use Rattle.v1_core.specs.Numbered.{Variable, InScope, frame_in}
+use Rattle.v1_core.specs.Cells.{Cells}
+use Rattle.v1_core.specs.Programs.{frame_kinds, numbered16}
+use Rattle.v1_core.specs.PackedFrames.{IsFrameOf}
+use Rattle.v1_core.specs.Ready.{ready_value}
 use Rattle.v1_ready_forms.specs.Named.{NamedSeat, seats_in}
 use Rattle.v1_ready_forms.specs.Ways.{Way}
 use Rattle.v1_ready_forms.specs.Expressions.{name_ready, asked_ready}

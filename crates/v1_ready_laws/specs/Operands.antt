@@ -1,18 +1,18 @@
 -- Operands whose widths are those that the rules on types allow (P4_16 1.2, "Operations on fixed-width bit types (unsigned
 -- integers)"; that `++` gives 128 bits at most is this project's own).
 use Rattle.std.specs.Prelude.{◌≡◌, ℕ, ◌+◌, ◌≤◌}
-use Rattle.p416_ast.specs.declared.node.BinaryOperator.{BinaryOperator}
-use Rattle.p416_ast.specs.declared.node.BinaryOperator.TheVariants.{Multiply, Add, Subtract, SaturatingAdd, SaturatingSubtract, Concatenate, BitAnd, BitXor, BitOr}
-use Rattle.p416_ast.specs.Tree.{Exp16, member, index, slice, call, cast, unary, binary, choice}
-use Rattle.p416_rules.specs.Kinds.{boolean}
-use Rattle.p416_rules.specs.Scopes.{Scope}
-use Rattle.p416_rules.specs.Calls.{Place, value, any_bits, owner, a_stack}
-use Rattle.p416_rules.specs.Expressions.{kind_of}
-use Rattle.p416_rules.specs.Uses.{unary_place, left_place, right_place, cast_place, chosen_place}
-use Rattle.v1_sem.specs.Values.{Value, a_number}
-use Rattle.v1_sem.specs.Frames.{Moment}
-use Rattle.v1_sem.specs.Surroundings.{World}
-use Rattle.v1_sem.specs.Expressions.{value_of}
+use Rattle.p416_syntax.specs.declared.node.BinaryOperator.{BinaryOperator}
+use Rattle.p416_syntax.specs.declared.node.BinaryOperator.TheVariants.{Multiply, Add, Subtract, SaturatingAdd, SaturatingSubtract, Concatenate, BitAnd, BitXor, BitOr}
+use Rattle.p416_syntax.specs.Tree.{Exp16, member, index, slice, call, cast, unary, binary, choice}
+use Rattle.p416_syntax.specs.Kinds.{boolean}
+use Rattle.p416_syntax.specs.Scopes.{Scope}
+use Rattle.p416_syntax.specs.Calls.{Place, value, any_bits, owner, a_stack}
+use Rattle.p416_syntax.specs.Expressions.{kind_of}
+use Rattle.p416_syntax.specs.Uses.{unary_place, left_place, right_place, cast_place, chosen_place}
+use Rattle.v1_core.specs.Values.{Value, a_number}
+use Rattle.v1_core.specs.Frames.{Moment}
+use Rattle.v1_core.specs.Surroundings.{World}
+use Rattle.v1_core.specs.Expressions.{value_of}
 
 abbrev pub WidthsFit : BinaryOperator → ℕ → ℕ → Type 0
 WidthsFit Multiply v w = v ≡ w

@@ -2,19 +2,19 @@
 -- seats.
 use Rattle.std.specs.Prelude.{◌≡◌, ◌<◌, Bool, false, List, ◌++◌, length, slice_index_or, Option, Some, None}
 use Rattle.std.specs.List.{list_any}
-use Rattle.p416_ast.specs.declared.program.Syntax16.{Syntax16}
-use Rattle.p416_ast.specs.Tree.{Exp16, member, index, slice, call, cast, unary, binary, choice}
-use Rattle.p416_rules.specs.Names.{Name}
-use Rattle.p416_rules.specs.Kinds.{Kind, packet_in, packet_out, unknown}
-use Rattle.p416_rules.specs.Scopes.{Sort, a_value, Known, Scope, sort_of}
-use Rattle.p416_rules.specs.Calls.{Place}
-use Rattle.p416_rules.specs.Expressions.{kind_of}
-use Rattle.p416_rules.specs.Uses.{Use, uses}
-use Rattle.p416_rules.specs.Types.{is_mistyped}
-use Rattle.p416_rules.specs.Sizes.{leaves_size}
-use Rattle.v1_sem.specs.Slots.{variable_kinds}
-use Rattle.v1_sem.specs.Numbered.{Variable, InScope}
-use Rattle.v1_frame_values.specs.Seats.{form_of, Seat}
+use Rattle.p416_syntax.specs.declared.program.Syntax16.{Syntax16}
+use Rattle.p416_syntax.specs.Tree.{Exp16, member, index, slice, call, cast, unary, binary, choice}
+use Rattle.p416_syntax.specs.Names.{Name}
+use Rattle.p416_syntax.specs.Kinds.{Kind, packet_in, packet_out, unknown}
+use Rattle.p416_syntax.specs.Scopes.{Sort, a_value, Known, Scope, sort_of}
+use Rattle.p416_syntax.specs.Calls.{Place}
+use Rattle.p416_syntax.specs.Expressions.{kind_of}
+use Rattle.p416_syntax.specs.Uses.{Use, uses}
+use Rattle.p416_syntax.specs.Types.{is_mistyped}
+use Rattle.p416_syntax.specs.Sizes.{leaves_size}
+use Rattle.v1_core.specs.Slots.{variable_kinds}
+use Rattle.v1_core.specs.Numbered.{Variable, InScope}
+use Rattle.v1_core.specs.Seats.{form_of, Seat}
 use Rattle.v1_ready_forms.specs.Named.{NamedSeat, seat_of_name}
 use Rattle.v1_ready_laws.specs.Kinds.{IsNoTable}
 

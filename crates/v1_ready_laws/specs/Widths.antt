@@ -1,13 +1,13 @@
 -- That the slots of a layout have the widths of what stands in them, and its stacks their sizes (this project's own).
 use Rattle.std.specs.Prelude.{◌≡◌, ℕ, zero, suc, ◌≤◌, List, [], ◌∷◌, length, slice_index}
-use Rattle.p416_rules.specs.Names.{Name}
-use Rattle.p416_rules.specs.Kinds.{Kind}
-use Rattle.p416_rules.specs.Scopes.{Layout as TypeLayout, FieldKind, fields_in}
-use Rattle.p416_rules.specs.Totals.{bits_in}
-use Rattle.v1_frames.specs.Layouts.{Layout}
-use Rattle.v1_frame_values.specs.Seats.{some_bits, Form, slot_form, header_form, stack_form, struct_form, no_form, form_of, Start, moved, behind}
-use Rattle.v1_frame_values.specs.Laid.{AreMembers}
-use Rattle.v1_frame_values.specs.Programs.{slot_width, field_width}
+use Rattle.p416_syntax.specs.Names.{Name}
+use Rattle.p416_syntax.specs.Kinds.{Kind}
+use Rattle.p416_syntax.specs.Scopes.{Layout as TypeLayout, FieldKind, fields_in}
+use Rattle.p416_syntax.specs.Totals.{bits_in}
+use Rattle.v1_core.specs.Layouts.{Layout}
+use Rattle.v1_core.specs.Seats.{some_bits, Form, slot_form, header_form, stack_form, struct_form, no_form, form_of, Start, moved, behind}
+use Rattle.v1_core.specs.Laid.{AreMembers}
+use Rattle.v1_core.specs.Programs.{slot_width, field_width}
 
 abbrev pub FieldsWide : Layout → List FieldKind → Start → Type 0
 FieldsWide l [] b = Unit {0}

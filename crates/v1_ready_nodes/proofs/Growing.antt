@@ -3,9 +3,9 @@ use Rattle.std.proofs.Common.{◌≡◌, ℕ, ◌<◌, ◌≤◌, List, [], ◌�
 use Rattle.std.specs.Option.{IfSome}
 use Rattle.node_lists.specs.Trees.{Adds}
 use Rattle.node_lists.proofs.Growth as growth
-use Rattle.v1_ready_expressions.specs.Ready.{Ready}
-use Rattle.v1_ready_expressions.specs.Nodes.{ready_of}
-use Rattle.v1_ready_expressions.specs.Kept as expressions
+use Rattle.v1_core.specs.Ready.{Ready}
+use Rattle.v1_core.specs.Nodes.{ready_of}
+use Rattle.v1_core.specs.Kept as expressions
 use Rattle.v1_ready_blocks.specs.declared.nodes.TestNode.{TestNode}
 use Rattle.v1_ready_blocks.specs.declared.nodes.TestNode.TheVariants as test_node
 use Rattle.v1_ready_blocks.specs.declared.nodes.Node.{Node}

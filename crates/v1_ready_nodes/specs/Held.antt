@@ -1,9 +1,9 @@
 -- The expressions and the nodes of statements that are made ready so far, and how they grow.
 use Rattle.std.specs.Prelude.{◌≡◌, ℕ, ◌<◌, ◌≤◌, List, length}
 use Rattle.node_lists.specs.Trees.{KeepsPlaces}
-use Rattle.v1_ready_expressions.specs.Ready.{Ready}
-use Rattle.v1_ready_expressions.specs.Nodes.{ready_at}
-use Rattle.v1_ready_expressions.specs.Kept as expressions
+use Rattle.v1_core.specs.Ready.{Ready}
+use Rattle.v1_core.specs.Nodes.{ready_at}
+use Rattle.v1_core.specs.Kept as expressions
 use Rattle.v1_ready_blocks.specs.declared.nodes.TestNode.{TestNode}
 use Rattle.v1_ready_blocks.specs.declared.nodes.TestNode.TheVariants as test_node
 use Rattle.v1_ready_blocks.specs.declared.nodes.Node.{Node}

@@ -1,11 +1,11 @@
 // Ready expressions and ready statements over them.
 ghost use Rattle.std.specs.Prelude.{◌≡◌, ◌<◌, [], length, option_map, IfOk, IfSome, OnOk};
 ghost use Rattle.node_lists.specs.Trees.{Adds};
-ghost use Rattle.p416_rules.specs.Declarations.{layouts_of};
+ghost use Rattle.p416_syntax.specs.Declarations.{layouts_of};
 ghost use Rattle.p416_calls.specs.Seen.{seen_place};
 ghost use Rattle.p416_scopes.specs.Seen.{seen_scope};
-ghost use Rattle.v1_ready_expressions.specs.Nodes.{ready_at};
-ghost use Rattle.v1_ready_expressions.specs.Kept as expressions;
+ghost use Rattle.v1_core.specs.Nodes.{ready_at};
+ghost use Rattle.v1_core.specs.Kept as expressions;
 ghost use Rattle.v1_ready_forms.specs.Expressions.{ready_of_exp};
 ghost use Rattle.v1_ready_blocks.specs.Nodes.{tree_of};
 ghost use Rattle.v1_ready_blocks.specs.Kept as statements;
@@ -15,14 +15,13 @@ ghost use Rattle.v1_ready_program.specs.internal.Passes.{made};
 ghost use Rattle.v1_ready_nodes.specs.Held.{ready_in, trees_in, IsHeld, IsOver, Grows};
 
 use p4x_bits::OutOfMemory;
-use p416_ast::ExpView;
 use p416_calls::Place;
+use p416_syntax::ExpView;
 use state_store::Shape;
 use std::alloc::Global;
 use std::marker::Model;
-use v1_frames::FrameLayout;
+use v1_core::{Expressions, FrameLayout};
 use v1_ready_blocks::{Node, Statements};
-use v1_ready_expressions::Expressions;
 use v1_ready_program::build::{Parts, make};
 use v1_ready_program::plans::{Around, Plan};
 use v1_ready_program::ready_expression;

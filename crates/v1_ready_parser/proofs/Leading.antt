@@ -2,12 +2,12 @@
 use Rattle.std.proofs.Common.{◌≡◌, ℕ, ◌+◌, ◌<◌, ◌≤◌, List, ◌∷◌, length, get_or, drop, Option, refl, sym, subst, ap, ◌∙◌, arith}
 use Rattle.std.specs.Prelude.{IfSome}
 use Rattle.node_lists.proofs.Growth as growth
-use Rattle.p416_ast.specs.declared.parsers.State.{State as Written}
-use Rattle.p416_rules.specs.Names.{Name}
-use Rattle.p416_rules.specs.Scopes.{Scope}
-use Rattle.v1_ready_expressions.specs.Ready.{Ready}
-use Rattle.v1_ready_expressions.specs.Nodes.{ready_of, ready_at}
-use Rattle.v1_ready_expressions.specs.Kept.{Kept, trees}
+use Rattle.p416_syntax.specs.declared.parsers.State.{State as Written}
+use Rattle.p416_syntax.specs.Names.{Name}
+use Rattle.p416_syntax.specs.Scopes.{Scope}
+use Rattle.v1_core.specs.Ready.{Ready}
+use Rattle.v1_core.specs.Nodes.{ready_of, ready_at}
+use Rattle.v1_core.specs.Kept.{Kept, trees}
 use Rattle.v1_ready_forms.specs.Named.{NamedSeat}
 use Rattle.v1_ready_selects.specs.Selects.{FitsTransition, Transition, select, transition_of}
 use Rattle.v1_ready_selects.specs.declared.rows.ReadyTransition.{ReadyTransition}

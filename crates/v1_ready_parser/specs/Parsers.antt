@@ -1,10 +1,10 @@
 -- Which ready states the states of a parser are (P4_16 1.2, "Parser states"). The variables of all states are counted one behind
 -- another; behind its statements those of a state are in scope for its transition.
 use Rattle.std.specs.Prelude.{ℕ, List, [], ◌∷◌, Option, Some, None}
-use Rattle.p416_ast.specs.declared.parsers.State.{State as Written}
-use Rattle.p416_rules.specs.Names.{Name}
-use Rattle.p416_rules.specs.Scopes.{Scope}
-use Rattle.p416_rules.specs.Statements.{behind}
+use Rattle.p416_syntax.specs.declared.parsers.State.{State as Written}
+use Rattle.p416_syntax.specs.Names.{Name}
+use Rattle.p416_syntax.specs.Scopes.{Scope}
+use Rattle.p416_syntax.specs.Statements.{behind}
 use Rattle.v1_ready_forms.specs.Named.{NamedSeat}
 use Rattle.v1_ready_selects.specs.Selects.{Transition}
 use Rattle.v1_ready_selects.specs.Transitions.{transition_ready}

@@ -11,7 +11,7 @@ ghost use Rattle.v1_ready_parser.specs.Places.{seen_parser, seen_states, IsParse
 use crate::states::ready_states;
 use name_numbers::{Numbering, narrow};
 use p4x_bits::{OutOfMemory, Rows};
-use p416_ast::State;
+use p416_syntax::State;
 use std::alloc::Global;
 use v1_ready_blocks::Range;
 use v1_ready_bodies::{OwnVariable, Singles, Standing, ready_nothing, ready_variables};

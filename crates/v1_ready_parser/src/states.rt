@@ -12,7 +12,7 @@ ghost use Rattle.v1_ready_parser.specs.Places.{seen_state, seen_states, IsStateI
 
 use name_numbers::Numbering;
 use p4x_bits::{OutOfMemory, Rows};
-use p416_ast::{State, Transition};
+use p416_syntax::{State, Transition};
 use std::alloc::Global;
 use v1_ready_bodies::{Singles, Standing, ready_behind};
 use v1_ready_nodes::ReadyNodes;

@@ -4,22 +4,22 @@ use Rattle.std.proofs.Math.Seq.{drop-cons}
 use Rattle.std.proofs.lemmas.List.{map-append, append-nil, get_or-map}
 use Rattle.std.proofs.lemmas.Simd.{map-map}
 use Rattle.std.specs.Prelude.{option_map}
-use Rattle.p416_ast.specs.Tree.{Exp16, literal, truth, error, name, member, index, slice, call, lookahead, cast, unary, binary, choice, parenthesized, no_arguments, argument, listed}
-use Rattle.p416_ast.specs.Subtrees.{subexpressions}
-use Rattle.p416_rules.specs.Names.{Name}
-use Rattle.p416_rules.specs.Kinds as kind
-use Rattle.p416_rules.specs.Kinds.{Kind}
-use Rattle.p416_rules.specs.Scopes.{Known, Layout, Scope}
-use Rattle.p416_rules.specs.Expressions.{kind_of}
-use Rattle.p416_kinds.specs.declared.kind.Kind.{Kind as CodeKind}
-use Rattle.p416_kinds.specs.Seen.{seen_kind}
+use Rattle.p416_syntax.specs.Tree.{Exp16, literal, truth, error, name, member, index, slice, call, lookahead, cast, unary, binary, choice, parenthesized, no_arguments, argument, listed}
+use Rattle.p416_syntax.specs.Subtrees.{subexpressions}
+use Rattle.p416_syntax.specs.Names.{Name}
+use Rattle.p416_syntax.specs.Kinds as kind
+use Rattle.p416_syntax.specs.Kinds.{Kind}
+use Rattle.p416_syntax.specs.Scopes.{Known, Layout, Scope}
+use Rattle.p416_syntax.specs.Expressions.{kind_of}
+use Rattle.p416_names.specs.declared.kind.Kind.{Kind as CodeKind}
+use Rattle.p416_names.specs.SeenKinds.{seen_kind}
 use Rattle.p416_typing.specs.declared.row.Row.{Row}
 use Rattle.p416_typing.specs.Rows.{RowOf, left_of, row_of}
 use Rattle.p416_typing.specs.Seen.{seen_row}
-use Rattle.v1_sem.specs.Values as values
-use Rattle.v1_sem.specs.Values.{to_element}
-use Rattle.v1_sem.specs.Expressions.{slice_of}
-use Rattle.v1_frame_values.specs.Seats.{Form, slot_form, header_form, stack_form, struct_form, no_form, Seat}
+use Rattle.v1_core.specs.Values as values
+use Rattle.v1_core.specs.Values.{to_element}
+use Rattle.v1_core.specs.Expressions.{slice_of}
+use Rattle.v1_core.specs.Seats.{Form, slot_form, header_form, stack_form, struct_form, no_form, Seat}
 use Rattle.v1_ready_forms.specs.Named.{NamedSeat}
 use Rattle.v1_ready_forms.specs.Spots.{Told, Spot, spot_behind}
 use Rattle.v1_ready_blocks.specs.declared.places.Slice.{Slice}

@@ -1,8 +1,8 @@
 // An l-value is gone through from the inside out.
 ghost use Rattle.std.specs.Prelude.{◌≡◌, None, length, map, option_map, IfOk};
-ghost use Rattle.p416_ast.specs.Heads.{of_exp_head};
-ghost use Rattle.p416_rules.specs.Declarations.{layouts_of};
-ghost use Rattle.p416_kinds.specs.Seen.{seen_kind};
+ghost use Rattle.p416_syntax.specs.Heads.{of_exp_head};
+ghost use Rattle.p416_syntax.specs.Declarations.{layouts_of};
+ghost use Rattle.p416_names.specs.SeenKinds.{seen_kind};
 ghost use Rattle.p416_scopes.specs.Seen.{seen_scope};
 ghost use Rattle.p416_typing.specs.Rows.{left_of};
 ghost use Rattle.v1_ready_forms.specs.Named.{seat_of_name};
@@ -14,8 +14,8 @@ ghost use Rattle.v1_ready_places.specs.internal.Chains.{seen_left, step, chained
 
 use crate::meant::{Meant, element_meant, member_meant, slice_meant, whole};
 use p4x_bits::OutOfMemory;
-use p416_ast::{ExpHead, ExpView};
-use p416_kinds::Kind;
+use p416_names::Kind;
+use p416_syntax::{ExpHead, ExpView};
 use p416_typing::{Row, Typed, typed_expression};
 use std::alloc::Global;
 use v1_ready_program::spots::Spot;

@@ -1,16 +1,16 @@
 // What an expression is (P4_16 1.2, "Expressions").
 ghost use Rattle.std.specs.Prelude.{◌≡◌, List, map, IfOk};
-ghost use Rattle.p416_rules.specs.Scopes.{Known};
-ghost use Rattle.p416_rules.specs.Expressions.{kind_of};
-ghost use Rattle.p416_kinds.specs.Seen.{seen_kind};
+ghost use Rattle.p416_syntax.specs.Scopes.{Known};
+ghost use Rattle.p416_syntax.specs.Expressions.{kind_of};
+ghost use Rattle.p416_names.specs.SeenKinds.{seen_kind};
 ghost use Rattle.p416_scopes.specs.Seen.{seen_scope};
 ghost use Rattle.p416_typing.specs.Seen.{seen_row};
 ghost use Rattle.v1_ready_places.specs.internal.Chains.{kind_first};
 
 use p4x_bits::OutOfMemory;
-use p416_ast::ExpView;
-use p416_kinds::Kind;
+use p416_names::Kind;
 use p416_scopes::Scope;
+use p416_syntax::ExpView;
 use p416_typing::{Row, typed_expression};
 use std::alloc::Global;
 use work_stack::Stack;

@@ -1,9 +1,9 @@
 // What an l-value means, given what the part of it means that stands before a word, a number or a slice (P4_16 1.2, "L-values").
 ghost use Rattle.std.specs.Prelude.{◌≡◌, Some, None, IfOk, option_map};
-ghost use Rattle.p416_kinds.specs.Seen.{seen_kind};
-ghost use Rattle.v1_sem.specs.Values.{to_element};
-ghost use Rattle.v1_sem.specs.Frames.{cut_to};
-ghost use Rattle.v1_sem.specs.Expressions.{slice_of};
+ghost use Rattle.p416_names.specs.SeenKinds.{seen_kind};
+ghost use Rattle.v1_core.specs.Values.{to_element};
+ghost use Rattle.v1_core.specs.Frames.{cut_to};
+ghost use Rattle.v1_core.specs.Expressions.{slice_of};
 ghost use Rattle.v1_ready_forms.specs.Ways.{which_of};
 ghost use Rattle.v1_ready_forms.specs.Spots.{spot_behind};
 ghost use Rattle.v1_ready_blocks.specs.Places.{seen_slice};
@@ -13,10 +13,10 @@ ghost use Rattle.v1_ready_places.specs.Seen.{seen_meant};
 ghost use Rattle.v1_ready_places.specs.internal.Chains.{part_spot};
 
 use p4x_bits::OutOfMemory;
-use p416_ast::Literal16;
-use p416_kinds::Kind;
+use p416_names::Kind;
+use p416_syntax::Literal16;
+use v1_core::Which;
 use v1_ready_blocks::Slice;
-use v1_ready_expressions::Which;
 use v1_ready_program::spots::{Spot, element, member, told_element};
 use v1_seats::TypeTable;
 

@@ -10,9 +10,9 @@ ghost use Rattle.v1_ready_places.specs.Seen.{seen_meant};
 
 use crate::meant::Meant;
 use p4x_bits::OutOfMemory;
-use p416_kinds::Kind;
+use p416_names::Kind;
+use v1_core::Element;
 use v1_ready_blocks::{Range, RangePlace, Slice, SlotPlace, Target, ToldRange};
-use v1_ready_expressions::Element;
 use v1_ready_program::spots::{Spot, Told};
 use v1_seats::{Seat, TypeTable};
 

@@ -3,8 +3,8 @@ use Rattle.std.proofs.Common.{◌≡◌, ℕ, ◌<◌, ◌≤◌, List, [], ◌�
 use Rattle.node_lists.specs.Trees.{Adds, KeepsPlaces}
 use Rattle.node_lists.proofs.Growth as growth
 use Rattle.p416_calls.specs.Seen.{seen_place}
-use Rattle.p416_rules.specs.Kinds.{Kind}
-use Rattle.p416_ast.specs.Tree.{Exp16}
+use Rattle.p416_syntax.specs.Kinds.{Kind}
+use Rattle.p416_syntax.specs.Tree.{Exp16}
 use Rattle.v1_ready_forms.specs.Ways.{Way, its_value}
 use Rattle.v1_ready_program.specs.declared.asks.Ask.{Ask as CodeAsk}
 use Rattle.v1_ready_program.specs.declared.asks.Ask.TheVariants as ask_of

@@ -5,13 +5,13 @@ use Rattle.std.proofs.lemmas.List.{length-append}
 use Rattle.std.specs.Prelude.{option_map}
 use Rattle.std.specs.Str.{bytes_eq}
 use Rattle.name_stack.specs.Newest.{newest, behind_first}
-use Rattle.p416_rules.specs.Names.{Name}
-use Rattle.v1_frame_values.specs.Seats as seats
+use Rattle.p416_syntax.specs.Names.{Name}
+use Rattle.v1_core.specs.Seats as seats
 use Rattle.v1_seats.specs.declared.seat.Seat.{Seat}
 use Rattle.v1_seats.specs.Seen.{seen_seat}
 use Rattle.v1_ready_forms.specs.Named.{NamedSeat, named_seat, seat_of_name}
-use Rattle.p416_rules.specs.Scopes.{Layout}
-use Rattle.v1_ready_expressions.specs.Ready.{Ready}
+use Rattle.p416_syntax.specs.Scopes.{Layout}
+use Rattle.v1_core.specs.Ready.{Ready}
 use Rattle.v1_ready_forms.specs.Ways.{Way}
 use Rattle.v1_ready_forms.specs.Spots.{spot, spot_with, ready_behind, way_ready}
 use Rattle.v1_ready_forms.specs.Expressions.{name_ready}

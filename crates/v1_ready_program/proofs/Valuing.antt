@@ -1,17 +1,17 @@
 -- More expressions: values by the places of earlier ones stay what they were.
 use Rattle.std.proofs.Common.{◌≡◌, ℕ, suc, ◌-◌, ◌<◌, ◌≤◌, Option, Some, None, List, [], ◌∷◌, ◌++◌, length, map, drop, get_or, refl, sym, ap, ◌∙◌, arith}
 use Rattle.std.proofs.Math.Seq.{drop-cons}
-use Rattle.p416_ast.specs.Tree.{Exp16}
+use Rattle.p416_syntax.specs.Tree.{Exp16}
 use Rattle.v1_ready_program.specs.declared.plans.Plan.{Plan as CodePlan}
-use Rattle.p416_rules.specs.Scopes.{Scope}
+use Rattle.p416_syntax.specs.Scopes.{Scope}
 use Rattle.p416_typing.specs.Rows.{row_of}
 use Rattle.v1_ready_forms.specs.Named.{NamedSeat}
 use Rattle.v1_ready_program.specs.internal.Passes.{Ask, front, behind_front, parts_asked, plans, built_step, built}
 use Rattle.node_lists.specs.Trees.{Adds}
 use Rattle.node_lists.proofs.Growth as growth
-use Rattle.v1_ready_expressions.specs.Ready.{Ready}
-use Rattle.v1_ready_expressions.specs.Nodes.{nothing, ready_at, ready_of}
-use Rattle.v1_ready_expressions.specs.Kept.{Kept, trees}
+use Rattle.v1_core.specs.Ready.{Ready}
+use Rattle.v1_core.specs.Nodes.{nothing, ready_at, ready_of}
+use Rattle.v1_core.specs.Kept.{Kept, trees}
 use Rattle.std.specs.Option.{IfSome}
 use Rattle.v1_ready_program.specs.Seen.{Keeps}
 use Rattle.v1_ready_program.specs.internal.Coded.{seen_plan, seen_value, seen_values, IsValueIn, AreValuesIn}

@@ -1,12 +1,12 @@
 -- Which names, seats and spots those of code are.
 use Rattle.std.specs.Prelude.{ℕ, ◌≤◌, List, [], ◌∷◌, length, Option, option_map, slice_get, option_and_then}
 use Rattle.node_lists.specs.Trees.{KeepsPlaces}
-use Rattle.p416_rules.specs.Names.{Name}
-use Rattle.v1_frame_values.specs.Seats as seats
+use Rattle.p416_syntax.specs.Names.{Name}
+use Rattle.v1_core.specs.Seats as seats
 use Rattle.v1_seats.specs.declared.seat.Seat.{Seat}
 use Rattle.v1_seats.specs.Seen.{seen_seat}
-use Rattle.v1_ready_expressions.specs.Ready.{Ready}
-use Rattle.v1_ready_expressions.specs.Nodes.{nothing}
+use Rattle.v1_core.specs.Ready.{Ready}
+use Rattle.v1_core.specs.Nodes.{nothing}
 use Rattle.v1_ready_forms.specs.Named.{NamedSeat, named_seat}
 use Rattle.v1_ready_forms.specs.Spots as spots
 use Rattle.v1_ready_program.specs.declared.names.NamedSeats.{NamedSeats}

@@ -1,9 +1,9 @@
 // What is asked of the parts of an expression (P4_16 1.2, "Expressions").
 ghost use Rattle.std.specs.Prelude.{◌≡◌, ℕ, ◌++◌, ◌<◌, List, length, OnOk};
-ghost use Rattle.p416_ast.specs.Heads.{of_exp_head};
-ghost use Rattle.p416_rules.specs.Scopes.{Known};
-ghost use Rattle.p416_rules.specs.Calls.{owner};
-ghost use Rattle.p416_kinds.specs.Seen.{seen_kind};
+ghost use Rattle.p416_syntax.specs.Heads.{of_exp_head};
+ghost use Rattle.p416_syntax.specs.Scopes.{Known};
+ghost use Rattle.p416_syntax.specs.Calls.{owner};
+ghost use Rattle.p416_names.specs.SeenKinds.{seen_kind};
 ghost use Rattle.p416_calls.specs.Seen.{seen_place};
 ghost use Rattle.p416_typing.specs.Seen.{seen_row};
 ghost use Rattle.v1_ready_forms.specs.Ways.{Way, which_of};
@@ -13,12 +13,12 @@ ghost use Rattle.v1_ready_program.specs.internal.Passes.{is_alone, member_way, w
 
 use crate::ways::{Step, VALIDITY, VALUE, Ways};
 use p4x_bits::OutOfMemory;
-use p416_ast::ExpHead;
 use p416_calls::Place;
 use p416_expression_uses::{cast_place, chosen_place, left_place, right_place, unary_place};
-use p416_kinds::Kind;
+use p416_names::Kind;
+use p416_syntax::ExpHead;
 use p416_typing::Row;
-use v1_ready_expressions::Which;
+use v1_core::Which;
 use work_stack::Stack;
 
 /// What is asked of a part of an expression.

@@ -1,10 +1,10 @@
 // Expressions are built from the inside out, each of its parts.
 ghost use Rattle.std.specs.Prelude.{◌≡◌, ℕ, List, length, IfOk, OnOk};
-ghost use Rattle.p416_ast.specs.Heads.{of_exp_head};
-ghost use Rattle.v1_ready_expressions.specs.Ready as ready;
-ghost use Rattle.v1_ready_expressions.specs.Ready.{Ready};
-ghost use Rattle.v1_ready_expressions.specs.Nodes.{ready_at, ready_of};
-ghost use Rattle.v1_ready_expressions.specs.Kept.{trees};
+ghost use Rattle.p416_syntax.specs.Heads.{of_exp_head};
+ghost use Rattle.v1_core.specs.Ready as ready;
+ghost use Rattle.v1_core.specs.Ready.{Ready};
+ghost use Rattle.v1_core.specs.Nodes.{ready_at, ready_of};
+ghost use Rattle.v1_core.specs.Kept.{trees};
 ghost use Rattle.v1_ready_forms.specs.Expressions.{with_two, with_three, binary_ready};
 ghost use Rattle.v1_ready_program.specs.declared.build.Parts.{Parts as PartsOf};
 ghost use Rattle.v1_ready_program.specs.Seen.{Keeps};
@@ -14,8 +14,8 @@ ghost use Rattle.v1_ready_program.specs.internal.Passes.{first_of, rest_of, only
 
 use crate::plans::Plan;
 use p4x_bits::OutOfMemory;
-use p416_ast::{BinaryOperator, ExpHead, UnaryOperator};
-use v1_ready_expressions::{Expressions, Node};
+use p416_syntax::{BinaryOperator, ExpHead, UnaryOperator};
+use v1_core::{Expressions, Node};
 use work_stack::Stack;
 
 /// The places of the expressions that at most three parts are, where they are some.

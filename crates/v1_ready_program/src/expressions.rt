@@ -1,13 +1,13 @@
 // An expression is gone through from the outside in, and built from the inside out.
 ghost use Rattle.std.specs.Prelude.{◌≡◌, ◌<◌, [], ◌∷◌, ◌++◌, length, map, option_map, IfOk, IfSome, OnOk};
-ghost use Rattle.p416_ast.specs.Subtrees.{subexpressions};
-ghost use Rattle.p416_rules.specs.Declarations.{top_names, layouts_of};
+ghost use Rattle.p416_syntax.specs.Subtrees.{subexpressions};
+ghost use Rattle.p416_syntax.specs.Declarations.{top_names, layouts_of};
 ghost use Rattle.p416_calls.specs.Seen.{seen_place};
 ghost use Rattle.p416_scopes.specs.Seen.{seen_scope};
 ghost use Rattle.p416_typing.specs.Rows.{row_of};
 ghost use Rattle.p416_typing.specs.Seen.{seen_row};
-ghost use Rattle.v1_ready_expressions.specs.Nodes.{ready_at};
-ghost use Rattle.v1_ready_expressions.specs.Kept.{trees};
+ghost use Rattle.v1_core.specs.Nodes.{ready_at};
+ghost use Rattle.v1_core.specs.Kept.{trees};
 ghost use Rattle.v1_ready_forms.specs.Ways.{its_value};
 ghost use Rattle.v1_ready_forms.specs.Expressions.{ready_of_exp};
 ghost use Rattle.v1_ready_program.specs.Seen.{seen_seats, Keeps};
@@ -19,11 +19,11 @@ use crate::build::{make, take_parts};
 use crate::plans::{Around, Plan, plan_of};
 use crate::ways::{VALUE, Ways};
 use p4x_bits::OutOfMemory;
-use p416_ast::ExpView;
 use p416_calls::Place;
+use p416_syntax::ExpView;
 use p416_typing::{Row, Typed, typed_expression};
 use std::alloc::Global;
-use v1_ready_expressions::Expressions;
+use v1_core::Expressions;
 use work_stack::Stack;
 
 /// How the next expression is made, given what is known of it; what is asked of its parts is put in front.

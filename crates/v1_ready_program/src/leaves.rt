@@ -1,15 +1,15 @@
 // What is asked of a part, as an expression without operands (P4_16 1.2, "Operations on headers").
 ghost use Rattle.std.specs.Prelude.{◌≡◌, List, Some, None, option_map};
 ghost use Rattle.v1_seats.specs.Seen.{seen_seat};
-ghost use Rattle.v1_ready_expressions.specs.Ready.{Ready};
-ghost use Rattle.v1_ready_expressions.specs.Nodes.{ready_of};
+ghost use Rattle.v1_core.specs.Ready.{Ready};
+ghost use Rattle.v1_core.specs.Nodes.{ready_of};
 ghost use Rattle.v1_ready_forms.specs.Spots.{spot, element_with, value_ready, validity_ready};
 ghost use Rattle.v1_ready_program.specs.Seen.{seen_told, seen_spot};
 ghost use Rattle.v1_ready_program.specs.internal.Coded.{seen_leaf};
 
 use crate::spots::{Spot, Told};
-use p416_kinds::Kind;
-use v1_ready_expressions::{Content, Element, Node};
+use p416_names::Kind;
+use v1_core::{Content, Element, Node};
 use v1_seats::Seat;
 
 /// An expression without operands.

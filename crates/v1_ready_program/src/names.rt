@@ -6,11 +6,19 @@ use v1_seats::Seat;
 
 /// The names in scope, in the order in which they were declared, each with the seat of what it means; none where that is no
 /// value of the frame.
-#[derive(Drop)]
 pub struct NamedSeats<'a> {
     /// The names.
     pub(crate) names: NameStack<'a>,
     /// Their seats.
     pub(crate) seats: Vec<Option<Seat<'a>>>,
     ghost same: { length names ≡ length seats.items },
+}
+
+impl Drop for NamedSeats<'_> {
+    fn drop(self) {
+        let NamedSeats {
+            names: _names,
+            seats: _seats,
+        } = self;
+    }
 }

@@ -1,15 +1,15 @@
 // How an expression is made (P4_16 1.2, "Expressions", "Literal constants", "Packet lookahead").
 ghost use Rattle.std.specs.Prelude.{◌≡◌, suc, ◌-◌, ◌%◌, ◌^◌, ◌<◌, if◌then◌else◌, length, unwrap_or, IfOk};
-ghost use Rattle.p416_ast.specs.Heads.{of_exp_head};
-ghost use Rattle.p416_rules.specs.Declarations.{top_names, layouts_of};
-ghost use Rattle.p416_rules.specs.Literals as rules;
-ghost use Rattle.p416_kinds.specs.Seen.{seen_kind};
+ghost use Rattle.p416_syntax.specs.Heads.{of_exp_head};
+ghost use Rattle.p416_syntax.specs.Declarations.{top_names, layouts_of};
+ghost use Rattle.p416_syntax.specs.Literals as rules;
+ghost use Rattle.p416_names.specs.SeenKinds.{seen_kind};
 ghost use Rattle.p416_calls.specs.Seen.{seen_place};
 ghost use Rattle.p416_scopes.specs.Seen.{seen_scope};
 ghost use Rattle.p416_typing.specs.Seen.{seen_row};
-ghost use Rattle.v1_sem.specs.Values.{a_number};
-ghost use Rattle.v1_sem.specs.Expressions.{number_of_error, literal_width, literal_number};
-ghost use Rattle.v1_ready_expressions.specs.Ready.{constant};
+ghost use Rattle.v1_core.specs.Values.{a_number};
+ghost use Rattle.v1_core.specs.Expressions.{number_of_error, literal_width, literal_number};
+ghost use Rattle.v1_core.specs.Ready.{constant};
 ghost use Rattle.v1_ready_forms.specs.Ways.{Way};
 ghost use Rattle.v1_ready_forms.specs.Expressions.{name_ready};
 ghost use Rattle.v1_ready_program.specs.Seen.{seen_seats};
@@ -23,12 +23,12 @@ use crate::names::NamedSeats;
 use crate::spots::Spot;
 use crate::ways::Ways;
 use p4x_bits::OutOfMemory;
-use p416_ast::{BinaryOperator, CastType, ExpHead, ExpView, Literal16, UnaryOperator};
 use p416_calls::Place;
-use p416_kinds::Kind;
+use p416_names::Kind;
 use p416_scopes::Scope;
+use p416_syntax::{BinaryOperator, CastType, ExpHead, ExpView, Literal16, UnaryOperator};
 use p416_typing::Row;
-use v1_ready_expressions::{Scalar, to_bits};
+use v1_core::{Scalar, to_bits};
 use v1_seats::TypeTable;
 
 /// What stands around an expression: what names mean, where they stand, and where the parts of types stand.

@@ -1,14 +1,14 @@
 // Where a part of a frame stands, also one in an element that the place of a stack tells (P4_16 1.2, "Operations on header
 // stacks").
 ghost use Rattle.std.specs.Prelude.{◌≡◌, None, IfOk, option_map};
-ghost use Rattle.v1_sem.specs.Values.{to_member, to_element};
+ghost use Rattle.v1_core.specs.Values.{to_member, to_element};
 ghost use Rattle.v1_ready_forms.specs.Spots.{spot, spot_with, spot_behind, told_spot};
 ghost use Rattle.v1_seats.specs.Seen.{seen_seat};
 ghost use Rattle.v1_ready_program.specs.Seen.{seen_told, seen_spot};
 
 use p4x_bits::OutOfMemory;
-use p416_kinds::Kind;
-use v1_ready_expressions::Which;
+use p416_names::Kind;
+use v1_core::Which;
 use v1_seats::{Seat, TypeTable};
 
 /// An element that the place of a stack tells.

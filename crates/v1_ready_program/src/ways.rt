@@ -1,7 +1,7 @@
 // Ways to parts of headers, stacks and structs: each is a step, and a way that was put before.
 ghost use Rattle.std.specs.Prelude.{◌≡◌, ℕ, ◌<◌, List, length, IfOk, OnOk, option_map};
 ghost use Rattle.node_lists.specs.Trees.{Adds};
-ghost use Rattle.p416_rules.specs.Scopes.{Layout};
+ghost use Rattle.p416_syntax.specs.Scopes.{Layout};
 ghost use Rattle.v1_ready_forms.specs.Ways.{Way};
 ghost use Rattle.v1_ready_forms.specs.Spots.{ready_behind, way_ready};
 ghost use Rattle.v1_ready_program.specs.Seen.{seen_spot};
@@ -13,7 +13,7 @@ use crate::leaves::{Leaf, validity_of, value_of};
 use crate::spots::{Spot, element, member, told_element};
 use p4x_bits::OutOfMemory;
 use std::alloc::Global;
-use v1_ready_expressions::Which;
+use v1_core::Which;
 use v1_seats::TypeTable;
 
 /// The first step of a way, and the place of the way behind it.

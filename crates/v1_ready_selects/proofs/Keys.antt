@@ -1,13 +1,13 @@
 -- Keys that are evaluated one after another.
 use Rattle.std.proofs.Common.{◌≡◌, ℕ, ◌+◌, ◌<◌, List, [], ◌∷◌, ◌++◌, map, length, get_or, drop, drop-cons, add-one, refl, sym, ap, ◌∙◌}
 use Rattle.std.proofs.lemmas.List.{append-nil, append_assoc, map-append}
-use Rattle.v1_sem.specs.declared.parser_error.ParserError.{ParserError}
-use Rattle.v1_sem.specs.Values.{Value}
-use Rattle.v1_frames.specs.Cells.{Cells}
-use Rattle.v1_ready_expressions.specs.declared.scalar.Scalar.{Scalar}
-use Rattle.v1_ready_expressions.specs.Scalars.{seen_scalar}
-use Rattle.v1_ready_expressions.specs.Ready.{Ready, Ended, given, failed, ready_value}
-use Rattle.v1_ready_expressions.specs.Nodes.{ready_at}
+use Rattle.v1_core.specs.declared.parser_error.ParserError.{ParserError}
+use Rattle.v1_core.specs.Values.{Value}
+use Rattle.v1_core.specs.Cells.{Cells}
+use Rattle.v1_core.specs.declared.scalar.Scalar.{Scalar}
+use Rattle.v1_core.specs.Scalars.{seen_scalar}
+use Rattle.v1_core.specs.Ready.{Ready, Ended, given, failed, ready_value}
+use Rattle.v1_core.specs.Nodes.{ready_at}
 use Rattle.v1_ready_selects.specs.Selects.{Keys, all_given, one_failed, with_key, keys_of}
 use Rattle.v1_ready_selects.specs.Seen.{seen_scalars, behind}
 

@@ -1,12 +1,12 @@
 -- Parts of a case, by the places of their keys.
 use Rattle.std.proofs.Common.{◌≡◌, ℕ, zero, suc, ◌+◌, ◌<◌, ◌&&◌, Bool, true, List, [], ◌∷◌, length, map, drop, get_or, slice_get, Option, Some, None, drop-cons, add-one, refl, sym, ap, ◌∙◌, arith}
-use Rattle.p416_ast.specs.declared.parsers.Simple.{Simple}
-use Rattle.p416_rules.specs.Kinds as rule
-use Rattle.p416_kinds.specs.declared.kind.Kind.{Kind}
-use Rattle.p416_kinds.specs.Seen.{seen_kind}
-use Rattle.v1_sem.specs.Values.{Value}
-use Rattle.v1_ready_expressions.specs.declared.scalar.Scalar.{Scalar}
-use Rattle.v1_ready_expressions.specs.Scalars.{seen_scalar}
+use Rattle.p416_syntax.specs.declared.parsers.Simple.{Simple}
+use Rattle.p416_syntax.specs.Kinds as rule
+use Rattle.p416_names.specs.declared.kind.Kind.{Kind}
+use Rattle.p416_names.specs.SeenKinds.{seen_kind}
+use Rattle.v1_core.specs.Values.{Value}
+use Rattle.v1_core.specs.declared.scalar.Scalar.{Scalar}
+use Rattle.v1_core.specs.Scalars.{seen_scalar}
 use Rattle.v1_ready_selects.specs.declared.rows.KeyTest.{KeyTest}
 use Rattle.v1_ready_selects.specs.declared.rows.KeyTest.TheVariants as key_test
 use Rattle.v1_ready_selects.specs.Selects.{takes, takes_each}

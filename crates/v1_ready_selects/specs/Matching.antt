@@ -1,14 +1,14 @@
 -- That rows lead where the cases of the program do (P4_16 1.2, "Select expressions").
 -- A state is told by its number among those of its parser.
 use Rattle.std.specs.Prelude.{◌≡◌, List, map, slice_get, Option, Some, None}
-use Rattle.p416_ast.specs.declared.parsers.Target.{Target}
-use Rattle.p416_ast.specs.declared.parsers.SelectCase.{SelectCase}
-use Rattle.p416_ast.specs.declared.parsers.State.{State}
-use Rattle.p416_rules.specs.Names.{Name}
-use Rattle.p416_rules.specs.Kinds.{Kind}
-use Rattle.v1_sem.specs.declared.parser_error.ParserError.TheVariants.{NoMatch}
-use Rattle.v1_sem.specs.Values.{Value}
-use Rattle.v1_sem.specs.Parsing.{Key, first_match, state_called}
+use Rattle.p416_syntax.specs.declared.parsers.Target.{Target}
+use Rattle.p416_syntax.specs.declared.parsers.SelectCase.{SelectCase}
+use Rattle.p416_syntax.specs.declared.parsers.State.{State}
+use Rattle.p416_syntax.specs.Names.{Name}
+use Rattle.p416_syntax.specs.Kinds.{Kind}
+use Rattle.v1_core.specs.declared.parser_error.ParserError.TheVariants.{NoMatch}
+use Rattle.v1_core.specs.Values.{Value}
+use Rattle.v1_core.specs.Parsing.{Key, first_match, state_called}
 use Rattle.v1_ready_selects.specs.declared.rows.Led.{Led}
 use Rattle.v1_ready_selects.specs.declared.rows.Led.TheVariants.{To, Failed}
 use Rattle.v1_ready_selects.specs.Selects.{row_for}

@@ -2,17 +2,17 @@
 -- these names (P4_16 1.2, "Select expressions", "Transition statements").
 use Rattle.std.specs.Prelude.{ℕ, bit_and, List, [], ◌∷◌, length, map, unwrap_or}
 use Rattle.name_numbers.specs.Names.{find_name}
-use Rattle.p416_ast.specs.declared.parsers.Target.{Target}
-use Rattle.p416_ast.specs.declared.parsers.Target.TheVariants as target
-use Rattle.p416_ast.specs.declared.parsers.Simple.{Simple}
-use Rattle.p416_ast.specs.declared.parsers.Simple.TheVariants as simple
-use Rattle.p416_ast.specs.declared.parsers.Keyset.{Keyset}
-use Rattle.p416_ast.specs.declared.parsers.Keyset.TheVariants as keyset
-use Rattle.p416_ast.specs.declared.parsers.SelectCase.{SelectCase}
-use Rattle.p416_rules.specs.Names.{Name}
-use Rattle.p416_rules.specs.Kinds.{Kind}
-use Rattle.v1_sem.specs.Values.{Value, a_number, a_truth, number_in}
-use Rattle.v1_sem.specs.Parsing.{keyset_value}
+use Rattle.p416_syntax.specs.declared.parsers.Target.{Target}
+use Rattle.p416_syntax.specs.declared.parsers.Target.TheVariants as target
+use Rattle.p416_syntax.specs.declared.parsers.Simple.{Simple}
+use Rattle.p416_syntax.specs.declared.parsers.Simple.TheVariants as simple
+use Rattle.p416_syntax.specs.declared.parsers.Keyset.{Keyset}
+use Rattle.p416_syntax.specs.declared.parsers.Keyset.TheVariants as keyset
+use Rattle.p416_syntax.specs.declared.parsers.SelectCase.{SelectCase}
+use Rattle.p416_syntax.specs.Names.{Name}
+use Rattle.p416_syntax.specs.Kinds.{Kind}
+use Rattle.v1_core.specs.Values.{Value, a_number, a_truth, number_in}
+use Rattle.v1_core.specs.Parsing.{keyset_value}
 use Rattle.v1_ready_selects.specs.declared.rows.Next.{Next}
 use Rattle.v1_ready_selects.specs.declared.rows.Next.TheVariants as next
 use Rattle.v1_ready_selects.specs.declared.rows.KeyTest.{KeyTest}

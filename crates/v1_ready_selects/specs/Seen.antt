@@ -1,9 +1,9 @@
 -- How code keeps the keys of a select.
 use Rattle.std.specs.Prelude.{List, map, ◌++◌, Option, Some, None}
-use Rattle.v1_sem.specs.declared.parser_error.ParserError.{ParserError}
-use Rattle.v1_sem.specs.Values.{Value}
-use Rattle.v1_ready_expressions.specs.declared.scalar.Scalar.{Scalar}
-use Rattle.v1_ready_expressions.specs.Scalars.{seen_scalar}
+use Rattle.v1_core.specs.declared.parser_error.ParserError.{ParserError}
+use Rattle.v1_core.specs.Values.{Value}
+use Rattle.v1_core.specs.declared.scalar.Scalar.{Scalar}
+use Rattle.v1_core.specs.Scalars.{seen_scalar}
 use Rattle.v1_ready_selects.specs.Selects.{Keys, all_given, one_failed}
 
 abbrev pub seen_scalars : List Scalar → List Value

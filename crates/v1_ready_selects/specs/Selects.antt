@@ -2,14 +2,14 @@
 -- "Select expressions"). Keys are evaluated from left to right, and the first error ends that. Of the cases the first counts
 -- that takes them.
 use Rattle.std.specs.Prelude.{ℕ, ◌<◌, Bool, true, false, ◌&&◌, ◌==◌, nat_eq, if◌then◌else◌, bit_and, List, [], ◌∷◌, length, map, All}
-use Rattle.v1_sem.specs.declared.parser_error.ParserError.{ParserError}
-use Rattle.v1_sem.specs.declared.parser_error.ParserError.TheVariants.{NoMatch}
-use Rattle.v1_sem.specs.Values.{Value, a_number, a_truth, number_in}
-use Rattle.v1_sem.specs.Numbers.{is_equal}
-use Rattle.v1_sem.specs.Parsing.{is_between}
-use Rattle.v1_frames.specs.Cells.{Cells}
-use Rattle.v1_ready_expressions.specs.Ready.{Ready, Ended, given, failed, ready_value}
-use Rattle.v1_ready_expressions.specs.Nodes.{ready_at}
+use Rattle.v1_core.specs.declared.parser_error.ParserError.{ParserError}
+use Rattle.v1_core.specs.declared.parser_error.ParserError.TheVariants.{NoMatch}
+use Rattle.v1_core.specs.Values.{Value, a_number, a_truth, number_in}
+use Rattle.v1_core.specs.Numbers.{is_equal}
+use Rattle.v1_core.specs.Parsing.{is_between}
+use Rattle.v1_core.specs.Cells.{Cells}
+use Rattle.v1_core.specs.Ready.{Ready, Ended, given, failed, ready_value}
+use Rattle.v1_core.specs.Nodes.{ready_at}
 use Rattle.v1_ready_selects.specs.declared.rows.Next.{Next}
 use Rattle.v1_ready_selects.specs.declared.rows.KeyTest.{KeyTest}
 use Rattle.v1_ready_selects.specs.declared.rows.KeyTest.TheVariants as key_test

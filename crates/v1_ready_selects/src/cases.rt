@@ -1,21 +1,20 @@
 // The cases of a select made ready (P4_16 1.2, "Select expressions").
 ghost use Rattle.std.specs.Prelude.{◌≡◌, ◌%◌, ◌^◌, [], ◌∷◌, map, unwrap_or, IfOk};
-ghost use Rattle.p416_ast.specs.declared.parsers.Keyset.TheVariants.{One};
-ghost use Rattle.p416_rules.specs.Calls.{literal_of};
-ghost use Rattle.p416_rules.specs.Literals.{width_of_kind};
-ghost use Rattle.p416_kinds.specs.Seen.{seen_kind};
-ghost use Rattle.v1_sem.specs.Values.{number_in};
-ghost use Rattle.v1_sem.specs.Expressions.{literal_number, literal_width};
-ghost use Rattle.v1_sem.specs.Parsing.{keyset_value};
+ghost use Rattle.p416_syntax.specs.declared.parsers.Keyset.TheVariants.{One};
+ghost use Rattle.p416_syntax.specs.Calls.{literal_of};
+ghost use Rattle.p416_syntax.specs.Literals.{width_of_kind};
+ghost use Rattle.p416_names.specs.SeenKinds.{seen_kind};
+ghost use Rattle.v1_core.specs.Values.{number_in};
+ghost use Rattle.v1_core.specs.Expressions.{literal_number, literal_width};
+ghost use Rattle.v1_core.specs.Parsing.{keyset_value};
 ghost use Rattle.v1_ready_selects.specs.Rows.{masked, next_for, number_of_state, row_of_case, rows_of_cases, test_of_keyset, test_of_part, test_of_value, tests_of_parts};
 ghost use Rattle.v1_ready_selects.specs.internal.Places.{test_at, tests_from};
 
 use crate::rows::{CaseRow, CaseTest, KeyTest, Next};
 use name_numbers::{Numbering, narrow};
 use p4x_bits::{OutOfMemory, Rows};
-use p416_ast::{Exp, ExpHead, Keyset, SelectCase, Simple, Target};
-use p416_kinds::Kind;
-use p416_lexemes::Literal16;
+use p416_names::Kind;
+use p416_syntax::{Exp, ExpHead, Keyset, Literal16, SelectCase, Simple, Target};
 use std::alloc::Global;
 
 /// A number modulo 2 to the width.

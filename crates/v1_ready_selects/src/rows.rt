@@ -1,6 +1,6 @@
 // The rows of a transition that is ready to run (P4_16 1.2, "Transition statements", "Select expressions").
 use p4x_bits::Rows;
-use v1_sem::ParserError;
+use v1_core::ParserError;
 
 /// Where parsing goes on.
 #[derive(Clone, Copy, Drop)]
@@ -39,12 +39,20 @@ pub enum KeyTest {
 }
 
 /// Which keys a case takes.
-#[derive(Drop)]
 pub enum CaseTest {
     /// All.
     Any,
     /// As many keys as parts, of which each part takes the one at its place.
     Each(Rows<KeyTest>),
+}
+
+impl Drop for CaseTest {
+    fn drop(self) {
+        match self {
+            CaseTest::Any => {}
+            CaseTest::Each(_a) => {}
+        }
+    }
 }
 
 /// A case of a select.
@@ -57,7 +65,6 @@ pub struct CaseRow {
 }
 
 /// What a state ends with.
-#[derive(Drop)]
 pub enum ReadyTransition {
     /// Always there.
     Go(Next),
@@ -68,6 +75,18 @@ pub enum ReadyTransition {
         /// The cases in order.
         rows: Rows<CaseRow>,
     },
+}
+
+impl Drop for ReadyTransition {
+    fn drop(self) {
+        match self {
+            ReadyTransition::Go(_a) => {}
+            ReadyTransition::Select {
+                keys: _keys,
+                rows: _rows,
+            } => {}
+        }
+    }
 }
 
 /// Where a transition leads, or the error that ends parsing in place of that.

@@ -1,11 +1,11 @@
 // Selects (P4_16 1.2, "Select expressions").
 ghost use Rattle.std.specs.Prelude.{◌≡◌, [], length, map, IfOk};
-ghost use Rattle.v1_sem.specs.Numbers.{is_equal, is_same_truth};
-ghost use Rattle.v1_sem.specs.Parsing.{is_between};
-ghost use Rattle.v1_sem.specs.Values.{a_truth};
-ghost use Rattle.v1_ready_expressions.specs.Scalars.{seen_scalar};
-ghost use Rattle.v1_ready_expressions.specs.Nodes.{ready_at};
-ghost use Rattle.v1_ready_expressions.specs.Kept.{trees};
+ghost use Rattle.v1_core.specs.Numbers.{is_equal, is_same_truth};
+ghost use Rattle.v1_core.specs.Parsing.{is_between};
+ghost use Rattle.v1_core.specs.Values.{a_truth};
+ghost use Rattle.v1_core.specs.Scalars.{seen_scalar};
+ghost use Rattle.v1_core.specs.Nodes.{ready_at};
+ghost use Rattle.v1_core.specs.Kept.{trees};
 ghost use Rattle.v1_ready_selects.specs.Selects.{ArePlaces, FitsTransition, bits_with, keys_of, lead, led_by, row_for, takes, takes_each, takes_keys, transition_of};
 ghost use Rattle.v1_ready_selects.specs.Seen.{seen_keys, seen_scalars};
 ghost use Rattle.v1_ready_selects.specs.internal.Places.{takes_at, takes_from};
@@ -14,9 +14,7 @@ use crate::rows::{CaseRow, CaseTest, KeyTest, Led, ReadyTransition};
 use p4x_bits::OutOfMemory;
 use std::alloc::Global;
 use std::marker::Model;
-use v1_frames::Frame;
-use v1_ready_expressions::{Expressions, Scalar};
-use v1_sem::ParserError;
+use v1_core::{Expressions, Frame, ParserError, Scalar};
 
 /// Whether a key is bits with this number.
 fn is_number(key: Scalar, number: u128) -> bool
@@ -131,7 +129,7 @@ pub struct SelectKeys {
 
 impl Model for SelectKeys {
     ghost use Rattle.std.specs.Prelude.{List};
-    ghost use Rattle.v1_ready_expressions.specs.declared.scalar.Scalar.{Scalar as Key};
+    ghost use Rattle.v1_core.specs.declared.scalar.Scalar.{Scalar as Key};
 
     ghost Value = { List Key };
 

@@ -2,21 +2,21 @@
 -- standard metadata that externs use (P4_16 1.2, "Name resolution"; `v1model.p4`; the numbers are this project's own).
 use Rattle.std.specs.Prelude.{ℕ, suc, ◌+◌, List, [], ◌∷◌, length, filter_map, if◌then◌else◌, Option, Some, None}
 use Rattle.std.specs.Str.{bytes_eq}
-use Rattle.p416_ast.specs.declared.controls.Action16.{Action16}
-use Rattle.p416_ast.specs.declared.controls.Table16.{Table16}
-use Rattle.p416_ast.specs.declared.controls.Local.{Local}
-use Rattle.p416_ast.specs.declared.controls.Local.TheVariants as local
-use Rattle.p416_ast.specs.declared.program.Syntax16.{Syntax16}
-use Rattle.p416_ast.specs.Tree.{Exp16}
-use Rattle.p416_rules.specs.Names.{Name}
-use Rattle.p416_rules.specs.Scopes.{Scope}
-use Rattle.p416_rules.specs.Declarations.{table_in}
-use Rattle.v1_sem.specs.Values.{to_member}
-use Rattle.v1_sem.specs.Slots.{the_standard, the_variable, part_with, local_kinds}
-use Rattle.v1_sem.specs.Signatures.{object_number, plane_of_object}
-use Rattle.v1_sem.specs.Expressions.{name_in}
-use Rattle.v1_frame_values.specs.Seats.{Form, slot_form, Seat}
-use Rattle.v1_frame_values.specs.Programs.{owner_seat, part_seat}
+use Rattle.p416_syntax.specs.declared.controls.Action16.{Action16}
+use Rattle.p416_syntax.specs.declared.controls.Table16.{Table16}
+use Rattle.p416_syntax.specs.declared.controls.Local.{Local}
+use Rattle.p416_syntax.specs.declared.controls.Local.TheVariants as local
+use Rattle.p416_syntax.specs.declared.program.Syntax16.{Syntax16}
+use Rattle.p416_syntax.specs.Tree.{Exp16}
+use Rattle.p416_syntax.specs.Names.{Name}
+use Rattle.p416_syntax.specs.Scopes.{Scope}
+use Rattle.p416_syntax.specs.Declarations.{table_in}
+use Rattle.v1_core.specs.Values.{to_member}
+use Rattle.v1_core.specs.Slots.{the_standard, the_variable, part_with, local_kinds}
+use Rattle.v1_core.specs.Signatures.{object_number, plane_of_object}
+use Rattle.v1_core.specs.Expressions.{name_in}
+use Rattle.v1_core.specs.Seats.{Form, slot_form, Seat}
+use Rattle.v1_core.specs.Programs.{owner_seat, part_seat}
 use Rattle.v1_ready_forms.specs.Named.{NamedSeat, named_seat}
 
 -- an action, with the number of its first parameter among all variables and parameters of the program

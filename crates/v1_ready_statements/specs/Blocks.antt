@@ -2,26 +2,26 @@
 -- "Actions", "Tables", "Variable declarations"; `v1model.p4`).
 use Rattle.std.specs.Prelude.{ℕ, suc, ◌+◌, List, [], ◌∷◌, ◌++◌, length, map, filter_map, Option, Some, None, option_map, option_and_then}
 use Rattle.std.specs.Option.{option_map_or}
-use Rattle.p416_ast.specs.declared.parts.Param.{Param}
-use Rattle.p416_ast.specs.declared.parsers.Var.{Var}
-use Rattle.p416_ast.specs.declared.controls.TableKey.{TableKey}
-use Rattle.p416_ast.specs.declared.controls.Table16.{Table16}
-use Rattle.p416_ast.specs.declared.controls.Local.{Local}
-use Rattle.p416_ast.specs.declared.controls.Local.TheVariants as local
-use Rattle.p416_ast.specs.declared.controls.Control16.{Control16}
-use Rattle.p416_ast.specs.declared.program.Syntax16.{Syntax16}
-use Rattle.p416_ast.specs.Properties.{keys_of, default_action_of}
-use Rattle.p416_ast.specs.Tree.{Exp16}
-use Rattle.p416_rules.specs.Names.{Name}
-use Rattle.p416_rules.specs.Scopes.{Scope, kind_of_type}
-use Rattle.p416_rules.specs.Calls.{table_key}
-use Rattle.p416_rules.specs.Declarations.{is_exact, action_scope, table_in}
-use Rattle.v1_sem.specs.declared.block.Block.{Block as BlockName}
-use Rattle.v1_sem.specs.Slots.{local_kinds}
-use Rattle.v1_sem.specs.Signatures.{planes_of, key_scope, table_sig, table_number}
-use Rattle.v1_sem.specs.Tables.{name_of_number, own_default}
-use Rattle.v1_sem.specs.Tables as meaning
-use Rattle.v1_ready_expressions.specs.Ready.{Ready}
+use Rattle.p416_syntax.specs.declared.parts.Param.{Param}
+use Rattle.p416_syntax.specs.declared.parsers.Var.{Var}
+use Rattle.p416_syntax.specs.declared.controls.TableKey.{TableKey}
+use Rattle.p416_syntax.specs.declared.controls.Table16.{Table16}
+use Rattle.p416_syntax.specs.declared.controls.Local.{Local}
+use Rattle.p416_syntax.specs.declared.controls.Local.TheVariants as local
+use Rattle.p416_syntax.specs.declared.controls.Control16.{Control16}
+use Rattle.p416_syntax.specs.declared.program.Syntax16.{Syntax16}
+use Rattle.p416_syntax.specs.Properties.{keys_of, default_action_of}
+use Rattle.p416_syntax.specs.Tree.{Exp16}
+use Rattle.p416_syntax.specs.Names.{Name}
+use Rattle.p416_syntax.specs.Scopes.{Scope, kind_of_type}
+use Rattle.p416_syntax.specs.Calls.{table_key}
+use Rattle.p416_syntax.specs.Declarations.{is_exact, action_scope, table_in}
+use Rattle.v1_core.specs.declared.block.Block.{Block as BlockName}
+use Rattle.v1_core.specs.Slots.{local_kinds}
+use Rattle.v1_core.specs.Signatures.{planes_of, key_scope, table_sig, table_number}
+use Rattle.v1_core.specs.Tables.{name_of_number, own_default}
+use Rattle.v1_core.specs.Tables as meaning
+use Rattle.v1_core.specs.Ready.{Ready}
 use Rattle.v1_ready_forms.specs.Named.{NamedSeat}
 use Rattle.v1_ready_forms.specs.Expressions.{ready_of_exp}
 use Rattle.v1_ready_blocks.specs.Tables.{Chosen, Table}

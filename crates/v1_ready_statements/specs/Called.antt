@@ -4,17 +4,17 @@
 use Rattle.std.specs.Prelude.{ℕ, Bool, true, false, if◌then◌else◌, List, [], Option, Some, None, option_map, option_and_then, codes}
 use Rattle.std.specs.Str.{bytes_eq}
 use Rattle.fabric.specs.declared.items.RequestKind.TheVariants.{CloneI2E, CloneE2E, Resubmit, Recirculate}
-use Rattle.p416_ast.specs.declared.parts.HashAlgorithm.{HashAlgorithm}
-use Rattle.p416_ast.specs.declared.parts.HashAlgorithm.TheVariants.{Csum16, Crc16, Crc32, Identity}
-use Rattle.p416_ast.specs.Tree.{Exp16, literal, name, member, call}
-use Rattle.p416_rules.specs.Names.{Name}
-use Rattle.p416_rules.specs.Kinds.{ObjectKind, counter, direct_counter, register, meter, Kind, boolean, header, stack, packet_in, packet_out, table, object}
-use Rattle.p416_rules.specs.Scopes.{Sort, an_action, a_function, Scope, sort_of}
-use Rattle.p416_rules.specs.Calls.{value, any_bits, owner, index_place}
-use Rattle.p416_rules.specs.Expressions.{kind_of}
-use Rattle.p416_rules.specs.Uses.{arguments_of}
-use Rattle.v1_sem.specs.Values.{to_member}
-use Rattle.v1_sem.specs.Expressions.{name_in}
+use Rattle.p416_syntax.specs.declared.parts.HashAlgorithm.{HashAlgorithm}
+use Rattle.p416_syntax.specs.declared.parts.HashAlgorithm.TheVariants.{Csum16, Crc16, Crc32, Identity}
+use Rattle.p416_syntax.specs.Tree.{Exp16, literal, name, member, call}
+use Rattle.p416_syntax.specs.Names.{Name}
+use Rattle.p416_syntax.specs.Kinds.{ObjectKind, counter, direct_counter, register, meter, Kind, boolean, header, stack, packet_in, packet_out, table, object}
+use Rattle.p416_syntax.specs.Scopes.{Sort, an_action, a_function, Scope, sort_of}
+use Rattle.p416_syntax.specs.Calls.{value, any_bits, owner, index_place}
+use Rattle.p416_syntax.specs.Expressions.{kind_of}
+use Rattle.p416_syntax.specs.Uses.{arguments_of}
+use Rattle.v1_core.specs.Values.{to_member}
+use Rattle.v1_core.specs.Expressions.{name_in}
 use Rattle.v1_ready_forms.specs.Named.{NamedSeat}
 use Rattle.v1_ready_forms.specs.Ways.{its_value, its_validity}
 use Rattle.v1_ready_blocks.specs.declared.places.Target.{Target}

@@ -1,17 +1,17 @@
 -- Which ready statement a statement is, with all within it (P4_16 1.2, "Statements", "Assignment statement", "Conditional
 -- statement", "Block statement", "Variable declarations", "Switch statement"). Variables have numbers in the order of the text.
 use Rattle.std.specs.Prelude.{ℕ, ◌+◌, Bool, true, false, List, length, Option, Some, None, option_map, option_and_then}
-use Rattle.p416_ast.specs.declared.node.CaseLabel.{CaseLabel}
-use Rattle.p416_ast.specs.declared.node.CaseLabel.TheVariants as label
-use Rattle.p416_ast.specs.Tree.{Exp16, Stmt16, no_statements, then, block, empty, var, var_is, assign, expression, if_then, if_else, switch, no_cases, case_of}
-use Rattle.p416_rules.specs.Kinds.{Kind, boolean}
-use Rattle.p416_rules.specs.Scopes.{Scope, kind_of_type}
-use Rattle.p416_rules.specs.Calls.{Place, value}
-use Rattle.p416_rules.specs.Expressions.{kind_of}
-use Rattle.p416_rules.specs.Statements.{behind, assigned_place}
-use Rattle.v1_sem.specs.Values as values
-use Rattle.v1_sem.specs.Slots.{kinds_in}
-use Rattle.v1_frame_values.specs.Seats.{Form, slot_form, Seat}
+use Rattle.p416_syntax.specs.declared.node.CaseLabel.{CaseLabel}
+use Rattle.p416_syntax.specs.declared.node.CaseLabel.TheVariants as label
+use Rattle.p416_syntax.specs.Tree.{Exp16, Stmt16, no_statements, then, block, empty, var, var_is, assign, expression, if_then, if_else, switch, no_cases, case_of}
+use Rattle.p416_syntax.specs.Kinds.{Kind, boolean}
+use Rattle.p416_syntax.specs.Scopes.{Scope, kind_of_type}
+use Rattle.p416_syntax.specs.Calls.{Place, value}
+use Rattle.p416_syntax.specs.Expressions.{kind_of}
+use Rattle.p416_syntax.specs.Statements.{behind, assigned_place}
+use Rattle.v1_core.specs.Values as values
+use Rattle.v1_core.specs.Slots.{kinds_in}
+use Rattle.v1_core.specs.Seats.{Form, slot_form, Seat}
 use Rattle.v1_ready_forms.specs.Named.{NamedSeat}
 use Rattle.v1_ready_forms.specs.Spots.{spot}
 use Rattle.v1_ready_blocks.specs.declared.places.SlotPlace.{SlotPlace}

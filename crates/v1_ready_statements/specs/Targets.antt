@@ -1,9 +1,9 @@
 -- What statements write to: slots and slices of them, and the parts of headers, stacks and structs (P4_16 1.2, "L-values").
 use Rattle.std.specs.Prelude.{List, Option, Some, None, option_map, option_and_then}
-use Rattle.p416_ast.specs.Tree.{Exp16}
-use Rattle.p416_rules.specs.Scopes.{Layout, Scope}
-use Rattle.v1_sem.specs.Values as values
-use Rattle.v1_frame_values.specs.Seats.{Form, slot_form}
+use Rattle.p416_syntax.specs.Tree.{Exp16}
+use Rattle.p416_syntax.specs.Scopes.{Layout, Scope}
+use Rattle.v1_core.specs.Values as values
+use Rattle.v1_core.specs.Seats.{Form, slot_form}
 use Rattle.v1_ready_forms.specs.Named.{NamedSeat}
 use Rattle.v1_ready_forms.specs.Spots.{Told}
 use Rattle.v1_ready_blocks.specs.declared.places.Slice.{Slice}

@@ -4,24 +4,24 @@ use Rattle.std.specs.Prelude.{codes, Some, None, true}
 use Rattle.p4x_bits.specs.BitLists.{num, bits}
 use Rattle.match_core.specs.declared.entries.KeyMatch.TheVariants as key_match
 use Rattle.match_core.specs.declared.entries.Entry.{Entry}
-use Rattle.p416_ast.specs.declared.parts.Direction.TheVariants.{In, Out, InOut}
-use Rattle.p416_ast.specs.declared.parts.Type16.TheVariants.{Bool as BoolType}
-use Rattle.p416_ast.specs.declared.parts.Member.TheVariants as member_of
-use Rattle.p416_ast.specs.declared.parts.CounterType.TheVariants.{PacketsAndBytes}
-use Rattle.p416_ast.specs.declared.controls.ActionName.TheVariants as action_name
-use Rattle.p416_ast.specs.declared.controls.Instance.TheVariants as instance
-use Rattle.p416_ast.specs.declared.controls.Local.{Local}
-use Rattle.p416_ast.specs.declared.controls.Local.TheVariants as local
-use Rattle.p416_ast.specs.declared.controls.Property.TheVariants as property
-use Rattle.p416_ast.specs.declared.node.BinaryOperator.TheVariants.{Add, Equal, And}
-use Rattle.p416_ast.specs.declared.node.CaseLabel.TheVariants as label
-use Rattle.p416_ast.specs.declared.node.CastType.TheVariants as cast_to
-use Rattle.p416_ast.specs.declared.parts.MeterType.TheVariants as meter_type
-use Rattle.p416_ast.specs.Tree.{Exp16, truth, member, index, slice, cast, binary, choice, Stmt16, block, empty, var as var_statement, var_is, assign, if_then, if_else, switch, no_cases, case_of, listed}
-use Rattle.v1_sem.specs.Signatures.{signature16}
-use Rattle.v1_sem.specs.Blocks.{control16}
-use Rattle.v1_sem.specs.Surroundings.{Setting}
-use Rattle.v1_sem.specs.declared.block.Block.TheVariants.{Verify, Compute, Deparse}
+use Rattle.p416_syntax.specs.declared.parts.Direction.TheVariants.{In, Out, InOut}
+use Rattle.p416_syntax.specs.declared.parts.Type16.TheVariants.{Bool as BoolType}
+use Rattle.p416_syntax.specs.declared.parts.Member.TheVariants as member_of
+use Rattle.p416_syntax.specs.declared.parts.CounterType.TheVariants.{PacketsAndBytes}
+use Rattle.p416_syntax.specs.declared.controls.ActionName.TheVariants as action_name
+use Rattle.p416_syntax.specs.declared.controls.Instance.TheVariants as instance
+use Rattle.p416_syntax.specs.declared.controls.Local.{Local}
+use Rattle.p416_syntax.specs.declared.controls.Local.TheVariants as local
+use Rattle.p416_syntax.specs.declared.controls.Property.TheVariants as property
+use Rattle.p416_syntax.specs.declared.node.BinaryOperator.TheVariants.{Add, Equal, And}
+use Rattle.p416_syntax.specs.declared.node.CaseLabel.TheVariants as label
+use Rattle.p416_syntax.specs.declared.node.CastType.TheVariants as cast_to
+use Rattle.p416_syntax.specs.declared.parts.MeterType.TheVariants as meter_type
+use Rattle.p416_syntax.specs.Tree.{Exp16, truth, member, index, slice, cast, binary, choice, Stmt16, block, empty, var as var_statement, var_is, assign, if_then, if_else, switch, no_cases, case_of, listed}
+use Rattle.v1_core.specs.Signatures.{signature16}
+use Rattle.v1_core.specs.Blocks.{control16}
+use Rattle.v1_core.specs.Surroundings.{Setting}
+use Rattle.v1_core.specs.declared.block.Block.TheVariants.{Verify, Compute, Deparse}
 use Rattle.v1_sem_examples.specs.Parts.{n, number, named, bits_type, param, hdr, field, meta, action, table, key, an_action, algorithm, method, calls, given, does, statements, var}
 use Rattle.v1_sem_examples.specs.Samples.{small, doing, program, h_x, h_y, h_z}
 use Rattle.v1_sem_examples.specs.Packets.{plainly, filled}

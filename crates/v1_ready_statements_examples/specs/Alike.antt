@@ -7,17 +7,17 @@ use Rattle.match_core.specs.Best.{Filled}
 use Rattle.match_core.specs.Tables.{filled_of}
 use Rattle.match_core.specs.declared.signatures.TableSig.{TableSig}
 use Rattle.match_core.specs.declared.entries.TableFill.{TableFill}
-use Rattle.p416_ast.specs.declared.controls.Control16.{Control16}
-use Rattle.p416_ast.specs.declared.program.Syntax16.{Syntax16}
-use Rattle.v1_sem.specs.declared.block.Block.{Block as BlockName}
-use Rattle.v1_sem.specs.declared.block.Block.TheVariants.{Ingress}
-use Rattle.v1_sem.specs.Frames as meaning
-use Rattle.v1_sem.specs.Numbered.{nobody, frame_in}
-use Rattle.v1_sem.specs.Signatures.{signature16}
-use Rattle.v1_sem.specs.Surroundings.{Setting}
-use Rattle.v1_sem.specs.Blocks.{control_at, control16}
-use Rattle.v1_frames.specs.Cells.{Cells, new_cells, with_validity, with_slot}
-use Rattle.v1_frame_values.specs.Programs.{layout16, numbered16}
+use Rattle.p416_syntax.specs.declared.controls.Control16.{Control16}
+use Rattle.p416_syntax.specs.declared.program.Syntax16.{Syntax16}
+use Rattle.v1_core.specs.declared.block.Block.{Block as BlockName}
+use Rattle.v1_core.specs.declared.block.Block.TheVariants.{Ingress}
+use Rattle.v1_core.specs.Frames as meaning
+use Rattle.v1_core.specs.Numbered.{nobody, frame_in}
+use Rattle.v1_core.specs.Signatures.{signature16}
+use Rattle.v1_core.specs.Surroundings.{Setting}
+use Rattle.v1_core.specs.Blocks.{control_at, control16}
+use Rattle.v1_core.specs.Cells.{Cells, new_cells, with_validity, with_slot}
+use Rattle.v1_core.specs.Programs.{layout16, numbered16}
 use Rattle.v1_ready_blocks.specs.Moments.{Moment}
 use Rattle.v1_ready_blocks.specs.Tables.{Fill}
 use Rattle.v1_ready_blocks.specs.Blocks.{Block, ready_run}

@@ -1,6 +1,6 @@
 -- Which states and which parser those of code are, given the expressions and the statements that are kept.
 use Rattle.std.specs.Prelude.{List, map}
-use Rattle.v1_ready_expressions.specs.Ready.{Ready}
+use Rattle.v1_core.specs.Ready.{Ready}
 use Rattle.v1_ready_selects.specs.Selects.{transition_of}
 use Rattle.v1_ready_blocks.specs.Nodes.{Tree, statement_at}
 use Rattle.v1_ready_states.specs.declared.states.ReadyState.{ReadyState}

@@ -2,10 +2,10 @@
 -- "Packet parsing", "Parser states", "Transition statements"; that `reject` stops without an error, and the count of work, are
 -- this project's own). It ends with `accept` or `reject`, which are one here, or with an error.
 use Rattle.std.specs.Prelude.{ℕ, zero, suc, ◌+◌, ◌*◌, if◌then◌else◌, List, length, slice_get, Option, Some, None, unwrap_or}
-use Rattle.v1_sem.specs.declared.parser_error.ParserError.{ParserError}
-use Rattle.v1_sem.specs.declared.parser_error.ParserError.TheVariants.{NoError, PacketTooShort}
-use Rattle.v1_sem.specs.Frames.{error_number}
-use Rattle.v1_frames.specs.Cells.{with_slot}
+use Rattle.v1_core.specs.declared.parser_error.ParserError.{ParserError}
+use Rattle.v1_core.specs.declared.parser_error.ParserError.TheVariants.{NoError, PacketTooShort}
+use Rattle.v1_core.specs.Frames.{error_number}
+use Rattle.v1_core.specs.Cells.{with_slot}
 use Rattle.v1_ready_selects.specs.declared.rows.Next.{Next}
 use Rattle.v1_ready_selects.specs.declared.rows.Next.TheVariants as next
 use Rattle.v1_ready_selects.specs.declared.rows.Led.{Led}

@@ -1,8 +1,8 @@
 -- Keys and tables stay what they are while more is held.
 use Rattle.std.proofs.Common.{◌≡◌, ℕ, ◌<◌, ◌≤◌, List, length, ap, arith}
 use Rattle.std.specs.Prelude.{option_map}
-use Rattle.v1_ready_expressions.specs.Ready.{Ready}
-use Rattle.v1_ready_expressions.specs.Nodes.{ready_at}
+use Rattle.v1_core.specs.Ready.{Ready}
+use Rattle.v1_core.specs.Nodes.{ready_at}
 use Rattle.v1_ready_blocks.specs.Tables.{Table}
 use Rattle.v1_block_run.specs.declared.block.ReadyTable.{ReadyTable}
 use Rattle.v1_block_run.specs.Blocks.{seen_chosen}

@@ -5,21 +5,21 @@ use Rattle.std.specs.Prelude.{filter_map, unwrap_or, option_map, option_and_then
 use Rattle.std.specs.Option.{option_map_or}
 use Rattle.std.specs.Str.{bytes_eq}
 use Rattle.name_numbers.specs.Names.{find_name}
-use Rattle.p416_ast.specs.declared.controls.ActionName.{ActionName}
-use Rattle.p416_ast.specs.declared.controls.ActionName.TheVariants.{Declared, NoAction}
-use Rattle.p416_ast.specs.declared.controls.TableKey.{TableKey}
-use Rattle.p416_ast.specs.declared.controls.Table16.{Table16}
-use Rattle.p416_ast.specs.declared.program.Decl16.{Decl16}
-use Rattle.p416_ast.specs.Properties.{keys_of, actions_of, counters_of, default_action_of}
-use Rattle.p416_kinds.specs.Seen.{referred}
+use Rattle.p416_syntax.specs.declared.controls.ActionName.{ActionName}
+use Rattle.p416_syntax.specs.declared.controls.ActionName.TheVariants.{Declared, NoAction}
+use Rattle.p416_syntax.specs.declared.controls.TableKey.{TableKey}
+use Rattle.p416_syntax.specs.declared.controls.Table16.{Table16}
+use Rattle.p416_syntax.specs.declared.program.Decl16.{Decl16}
+use Rattle.p416_syntax.specs.Properties.{keys_of, actions_of, counters_of, default_action_of}
+use Rattle.p416_names.specs.SeenKinds.{referred}
 use Rattle.p416_names.proofs.Found.{bytes_either, first_named, first_step}
-use Rattle.p416_rules.specs.Names.{Name}
-use Rattle.p416_rules.specs.Scopes.{Scope}
-use Rattle.p416_rules.specs.Tables.{action_plane, table_plane}
-use Rattle.v1_sem.specs.Signatures.{Object, in_order, place_among, plane_among, action_with, direct_number, key_scope, listed_plane, object_names, or_at_top, own_object, planes_of, table_number, top_object}
-use Rattle.v1_sem.specs.Tables.{listed_name, name_of_number, own_default}
-use Rattle.v1_sem.specs.Tables as meaning
-use Rattle.v1_ready_expressions.specs.Ready.{Ready}
+use Rattle.p416_syntax.specs.Names.{Name}
+use Rattle.p416_syntax.specs.Scopes.{Scope}
+use Rattle.p416_syntax.specs.Tables.{action_plane, table_plane}
+use Rattle.v1_core.specs.Signatures.{Object, in_order, place_among, plane_among, action_with, direct_number, key_scope, listed_plane, object_names, or_at_top, own_object, planes_of, table_number, top_object}
+use Rattle.v1_core.specs.Tables.{listed_name, name_of_number, own_default}
+use Rattle.v1_core.specs.Tables as meaning
+use Rattle.v1_core.specs.Ready.{Ready}
 use Rattle.v1_ready_forms.specs.Named.{NamedSeat}
 use Rattle.v1_ready_blocks.specs.Tables.{Chosen}
 use Rattle.v1_ready_statements.specs.Given.{cons_option}

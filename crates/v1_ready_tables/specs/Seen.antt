@@ -1,7 +1,7 @@
 -- The ready tables that those of code are, over what is held, and that what they name is there.
 use Rattle.std.specs.Prelude.{ℕ, ◌<◌, List, length, map, option_map, All}
-use Rattle.v1_ready_expressions.specs.Ready.{Ready}
-use Rattle.v1_ready_expressions.specs.Nodes.{ready_at}
+use Rattle.v1_core.specs.Ready.{Ready}
+use Rattle.v1_core.specs.Nodes.{ready_at}
 use Rattle.v1_ready_blocks.specs.Tables.{Table}
 use Rattle.v1_block_run.specs.declared.block.ReadyTable.{ReadyTable}
 use Rattle.v1_block_run.specs.Blocks.{seen_chosen}

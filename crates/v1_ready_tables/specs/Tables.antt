@@ -2,18 +2,18 @@
 -- in order, the objects of its control, and the names of the actions of its control.
 use Rattle.std.specs.Prelude.{◌≡◌, ℕ, List, filter_map, Option, Some, None, option_map, option_and_then}
 use Rattle.name_numbers.specs.Names.{find_name}
-use Rattle.p416_ast.specs.declared.controls.TableKey.{TableKey}
-use Rattle.p416_ast.specs.declared.controls.Table16.{Table16}
-use Rattle.p416_ast.specs.Properties.{keys_of, actions_of, counters_of, default_action_of}
-use Rattle.p416_rules.specs.Names.{Name}
-use Rattle.p416_rules.specs.Scopes.{Scope}
-use Rattle.p416_rules.specs.Calls.{table_key}
-use Rattle.p416_rules.specs.Declarations.{is_exact}
-use Rattle.p416_rules.specs.Tables.{table_plane}
-use Rattle.v1_sem.specs.Signatures.{own_object, action_with, planes_of, place_among, table_names}
-use Rattle.v1_sem.specs.Tables.{listed_name, own_default}
-use Rattle.v1_sem.specs.Tables as meaning
-use Rattle.v1_ready_expressions.specs.Ready.{Ready}
+use Rattle.p416_syntax.specs.declared.controls.TableKey.{TableKey}
+use Rattle.p416_syntax.specs.declared.controls.Table16.{Table16}
+use Rattle.p416_syntax.specs.Properties.{keys_of, actions_of, counters_of, default_action_of}
+use Rattle.p416_syntax.specs.Names.{Name}
+use Rattle.p416_syntax.specs.Scopes.{Scope}
+use Rattle.p416_syntax.specs.Calls.{table_key}
+use Rattle.p416_syntax.specs.Declarations.{is_exact}
+use Rattle.p416_syntax.specs.Tables.{table_plane}
+use Rattle.v1_core.specs.Signatures.{own_object, action_with, planes_of, place_among, table_names}
+use Rattle.v1_core.specs.Tables.{listed_name, own_default}
+use Rattle.v1_core.specs.Tables as meaning
+use Rattle.v1_core.specs.Ready.{Ready}
 use Rattle.v1_ready_forms.specs.Named.{NamedSeat}
 use Rattle.v1_ready_forms.specs.Expressions.{ready_of_exp}
 use Rattle.v1_ready_blocks.specs.Tables.{Chosen, Table}

@@ -1,9 +1,9 @@
 // The actions of a table by their numbers in the control (P4_16 1.2, "Tables").
 ghost use Rattle.std.specs.Prelude.{◌≡◌, map, option_map, option_and_then, IfOk};
-ghost use Rattle.p416_ast.specs.Properties.{default_action_of};
+ghost use Rattle.p416_syntax.specs.Properties.{default_action_of};
 ghost use Rattle.p416_scopes.specs.Seen.{seen_scope};
-ghost use Rattle.v1_sem.specs.Signatures.{planes_of};
-ghost use Rattle.v1_sem.specs.Tables.{own_default};
+ghost use Rattle.v1_core.specs.Signatures.{planes_of};
+ghost use Rattle.v1_core.specs.Tables.{own_default};
 ghost use Rattle.v1_ready_statements.specs.Blocks.{all_of};
 ghost use Rattle.v1_block_run.specs.Blocks.{seen_chosen};
 ghost use Rattle.v1_ready_tables.specs.Tables.{number_listed, default_by};
@@ -13,9 +13,9 @@ use crate::defaults::ready_default;
 use crate::listed::{ListedAction, listed_actions, name_with, planes};
 use name_numbers::{Numbering, number_names};
 use p4x_bits::{OutOfMemory, Rows};
-use p416_ast::Table16;
 use p416_scopes::Scope;
 use p416_signature::in_order;
+use p416_syntax::Table16;
 use std::alloc::Global;
 use v1_block_run::Chosen;
 

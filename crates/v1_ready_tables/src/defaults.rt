@@ -1,12 +1,12 @@
 // The default action of a table (P4_16 1.2, "Tables", `default_action`).
 ghost use Rattle.std.specs.Prelude.{◌≡◌, [], Some, map, option_map, option_and_then, IfOk};
 ghost use Rattle.std.specs.Option.{option_map_or};
-ghost use Rattle.p416_ast.specs.Properties.{default_action_of, default_arguments_of};
-ghost use Rattle.p416_rules.specs.Totals.{size_value};
-ghost use Rattle.p416_rules.specs.Uses.{arguments_of};
+ghost use Rattle.p416_syntax.specs.Properties.{default_action_of, default_arguments_of};
+ghost use Rattle.p416_syntax.specs.Totals.{size_value};
+ghost use Rattle.p416_syntax.specs.Uses.{arguments_of};
 ghost use Rattle.p416_scopes.specs.Seen.{seen_scope};
-ghost use Rattle.v1_sem.specs.Signatures.{planes_of};
-ghost use Rattle.v1_sem.specs.Tables.{own_default};
+ghost use Rattle.v1_core.specs.Signatures.{planes_of};
+ghost use Rattle.v1_core.specs.Tables.{own_default};
 ghost use Rattle.v1_block_run.specs.Blocks.{seen_chosen};
 ghost use Rattle.v1_ready_tables.specs.Tables.{chosen_by, default_by};
 ghost use Rattle.v1_ready_tables.specs.internal.Listed.{own_chosen};
@@ -14,12 +14,12 @@ ghost use Rattle.v1_ready_tables.specs.internal.Listed.{own_chosen};
 use crate::listed::plane_of;
 use name_numbers::Numbering;
 use p4x_bits::{Numbers, OutOfMemory, Text};
-use p416_ast::{ActionName, ExpHead, ExpView, Table16};
 use p416_scopes::Scope;
 use p416_signature::number_of;
+use p416_syntax::{ActionName, ExpHead, ExpView, Table16};
 use std::alloc::Global;
 use v1_block_run::Chosen;
-use v1_ready_arguments::arguments_in;
+use v1_ready_tests::arguments_in;
 
 /// The value of a literal; 0 of what isn't one.
 fn literal_value(argument: &ExpView<'_>) -> u128

@@ -1,17 +1,17 @@
 // The keys of a table (P4_16 1.2, "Tables").
 ghost use Rattle.std.specs.Prelude.{◌≡◌, ◌<◌, length, option_map, IfOk, IfSome, OnOk};
-ghost use Rattle.p416_rules.specs.Declarations.{layouts_of};
+ghost use Rattle.p416_syntax.specs.Declarations.{layouts_of};
 ghost use Rattle.p416_scopes.specs.Seen.{seen_scope};
 ghost use Rattle.v1_ready_program.specs.Seen.{seen_seats};
-ghost use Rattle.v1_ready_expressions.specs.Nodes.{ready_at};
+ghost use Rattle.v1_core.specs.Nodes.{ready_at};
 ghost use Rattle.v1_ready_nodes.specs.Held.{ready_in, IsHeld, Grows};
 ghost use Rattle.v1_ready_statements.specs.Blocks.{all_of};
 ghost use Rattle.v1_ready_tables.specs.Seen.{seen_keys, AreKeysIn};
 ghost use Rattle.v1_ready_tables.specs.Tables.{key_within};
 
 use p4x_bits::{OutOfMemory, Rows};
-use p416_ast::TableKey;
 use p416_calls::Place;
+use p416_syntax::TableKey;
 use std::alloc::Global;
 use v1_ready_nodes::ReadyNodes;
 use v1_ready_program::Around;

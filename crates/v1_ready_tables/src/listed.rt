@@ -2,19 +2,19 @@
 ghost use Rattle.std.specs.Prelude.{◌≡◌, [], List, map, filter_map, option_map, option_and_then, slice_get, IfOk};
 ghost use Rattle.std.specs.Option.{option_map_or};
 ghost use Rattle.name_numbers.specs.Names.{find_name};
-ghost use Rattle.p416_ast.specs.declared.controls.ActionName.TheVariants as action_name;
-ghost use Rattle.p416_rules.specs.Scopes.{Known};
-ghost use Rattle.p416_rules.specs.Tables.{sort_plane, action_plane};
+ghost use Rattle.p416_syntax.specs.declared.controls.ActionName.TheVariants as action_name;
+ghost use Rattle.p416_syntax.specs.Scopes.{Known};
+ghost use Rattle.p416_syntax.specs.Tables.{sort_plane, action_plane};
 ghost use Rattle.p416_names.specs.Seen.{seen_sort};
 ghost use Rattle.p416_scopes.specs.Seen.{seen_scope};
 ghost use Rattle.v1_ready_tables.specs.internal.Listed.{seen_listed, listed_in, row_plane, row_name, name_among};
 
 use name_numbers::Numbering;
 use p4x_bits::OutOfMemory;
-use p416_ast::ActionName;
 use p416_names::Sort;
 use p416_scopes::Scope;
 use p416_signature::plane_name;
+use p416_syntax::ActionName;
 use std::alloc::Global;
 
 /// An action that a table lists, by its name and by its control-plane name.

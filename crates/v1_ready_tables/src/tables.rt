@@ -1,9 +1,9 @@
 // Tables made ready (P4_16 1.2, "Tables").
 ghost use Rattle.std.specs.Prelude.{◌≡◌, All, option_map, IfOk, IfSome, OnOk};
-ghost use Rattle.p416_rules.specs.Declarations.{layouts_of};
-ghost use Rattle.p416_rules.specs.Tables.{table_plane};
+ghost use Rattle.p416_syntax.specs.Declarations.{layouts_of};
+ghost use Rattle.p416_syntax.specs.Tables.{table_plane};
 ghost use Rattle.p416_scopes.specs.Seen.{seen_scope};
-ghost use Rattle.v1_sem.specs.Signatures.{key_scope, place_among};
+ghost use Rattle.v1_core.specs.Signatures.{key_scope, place_among};
 ghost use Rattle.v1_ready_program.specs.Seen.{seen_seats};
 ghost use Rattle.v1_block_run.specs.Blocks.{seen_chosen};
 ghost use Rattle.v1_ready_nodes.specs.Held.{Held, IsHeld, Grows};
@@ -16,9 +16,9 @@ use crate::keys::ready_keys;
 use crate::names::TableNames;
 use name_numbers::Numbering;
 use p4x_bits::{OutOfMemory, Rows};
-use p416_ast::Table16;
 use p416_scopes::Scope;
 use p416_signature::{number_of, plane_name};
+use p416_syntax::Table16;
 use std::alloc::Global;
 use v1_block_run::ReadyTable;
 use v1_ready_nodes::ReadyNodes;

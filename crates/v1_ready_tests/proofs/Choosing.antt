@@ -1,7 +1,7 @@
 -- An expression is a test where a table is applied in one of its parts, and else a ready expression.
 use Rattle.std.proofs.Common.{◌≡◌, Bool, true, false, Option, None, refl, sym, ap}
 use Rattle.std.specs.Prelude.{◌||◌, if◌then◌else◌, option_map}
-use Rattle.v1_ready_expressions.specs.Ready.{Ready}
+use Rattle.v1_core.specs.Ready.{Ready}
 use Rattle.v1_ready_blocks.specs.Tests.{Test, plain}
 use Rattle.v1_ready_program.specs.internal.Passes.{Plan, made}
 use Rattle.v1_ready_statements.specs.Tested.{by_application}

@@ -3,3 +3,5 @@ pub mod Keeping
 mod Choosing
 mod Building
 mod Turning
+mod Arguing
+pub mod Giving

@@ -2,10 +2,10 @@
 use Rattle.std.proofs.Common.{◌≡◌, ℕ, suc, ◌+◌, ◌<◌, Bool, List, [], ◌∷◌, ◌++◌, length, map, drop, get_or, refl, sym, ap, ◌∙◌, arith, append_assoc}
 use Rattle.std.proofs.Math.Seq.{drop-cons}
 use Rattle.std.proofs.lemmas.List.{map-append}
-use Rattle.p416_ast.specs.Tree.{Exp16}
-use Rattle.p416_rules.specs.Scopes.{Known, Scope}
-use Rattle.p416_rules.specs.Expressions.{kind_of}
-use Rattle.p416_kinds.specs.Seen.{seen_kind}
+use Rattle.p416_syntax.specs.Tree.{Exp16}
+use Rattle.p416_syntax.specs.Scopes.{Known, Scope}
+use Rattle.p416_syntax.specs.Expressions.{kind_of}
+use Rattle.p416_names.specs.SeenKinds.{seen_kind}
 use Rattle.p416_typing.specs.declared.row.Row.{Row}
 use Rattle.p416_typing.specs.Rows.{RowOf, row_of}
 use Rattle.p416_typing.specs.Seen.{seen_row}

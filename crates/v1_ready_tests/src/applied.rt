@@ -1,14 +1,14 @@
 // The table that an expression applies (P4_16 1.2, "Match-action unit invocation").
 ghost use Rattle.std.specs.Prelude.{◌≡◌, List};
 ghost use Rattle.name_numbers.specs.Names.{find_name};
-ghost use Rattle.v1_sem.specs.Expressions.{name_in};
-ghost use Rattle.v1_ready_expressions.specs.Ready.{Ready};
+ghost use Rattle.v1_core.specs.Expressions.{name_in};
+ghost use Rattle.v1_core.specs.Ready.{Ready};
 ghost use Rattle.v1_ready_blocks.specs.Nodes.{Tree, test_of};
 ghost use Rattle.v1_ready_nodes.specs.Held.{IsTestOver};
 ghost use Rattle.v1_ready_tests.specs.internal.Passes.{callee_table, applied_table, told_by};
 
 use name_numbers::Numbering;
-use p416_ast::{ExpHead, ExpView};
+use p416_syntax::{ExpHead, ExpView};
 use v1_ready_blocks::TestNode;
 
 const NO_NAME: &[u8] = b"";

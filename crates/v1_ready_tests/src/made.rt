@@ -1,13 +1,13 @@
 // What is made of the parts of an expression.
 ghost use Rattle.std.specs.Prelude.{◌≡◌, ℕ, List};
-ghost use Rattle.p416_ast.specs.Heads.{of_exp_head};
-ghost use Rattle.v1_ready_expressions.specs.Ready.{Ready};
+ghost use Rattle.p416_syntax.specs.Heads.{of_exp_head};
+ghost use Rattle.v1_core.specs.Ready.{Ready};
 ghost use Rattle.v1_ready_blocks.specs.Nodes.{Tree};
 ghost use Rattle.v1_ready_program.specs.internal.Coded.{seen_value, seen_parts, IsValueIn, ArePartsIn};
 ghost use Rattle.v1_ready_tests.specs.internal.Coded.{made_over, all_over, parts_over, IsMadeAmong, AreMadeAmong, ArePartsAmong};
 ghost use Rattle.v1_ready_tests.specs.internal.Passes.{as_ready, has_table, is_table, front_made, rest_made, no_made_parts, only_made, pair_made, three_made, parts_made, behind_made, ready_parts, has_tables};
 
-use p416_ast::ExpHead;
+use p416_syntax::ExpHead;
 use v1_ready_program::build::Parts;
 use work_stack::Stack;
 

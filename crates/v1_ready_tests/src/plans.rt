@@ -1,12 +1,12 @@
 // How an expression in which tables may be applied is made, from the outside in.
 ghost use Rattle.std.specs.Prelude.{◌≡◌, [], ◌∷◌, ◌++◌, length, map, IfOk, OnOk};
-ghost use Rattle.p416_ast.specs.Heads.{of_exp_head};
-ghost use Rattle.p416_rules.specs.Declarations.{top_names, layouts_of};
+ghost use Rattle.p416_syntax.specs.Heads.{of_exp_head};
+ghost use Rattle.p416_syntax.specs.Declarations.{top_names, layouts_of};
 ghost use Rattle.p416_calls.specs.Seen.{seen_place};
 ghost use Rattle.p416_scopes.specs.Seen.{seen_scope};
 ghost use Rattle.p416_typing.specs.Rows.{row_of};
 ghost use Rattle.p416_typing.specs.Seen.{seen_row};
-ghost use Rattle.p416_kinds.specs.Seen.{seen_kind};
+ghost use Rattle.p416_names.specs.SeenKinds.{seen_kind};
 ghost use Rattle.v1_ready_forms.specs.Ways.{its_value};
 ghost use Rattle.v1_ready_program.specs.Seen.{seen_seats};
 ghost use Rattle.v1_ready_program.specs.internal.Coded.{AreWays, seen_ways, seen_ask, seen_asks, IsAskIn, AreAsksIn};
@@ -15,9 +15,9 @@ ghost use Rattle.v1_ready_tests.specs.internal.Coded.{seen_marked};
 ghost use Rattle.v1_ready_tests.specs.internal.Passes.{is_value_asked, applied_call, marked, marked_plans};
 
 use p4x_bits::OutOfMemory;
-use p416_ast::{ExpHead, ExpView};
 use p416_calls::Place;
-use p416_kinds::Kind;
+use p416_names::Kind;
+use p416_syntax::{ExpHead, ExpView};
 use p416_typing::Row;
 use std::alloc::Global;
 use v1_ready_program::asks::{Ask, push_parts, step_on, take_ask, way_in};

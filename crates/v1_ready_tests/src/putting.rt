@@ -1,6 +1,6 @@
 // Tests are put over those of their parts.
 ghost use Rattle.std.specs.Prelude.{◌≡◌, ◌<◌, List, length, option_map, IfOk, OnOk};
-ghost use Rattle.v1_ready_expressions.specs.Ready.{Ready};
+ghost use Rattle.v1_core.specs.Ready.{Ready};
 ghost use Rattle.v1_ready_blocks.specs.Nodes.{Tree, test_at, test_of};
 ghost use Rattle.v1_ready_blocks.specs.Tests.{alone, choice};
 ghost use Rattle.v1_ready_program.specs.internal.Coded.{seen_plan};
@@ -11,7 +11,7 @@ ghost use Rattle.v1_ready_tests.specs.internal.Passes.{as_test, test_by_plan};
 
 use crate::made::{Made, MadeParts};
 use p4x_bits::OutOfMemory;
-use p416_ast::BinaryOperator;
+use p416_syntax::BinaryOperator;
 use v1_ready_blocks::{Node, Single, TestNode};
 use v1_ready_nodes::ReadyNodes;
 use v1_ready_program::plans::Plan;

@@ -1,8 +1,8 @@
 // An expression in which tables may be applied is built from the inside out.
 ghost use Rattle.std.specs.Prelude.{◌≡◌, ◌<◌, [], ◌∷◌, length, map, option_map, IfOk, IfSome, OnOk};
 ghost use Rattle.name_numbers.specs.Names.{find_name};
-ghost use Rattle.p416_ast.specs.Heads.{of_exp_head};
-ghost use Rattle.p416_rules.specs.Declarations.{layouts_of};
+ghost use Rattle.p416_syntax.specs.Heads.{of_exp_head};
+ghost use Rattle.p416_syntax.specs.Declarations.{layouts_of};
 ghost use Rattle.p416_calls.specs.Seen.{seen_place};
 ghost use Rattle.p416_scopes.specs.Seen.{seen_scope};
 ghost use Rattle.v1_ready_forms.specs.Ways.{its_value};
@@ -20,8 +20,8 @@ use crate::plans::{Marked, marked_plans};
 use crate::putting::{as_test, put_by_plan, put_test};
 use name_numbers::Numbering;
 use p4x_bits::OutOfMemory;
-use p416_ast::{ExpHead, ExpView};
 use p416_calls::Place;
+use p416_syntax::{ExpHead, ExpView};
 use p416_typing::{Typed, typed_expression};
 use std::alloc::Global;
 use v1_ready_nodes::ReadyNodes;

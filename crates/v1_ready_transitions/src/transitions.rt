@@ -1,11 +1,11 @@
 // Transitions are made ready (P4_16 1.2, "Transition statements", "Select expressions").
 ghost use Rattle.std.specs.Prelude.{◌≡◌, length, map, option_map, IfOk, IfSome, OnOk};
-ghost use Rattle.p416_rules.specs.Declarations.{layouts_of};
-ghost use Rattle.p416_rules.specs.Expressions.{kind_of};
-ghost use Rattle.p416_kinds.specs.Seen.{seen_kind};
+ghost use Rattle.p416_syntax.specs.Declarations.{layouts_of};
+ghost use Rattle.p416_syntax.specs.Expressions.{kind_of};
+ghost use Rattle.p416_names.specs.SeenKinds.{seen_kind};
 ghost use Rattle.p416_scopes.specs.Seen.{seen_scope};
-ghost use Rattle.v1_ready_expressions.specs.Nodes.{ready_at};
-ghost use Rattle.v1_ready_expressions.specs.Kept.{trees};
+ghost use Rattle.v1_core.specs.Nodes.{ready_at};
+ghost use Rattle.v1_core.specs.Kept.{trees};
 ghost use Rattle.v1_ready_program.specs.Seen.{seen_seats, Keeps};
 ghost use Rattle.v1_ready_selects.specs.Selects.{ArePlaces, FitsTransition, transition_of};
 ghost use Rattle.v1_ready_selects.specs.Rows.{rows_of_cases};
@@ -13,12 +13,12 @@ ghost use Rattle.v1_ready_selects.specs.Transitions.{keys_ready, transition_read
 
 use name_numbers::Numbering;
 use p4x_bits::{OutOfMemory, Rows};
-use p416_ast::{Exp, SelectCase, Transition};
 use p416_calls::Place;
-use p416_kinds::Kind;
+use p416_names::Kind;
 use p416_scopes::Scope;
+use p416_syntax::{Exp, SelectCase, Transition};
 use std::alloc::Global;
-use v1_ready_expressions::Expressions;
+use v1_core::Expressions;
 use v1_ready_places::kind_of;
 use v1_ready_program::{Around, ready_expression};
 use v1_ready_selects::{ReadyTransition, next_for, rows_of_cases};

@@ -1,17 +1,17 @@
 -- What the calls of a parser name is what it declares: nothing.
 use Rattle.std.proofs.Common.{◌≡◌, List, [], map, sym, subst, ap, ◌∙◌}
 use Rattle.std.specs.Prelude.{filter_map, codes}
-use Rattle.p416_ast.specs.declared.controls.Local.{Local}
-use Rattle.p416_ast.specs.declared.program.Syntax16.{Syntax16}
-use Rattle.p416_rules.specs.Declarations.{layouts_of, table_in}
+use Rattle.p416_syntax.specs.declared.controls.Local.{Local}
+use Rattle.p416_syntax.specs.declared.program.Syntax16.{Syntax16}
+use Rattle.p416_syntax.specs.Declarations.{layouts_of, table_in}
 use Rattle.p416_signature.specs.internal.Gathered.{objects_seen, AreObjects}
-use Rattle.v1_sem.specs.Signatures.{own_object}
-use Rattle.v1_frame_values.specs.Programs.{frame_kinds, first_start}
+use Rattle.v1_core.specs.Signatures.{own_object}
+use Rattle.v1_core.specs.Programs.{frame_kinds, first_start}
 use Rattle.v1_seats.specs.Seen.{seen_seat}
 use Rattle.v1_seats.specs.Frame.{seats_from}
-use Rattle.v1_ready_calls.specs.declared.callees.OwnAction.{OwnAction}
-use Rattle.v1_ready_calls.specs.declared.callees.Callees.{Callees}
-use Rattle.v1_ready_calls.specs.Callees.{seen_action, action_name, table_name, AreCallees}
+use Rattle.v1_ready_operands.specs.declared.callees.OwnAction.{OwnAction}
+use Rattle.v1_ready_operands.specs.declared.callees.Callees.{Callees}
+use Rattle.v1_ready_operands.specs.Callees.{seen_action, action_name, table_name, AreCallees}
 use Rattle.v1_ready_controls.specs.Program.{slot_in_standard}
 
 pub callees_are : (syntax : Syntax16) (k : Callees) → k.syntax.now ≡ syntax → k.locals.now ≡ [] → k.actions.now ≡ [] → k.action_names.now ≡ [] → k.tables.now ≡ [] → objects_seen k.own_objects.now ≡ [] → AreObjects syntax k.objects.now → map seen_seat k.seats.now ≡ seats_from (layouts_of syntax.decls) (frame_kinds syntax) first_start

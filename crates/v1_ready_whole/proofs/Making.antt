@@ -2,25 +2,25 @@
 use Rattle.std.proofs.Common.{◌≡◌, ℕ, ◌<◌, List, [], length, get_or, Some, sym, subst, ap, ◌∙◌, arith}
 use Rattle.state_store.specs.declared.shapes.Shape.{Shape}
 use Rattle.node_lists.proofs.Growth as growth
-use Rattle.p416_ast.specs.declared.parsers.Parser16.{Parser16}
-use Rattle.p416_ast.specs.declared.program.Syntax16.{Syntax16}
-use Rattle.v1_sem.specs.declared.block.Block.{Block}
-use Rattle.v1_sem.specs.declared.block.Block.TheVariants.{Verify, Ingress, Egress, Compute, Deparse}
-use Rattle.v1_sem.specs.Parsing.{parser_of}
-use Rattle.v1_frames.specs.Layouts.{Layout}
-use Rattle.v1_ready_expressions.specs.Nodes.{ready_of}
-use Rattle.v1_ready_expressions.specs.Kept as expressions
+use Rattle.p416_syntax.specs.declared.parsers.Parser16.{Parser16}
+use Rattle.p416_syntax.specs.declared.program.Syntax16.{Syntax16}
+use Rattle.v1_core.specs.declared.block.Block.{Block}
+use Rattle.v1_core.specs.declared.block.Block.TheVariants.{Verify, Ingress, Egress, Compute, Deparse}
+use Rattle.v1_core.specs.Parsing.{parser_of}
+use Rattle.v1_core.specs.Layouts.{Layout}
+use Rattle.v1_core.specs.Nodes.{ready_of}
+use Rattle.v1_core.specs.Kept as expressions
 use Rattle.v1_ready_selects.specs.Selects.{FitsTransition}
 use Rattle.v1_ready_blocks.specs.Nodes.{Ground, IsRange}
 use Rattle.v1_ready_blocks.specs.Kept as statements
-use Rattle.v1_ready_steps.specs.Steps.{expressions_in, trees_of, ground_of}
+use Rattle.v1_statement_run.specs.Steps.{expressions_in, trees_of, ground_of}
 use Rattle.v1_ready_states.specs.declared.states.ReadyParser.{ReadyParser}
 use Rattle.v1_parse_run.specs.Made.{Made, HoldsErrors, FitsParser}
 use Rattle.v1_block_run.specs.declared.block.ReadyBlock.{ReadyBlock}
 use Rattle.v1_block_run.specs.Blocks.{IsRunnable}
 use Rattle.v1_ready_nodes.specs.Held.{Held, ready_in, trees_in, IsHeld, Grows}
 use Rattle.v1_ready_parser.specs.Places.{seen_parser, IsStateIn, IsParserIn}
-use Rattle.v1_ready_controls.specs.Seen.{code_of}
+use Rattle.v1_ready_locals.specs.Seen.{code_of}
 use Rattle.v1_ready_whole.specs.declared.program.ReadyBlocks.{ReadyBlocks}
 use Rattle.v1_ready_whole.specs.Parsers.{ready_parser}
 use Rattle.v1_ready_whole.specs.Ready.{IsReadyControl, IsReadyParser, AreReadyBlocks, block_in}

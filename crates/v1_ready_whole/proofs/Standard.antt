@@ -2,18 +2,18 @@
 use Rattle.std.proofs.Common.{◌≡◌, ℕ, ◌^◌, ◌<◌, ◌≤◌, List, [], ◌∷◌, map, Option, Some, None, slice_get, refl, sym, subst, ap, ◌∙◌, arith}
 use Rattle.std.proofs.Math.Pow.{pow_mono}
 use Rattle.std.specs.Prelude.{slice_index}
-use Rattle.p416_ast.specs.declared.program.Syntax16.{Syntax16}
-use Rattle.p416_rules.specs.Names.{Name}
-use Rattle.p416_rules.specs.Scopes.{Layout}
-use Rattle.p416_rules.specs.Declarations.{layouts_of}
-use Rattle.v1_sem.specs.declared.parser_error.ParserError.{ParserError}
-use Rattle.v1_sem.specs.declared.parser_error.ParserError.TheVariants.{NoError, PacketTooShort, StackOutOfBounds, NoMatch}
-use Rattle.v1_sem.specs.Frames.{error_number}
-use Rattle.v1_sem.specs.Values.{to_member}
-use Rattle.v1_frames.specs.Layouts.{Layout as FrameLayout}
-use Rattle.v1_frame_values.specs.Seats as seats
-use Rattle.v1_frame_values.specs.Seats.{seat_at, seat_behind, stepped_seat}
-use Rattle.v1_frame_values.specs.Programs.{frame_kinds, first_start}
+use Rattle.p416_syntax.specs.declared.program.Syntax16.{Syntax16}
+use Rattle.p416_syntax.specs.Names.{Name}
+use Rattle.p416_syntax.specs.Scopes.{Layout}
+use Rattle.p416_syntax.specs.Declarations.{layouts_of}
+use Rattle.v1_core.specs.declared.parser_error.ParserError.{ParserError}
+use Rattle.v1_core.specs.declared.parser_error.ParserError.TheVariants.{NoError, PacketTooShort, StackOutOfBounds, NoMatch}
+use Rattle.v1_core.specs.Frames.{error_number}
+use Rattle.v1_core.specs.Values.{to_member}
+use Rattle.v1_core.specs.Layouts.{Layout as FrameLayout}
+use Rattle.v1_core.specs.Seats as seats
+use Rattle.v1_core.specs.Seats.{seat_at, seat_behind, stepped_seat}
+use Rattle.v1_core.specs.Programs.{frame_kinds, first_start}
 use Rattle.v1_seats.specs.declared.seat.Seat.{Seat}
 use Rattle.v1_seats.specs.Seen.{seen_seat}
 use Rattle.v1_seats.specs.Frame.{seats_from}

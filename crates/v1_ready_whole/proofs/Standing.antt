@@ -3,20 +3,20 @@ use Rattle.std.proofs.Common.{◌≡◌, ℕ, suc, ◌+◌, ◌<◌, List, [], �
 use Rattle.std.proofs.lemmas.List.{append_assoc, map-append}
 use Rattle.std.specs.Borrow.{Bor}
 use Rattle.std.specs.Prelude.{codes}
-use Rattle.p416_ast.specs.declared.parsers.Var.{Var}
-use Rattle.p416_ast.specs.declared.parsers.State.{State as Written}
-use Rattle.p416_ast.specs.declared.parsers.Parser16.{Parser16}
-use Rattle.p416_ast.specs.declared.program.Decl16.{Decl16}
-use Rattle.p416_ast.specs.declared.program.Syntax16.{Syntax16}
-use Rattle.p416_rules.specs.Names.{Name}
-use Rattle.p416_rules.specs.Kinds.{Kind}
-use Rattle.p416_rules.specs.Scopes.{Layout as TypeLayout, Scope}
-use Rattle.p416_rules.specs.Declarations.{layouts_of, parser_scope, top_scope}
-use Rattle.p416_rules.specs.Main.{positions_from}
+use Rattle.p416_syntax.specs.declared.parsers.Var.{Var}
+use Rattle.p416_syntax.specs.declared.parsers.State.{State as Written}
+use Rattle.p416_syntax.specs.declared.parsers.Parser16.{Parser16}
+use Rattle.p416_syntax.specs.declared.program.Decl16.{Decl16}
+use Rattle.p416_syntax.specs.declared.program.Syntax16.{Syntax16}
+use Rattle.p416_syntax.specs.Names.{Name}
+use Rattle.p416_syntax.specs.Kinds.{Kind}
+use Rattle.p416_syntax.specs.Scopes.{Layout as TypeLayout, Scope}
+use Rattle.p416_syntax.specs.Declarations.{layouts_of, parser_scope, top_scope}
+use Rattle.p416_syntax.specs.Main.{positions_from}
 use Rattle.p416_scopes.specs.Seen.{seen_scope}
-use Rattle.v1_sem.specs.Numbered as numbered
-use Rattle.v1_frame_values.specs.Seats as seats
-use Rattle.v1_frame_values.specs.Programs.{frame_kinds, first_start}
+use Rattle.v1_core.specs.Numbered as numbered
+use Rattle.v1_core.specs.Seats as seats
+use Rattle.v1_core.specs.Programs.{frame_kinds, first_start}
 use Rattle.v1_place_laws.specs.Places.{range_of}
 use Rattle.v1_block_laws.specs.Variables.{scope_in_parser, parser_from, states_from, parser_seats, parser_roots, vars_from, own_names}
 use Rattle.v1_parser_laws.specs.Ranges.{headers_seat}
@@ -37,8 +37,8 @@ use Rattle.v1_ready_bodies.proofs.Fronts.{next_items}
 use Rattle.v1_ready_parser.specs.Parsers.{with_states, parser_ready}
 use Rattle.v1_ready_controls.specs.declared.program.ProgramParts.{ProgramParts}
 use Rattle.v1_ready_controls.specs.Program.{IsProgram, slot_in_standard}
-use Rattle.v1_ready_controls.specs.Owned.{Owned, seen_own, owned_by, owned}
-use Rattle.v1_ready_controls.proofs.Starting.{variables_are}
+use Rattle.v1_ready_locals.specs.Owned.{Owned, seen_own, owned_by, owned}
+use Rattle.v1_ready_locals.proofs.Starting.{variables_are}
 use Rattle.v1_ready_whole.specs.declared.parser.Standing16.{Standing16}
 use Rattle.v1_ready_whole.specs.Parsers.{around_parser, vars_of, vars_of_list, with_error_slot, ready_parser, parser_variables_ready, parser_states_ready}
 use Rattle.v1_ready_whole.specs.internal.Counted.{counted}

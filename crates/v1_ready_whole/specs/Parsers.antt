@@ -1,12 +1,12 @@
 -- Which ready parser the parser of a program is (P4_16 1.2, "Packet parsing"; `v1model.p4`): it begins with its variables, which all
 -- start at 0, and then with their initial values in order.
 use Rattle.std.specs.Prelude.{ℕ, List, [], map, Option, Some, None, codes}
-use Rattle.p416_ast.specs.declared.parsers.Var.{Var}
-use Rattle.p416_ast.specs.declared.parsers.Parser16.{Parser16}
-use Rattle.p416_ast.specs.declared.controls.Local.{Local}
-use Rattle.p416_ast.specs.declared.controls.Local.TheVariants as local
-use Rattle.p416_ast.specs.declared.program.Syntax16.{Syntax16}
-use Rattle.p416_rules.specs.Declarations.{layouts_of}
+use Rattle.p416_syntax.specs.declared.parsers.Var.{Var}
+use Rattle.p416_syntax.specs.declared.parsers.Parser16.{Parser16}
+use Rattle.p416_syntax.specs.declared.controls.Local.{Local}
+use Rattle.p416_syntax.specs.declared.controls.Local.TheVariants as local
+use Rattle.p416_syntax.specs.declared.program.Syntax16.{Syntax16}
+use Rattle.p416_syntax.specs.Declarations.{layouts_of}
 use Rattle.v1_place_laws.specs.Places.{range_of}
 use Rattle.v1_block_laws.specs.Variables.{scope_in_parser, parser_from, states_from, parser_seats}
 use Rattle.v1_parser_laws.specs.Ranges.{headers_seat}

@@ -2,22 +2,22 @@
 -- and of objects of these shapes, and can be run.
 use Rattle.std.specs.Prelude.{◌≡◌, List, Some}
 use Rattle.state_store.specs.declared.shapes.Shape.{Shape}
-use Rattle.p416_ast.specs.declared.parsers.Parser16.{Parser16}
-use Rattle.p416_ast.specs.declared.controls.Control16.{Control16}
-use Rattle.p416_ast.specs.declared.program.Syntax16.{Syntax16}
-use Rattle.v1_sem.specs.declared.block.Block.{Block}
-use Rattle.v1_sem.specs.declared.block.Block.TheVariants.{Verify, Ingress, Egress, Compute, Deparse}
-use Rattle.v1_sem.specs.Blocks.{control_at}
-use Rattle.v1_sem.specs.Parsing.{parser_of}
-use Rattle.v1_frames.specs.Layouts.{Layout}
-use Rattle.v1_ready_steps.specs.Steps.{expressions_in, ground_of, trees_of}
+use Rattle.p416_syntax.specs.declared.parsers.Parser16.{Parser16}
+use Rattle.p416_syntax.specs.declared.controls.Control16.{Control16}
+use Rattle.p416_syntax.specs.declared.program.Syntax16.{Syntax16}
+use Rattle.v1_core.specs.declared.block.Block.{Block}
+use Rattle.v1_core.specs.declared.block.Block.TheVariants.{Verify, Ingress, Egress, Compute, Deparse}
+use Rattle.v1_core.specs.Blocks.{control_at}
+use Rattle.v1_core.specs.Parsing.{parser_of}
+use Rattle.v1_core.specs.Layouts.{Layout}
+use Rattle.v1_statement_run.specs.Steps.{expressions_in, ground_of, trees_of}
 use Rattle.v1_ready_states.specs.declared.states.ReadyParser.{ReadyParser}
 use Rattle.v1_ready_states.specs.Rows.{parser_of as parser_by}
 use Rattle.v1_parse_run.specs.Made.{FitsParser, Made}
 use Rattle.v1_block_run.specs.declared.block.ReadyBlock.{ReadyBlock}
 use Rattle.v1_block_run.specs.Blocks.{IsRunnable, seen_block}
 use Rattle.v1_ready_statements.specs.Blocks.{ready_control}
-use Rattle.v1_ready_controls.specs.Seen.{IsReadyOver}
+use Rattle.v1_ready_locals.specs.Seen.{IsReadyOver}
 use Rattle.v1_ready_whole.specs.Parsers.{ready_parser}
 use Rattle.v1_ready_whole.specs.declared.program.ReadyBlocks.{ReadyBlocks}
 

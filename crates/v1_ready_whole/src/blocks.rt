@@ -1,18 +1,17 @@
 // The blocks of a program by their places in `main` (`v1model.p4`, `V1Switch`).
 ghost use Rattle.std.specs.Prelude.{◌≡◌, [], option_copied, slice_index_or, IfOk};
-ghost use Rattle.v1_sem.specs.Blocks.{control_at, control_called, position_of};
-ghost use Rattle.v1_sem.specs.Parsing.{parser_called, parser_of};
+ghost use Rattle.v1_core.specs.Blocks.{control_at, control_called, position_of};
+ghost use Rattle.v1_core.specs.Parsing.{parser_called, parser_of};
 ghost use Rattle.v1_ready_controls.specs.Program.{IsProgram};
 ghost use Rattle.v1_ready_whole.specs.Ready.{IsReadyControl};
 
 use p4x_bits::{OutOfMemory, Text};
-use p416_ast::{Control16, Decl16, Parser16, Syntax16};
+use p416_syntax::{Control16, Decl16, Parser16, Syntax16};
 use state_store::Shape;
 use std::alloc::Global;
 use v1_block_run::ReadyBlock;
-use v1_frames::FrameLayout;
+use v1_core::{Block, FrameLayout};
 use v1_ready_controls::{ProgramParts, ready_control};
-use v1_sem::Block;
 
 /// The control of this name that is declared first.
 fn control_called<'a>(decls: &'a [Decl16], name: &[u8]) -> Option<&'a Control16>

@@ -1,18 +1,18 @@
 // What the calls of a parser name (P4_16 1.2, "Parsers").
 ghost use Rattle.std.specs.Prelude.{◌≡◌, [], map, codes};
-ghost use Rattle.p416_rules.specs.Declarations.{layouts_of};
+ghost use Rattle.p416_syntax.specs.Declarations.{layouts_of};
 ghost use Rattle.p416_signature.specs.internal.Gathered.{objects_seen, AreObjects};
-ghost use Rattle.v1_frame_values.specs.Programs.{frame_kinds, first_start};
+ghost use Rattle.v1_core.specs.Programs.{frame_kinds, first_start};
 ghost use Rattle.v1_seats.specs.Seen.{seen_seat};
 ghost use Rattle.v1_seats.specs.Frame.{seats_from};
-ghost use Rattle.v1_ready_calls.specs.Callees.{around_of, AreCallees};
+ghost use Rattle.v1_ready_operands.specs.Callees.{around_of, AreCallees};
 ghost use Rattle.v1_ready_controls.specs.Program.{slot_in_standard};
 ghost use Rattle.v1_ready_whole.specs.Parsers.{around_parser};
 
 use name_numbers::Numbering;
-use p416_ast::Syntax16;
 use p416_signature::{ByName, Objects};
-use v1_ready_calls::Callees;
+use p416_syntax::Syntax16;
+use v1_ready_operands::Callees;
 use v1_seats::Seat;
 
 /// What the calls of a parser name, which declares neither actions nor tables nor objects, in the program with these objects, seats and

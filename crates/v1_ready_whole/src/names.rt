@@ -1,16 +1,16 @@
 // The names of a program: the places of its blocks, its objects and its tables (P4_16 1.2, "Control-plane API annotations").
 ghost use Rattle.std.specs.Prelude.{◌≡◌, ◌++◌, map, filter_map, flat_map, IfOk, OnOk};
-ghost use Rattle.p416_rules.specs.Declarations.{table_in};
-ghost use Rattle.p416_rules.specs.Tables.{table_plane, tables_of};
-ghost use Rattle.v1_sem.specs.Signatures.{table_names};
+ghost use Rattle.p416_syntax.specs.Declarations.{table_in};
+ghost use Rattle.p416_syntax.specs.Tables.{table_plane, tables_of};
+ghost use Rattle.v1_core.specs.Signatures.{table_names};
 ghost use Rattle.p416_signature.specs.internal.Gathered.{AreObjects};
 ghost use Rattle.v1_ready_whole.specs.internal.Named.{AreProgramNames};
 
 use name_numbers::{Numbering, number_names};
 use p4x_bits::OutOfMemory;
-use p416_ast::{Decl16, Local, Syntax16};
 use p416_main_check::MainPlaces;
 use p416_signature::{Objects, all_objects, in_order, object_names, plane_name};
+use p416_syntax::{Decl16, Local, Syntax16};
 use std::alloc::Global;
 
 /// Puts the names of the tables among what a control declares behind the others.
@@ -68,7 +68,6 @@ fn objects_of(alloc: Global, syntax: &Syntax16) -> Result<Objects<'_>, OutOfMemo
 }
 
 /// The names of a program.
-#[derive(Drop)]
 pub(crate) struct ProgramNames<'a> {
     /// The places of its blocks in `main`.
     pub(crate) places: MainPlaces<'a>,
@@ -76,6 +75,16 @@ pub(crate) struct ProgramNames<'a> {
     pub(crate) objects: Objects<'a>,
     /// The control-plane names of all its tables, in the order of their octets.
     pub(crate) tables: Numbering<'a>,
+}
+
+impl Drop for ProgramNames<'_> {
+    fn drop(self) {
+        let ProgramNames {
+            places: _places,
+            objects: _objects,
+            tables: _tables,
+        } = self;
+    }
 }
 
 /// The names of a program. The one error is want of memory.

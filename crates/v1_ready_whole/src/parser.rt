@@ -1,15 +1,15 @@
 // The parser of a program made ready (P4_16 1.2, "Packet parsing").
 ghost use Rattle.std.specs.Prelude.{◌≡◌, ◌+◌, true, map, option_map, codes, Some, IfOk, IfSome, OnOk};
-ghost use Rattle.p416_rules.specs.Declarations.{layouts_of};
+ghost use Rattle.p416_syntax.specs.Declarations.{layouts_of};
 ghost use Rattle.v1_place_laws.specs.Places.{range_of};
 ghost use Rattle.v1_parser_laws.specs.Ranges.{headers_seat};
 ghost use Rattle.v1_ready_selects.specs.Matching.{state_names};
 ghost use Rattle.v1_block_run.specs.Blocks.{IsRunnable};
 ghost use Rattle.v1_ready_nodes.specs.Held.{IsHeld, Grows};
 ghost use Rattle.v1_ready_parser.specs.Places.{seen_parser, IsParserIn};
-ghost use Rattle.v1_ready_controls.specs.Owned.{seen_own};
+ghost use Rattle.v1_ready_locals.specs.Owned.{seen_own};
 ghost use Rattle.v1_ready_controls.specs.Program.{IsProgram, slot_in_standard};
-ghost use Rattle.v1_ready_controls.specs.Seen.{code_of};
+ghost use Rattle.v1_ready_locals.specs.Seen.{code_of};
 ghost use Rattle.v1_ready_whole.specs.Parsers.{ready_parser};
 ghost use Rattle.v1_ready_whole.specs.Ready.{IsReadyParser};
 ghost use Rattle.v1_ready_whole.specs.internal.Counted.{counted};
@@ -20,14 +20,14 @@ use crate::callees::callees_of;
 use crate::slots::{holds_errors, seat_at, standard_slot};
 use name_numbers::{Numbering, number_names};
 use p4x_bits::{OutOfMemory, Rows};
-use p416_ast::{Parser16, State, Var};
 use p416_scopes::Scope;
 use p416_signature::ByName;
+use p416_syntax::{Parser16, State, Var};
 use state_store::Shape;
 use std::alloc::Global;
 use v1_block_run::ReadyBlock;
 use v1_block_seats::{parser_from, parser_seats, parser_variables};
-use v1_frames::FrameLayout;
+use v1_core::FrameLayout;
 use v1_ready_blocks::{Range, is_range};
 use v1_ready_bodies::{OwnVariable, Standing};
 use v1_ready_controls::{InBlock, ProgramParts};
@@ -36,7 +36,7 @@ use v1_ready_parser::ready_parser;
 use v1_ready_places::range_of;
 use v1_ready_program::NamedSeats;
 use v1_ready_states::ReadyParser;
-use v1_ready_steps::Code;
+use v1_statement_run::Code;
 
 const PARSER_ERROR: &[u8] = b"parser_error";
 

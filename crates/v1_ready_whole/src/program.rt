@@ -1,8 +1,8 @@
 // The blocks of a program (`v1model.p4`, `V1Switch`).
 ghost use Rattle.std.specs.Prelude.{◌≡◌, map, IfOk};
-ghost use Rattle.p416_rules.specs.Declarations.{layouts_of};
-ghost use Rattle.v1_sem.specs.declared.block.Block.TheVariants.{Verify, Ingress, Egress, Compute, Deparse};
-ghost use Rattle.v1_frame_values.specs.Programs.{frame_kinds, first_start};
+ghost use Rattle.p416_syntax.specs.Declarations.{layouts_of};
+ghost use Rattle.v1_core.specs.declared.block.Block.TheVariants.{Verify, Ingress, Egress, Compute, Deparse};
+ghost use Rattle.v1_core.specs.Programs.{frame_kinds, first_start};
 ghost use Rattle.v1_seats.specs.Seen.{seen_seat};
 ghost use Rattle.v1_seats.specs.Frame.{seats_from};
 ghost use Rattle.v1_ready_controls.specs.Program.{IsProgram};
@@ -14,18 +14,17 @@ use crate::names::{ProgramNames, program_names};
 use crate::parser::parser_in;
 use crate::slots::standard_slot;
 use p4x_bits::OutOfMemory;
-use p416_ast::Syntax16;
 use p416_main_check::main_kinds;
 use p416_names::Top;
+use p416_syntax::Syntax16;
 use state_store::Shape;
 use std::alloc::Global;
 use v1_block_run::ReadyBlock;
-use v1_frames::FrameLayout;
+use v1_core::{Block, FrameLayout};
 use v1_layout::frame_kinds;
 use v1_ready_controls::ProgramParts;
 use v1_ready_states::ReadyParser;
 use v1_seats::{Seat, TypeTable, seats_of};
-use v1_sem::Block;
 
 const CHECKSUM_ERROR: &[u8] = b"checksum_error";
 

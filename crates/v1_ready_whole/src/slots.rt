@@ -1,17 +1,17 @@
 // Slots of single fields (`v1model.p4`, `standard_metadata_t`).
 ghost use Rattle.std.specs.Prelude.{◌≡◌, true, map, option_map, slice_get, IfOk};
-ghost use Rattle.p416_rules.specs.Declarations.{layouts_of};
-ghost use Rattle.v1_frame_values.specs.Programs.{frame_kinds, first_start};
+ghost use Rattle.p416_syntax.specs.Declarations.{layouts_of};
+ghost use Rattle.v1_core.specs.Programs.{frame_kinds, first_start};
 ghost use Rattle.v1_seats.specs.Seen.{seen_seat};
 ghost use Rattle.v1_seats.specs.Frame.{seats_from};
 ghost use Rattle.v1_parse_run.specs.Made.{HoldsErrors};
 ghost use Rattle.v1_ready_controls.specs.Program.{slot_in_standard};
 
 use p4x_bits::OutOfMemory;
-use p416_ast::Syntax16;
-use v1_frames::FrameLayout;
+use p416_syntax::Syntax16;
+use v1_core::FrameLayout;
 use v1_ready_blocks::is_slot;
-use v1_ready_controls::slot_of;
+use v1_ready_locals::slot_of;
 use v1_seats::{Seat, TypeTable};
 
 /// The seat at a place.

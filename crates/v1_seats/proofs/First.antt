@@ -5,9 +5,9 @@ use Rattle.std.specs.Str.{bytes_eq}
 use Rattle.std.proofs.lemmas.List.Quantifiers.{position-Some}
 use Rattle.name_numbers.specs.Names.{find_name}
 use Rattle.p416_names.proofs.Found.{bytes_either, first_named, first_step}
-use Rattle.p416_rules.specs.Names.{Name}
-use Rattle.p416_rules.specs.Scopes.{FieldKind}
-use Rattle.v1_frame_values.specs.Seats.{Start, Seat}
+use Rattle.p416_syntax.specs.Names.{Name}
+use Rattle.p416_syntax.specs.Scopes.{FieldKind}
+use Rattle.v1_core.specs.Seats.{Start, Seat}
 use Rattle.v1_seats.specs.internal.Rows.{called_of_field}
 
 module _ (mk : FieldKind → Start → Seat) (next : FieldKind → Start → Start) (word : Name) where

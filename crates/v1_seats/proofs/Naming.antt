@@ -7,19 +7,19 @@ use Rattle.std.proofs.lemmas.List.Quantifiers.{position-Some}
 use Rattle.std.proofs.lemmas.Option.{slice_get-map}
 use Rattle.std.proofs.lemmas.Slice.Eq.{bytes_eq-Decides}
 use Rattle.name_numbers.specs.Names.{find_name}
-use Rattle.p416_ast.specs.declared.parts.BitField.{BitField}
-use Rattle.p416_ast.specs.declared.parts.StructField.{StructField}
-use Rattle.p416_rules.specs.Names.{Name}
-use Rattle.p416_rules.specs.Scopes.{Known, FieldKind, fields_in, Layout}
-use Rattle.p416_rules.specs.Declarations.{bit_field, struct_field, field_name, member_name}
-use Rattle.p416_kinds.specs.Seen.{seen_kind}
+use Rattle.p416_syntax.specs.declared.parts.BitField.{BitField}
+use Rattle.p416_syntax.specs.declared.parts.StructField.{StructField}
+use Rattle.p416_syntax.specs.Names.{Name}
+use Rattle.p416_syntax.specs.Scopes.{Known, FieldKind, fields_in, Layout}
+use Rattle.p416_syntax.specs.Declarations.{bit_field, struct_field, field_name, member_name}
+use Rattle.p416_names.specs.SeenKinds.{seen_kind}
 use Rattle.v1_seats.specs.declared.rows.Row.{Row}
 use Rattle.v1_seats.specs.declared.rows.Place.{Place}
 use Rattle.v1_seats.specs.declared.laying.Laid.{Laid}
-use Rattle.p416_rules.specs.Kinds.{Kind}
-use Rattle.p416_kinds.specs.declared.kind.Kind.{Kind as CodeKind}
+use Rattle.p416_syntax.specs.Kinds.{Kind}
+use Rattle.p416_names.specs.declared.kind.Kind.{Kind as CodeKind}
 use Rattle.v1_layout.specs.Left.{kind_of_field}
-use Rattle.v1_frame_values.specs.Seats.{Form, form_of}
+use Rattle.v1_core.specs.Seats.{Form, form_of}
 use Rattle.v1_seats.specs.Extents.{form_of_field, forms_in}
 use Rattle.v1_seats.specs.internal.Rows.{called_of_field, IsRow, AreRows, IsRowAt, name_at, Written, IsPlace, IsLaid, IsLaidOf, AreStructs, form_of_kind}
 

@@ -1,9 +1,9 @@
 -- How far values reach.
 use Rattle.std.proofs.Common.{◌≡◌, ℕ, zero, suc, ◌+◌, ◌*◌, ◌≤◌, List, [], ◌∷◌, ◌++◌, length, map, refl, sym, ap, ◌∙◌, arith}
 use Rattle.std.proofs.lemmas.List.{map-append}
-use Rattle.p416_rules.specs.Names.{Name}
-use Rattle.p416_rules.specs.Scopes.{Layout, FieldKind, fields_in}
-use Rattle.v1_frame_values.specs.Seats.{Content, Form, slot_form, header_form, stack_form, struct_form, no_form, form_of, Start, moved, behind, behind_members, Seat, behind_seat}
+use Rattle.p416_syntax.specs.Names.{Name}
+use Rattle.p416_syntax.specs.Scopes.{Layout, FieldKind, fields_in}
+use Rattle.v1_core.specs.Seats.{Content, Form, slot_form, header_form, stack_form, struct_form, no_form, form_of, Start, moved, behind, behind_members, Seat, behind_seat}
 use Rattle.v1_seats.specs.Extents.{no_size, one_slot, further, form_of_field, forms_in, behind_forms, starts_from, Reaches, AreLaid}
 
 -- sums of starts

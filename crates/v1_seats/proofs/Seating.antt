@@ -1,9 +1,9 @@
 -- The values of a frame stand one after another.
 use Rattle.std.proofs.Common.{◌≡◌, ℕ, zero, suc, List, [], ◌∷◌, ◌++◌, length, refl, ap, ◌∙◌, append_assoc, slice_get}
-use Rattle.p416_rules.specs.Kinds.{Kind}
-use Rattle.p416_rules.specs.Scopes.{Layout}
-use Rattle.v1_frame_values.specs.Seats.{form_of, Start, behind, Seat, seat}
-use Rattle.v1_frame_values.specs.Programs.{seat_in}
+use Rattle.p416_syntax.specs.Kinds.{Kind}
+use Rattle.p416_syntax.specs.Scopes.{Layout}
+use Rattle.v1_core.specs.Seats.{form_of, Start, behind, Seat, seat}
+use Rattle.v1_core.specs.Programs.{seat_in}
 use Rattle.v1_seats.specs.Frame.{seats_from}
 
 -- the next value of many

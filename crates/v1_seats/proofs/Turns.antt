@@ -2,10 +2,10 @@
 use Rattle.std.proofs.Common.{◌≡◌, ℕ, ◌+◌, ◌<◌, ◌≤◌, List, [], ◌∷◌, ◌++◌, length, map, take, get_or, sym, subst, ap, ◌∙◌}
 use Rattle.std.specs.Borrow.{Bor}
 use Rattle.std.proofs.lemmas.List.{take_more, map-append}
-use Rattle.p416_rules.specs.Names.{Name}
-use Rattle.p416_rules.specs.Scopes.{Layout, fields_in}
-use Rattle.p416_kinds.specs.declared.kind.Kind.{Kind as CodeKind}
-use Rattle.v1_frame_values.specs.Seats.{Start as SeatStart}
+use Rattle.p416_syntax.specs.Names.{Name}
+use Rattle.p416_syntax.specs.Scopes.{Layout, fields_in}
+use Rattle.p416_names.specs.declared.kind.Kind.{Kind as CodeKind}
+use Rattle.v1_core.specs.Seats.{Start as SeatStart}
 use Rattle.v1_seats.specs.declared.rows.Row.{Row}
 use Rattle.v1_seats.specs.declared.start.Start.{Start}
 use Rattle.v1_seats.specs.Seen.{seen_start}

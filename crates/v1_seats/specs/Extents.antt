@@ -1,9 +1,9 @@
 -- How far values reach: how many slots, headers and stacks a value has, wherever it begins and through however many structs
 -- within each other it is looked into, if these are enough (this project's own).
 use Rattle.std.specs.Prelude.{◌≡◌, ℕ, ◌≤◌, List, [], ◌∷◌, map}
-use Rattle.p416_rules.specs.Names.{Name}
-use Rattle.p416_rules.specs.Scopes.{Layout, FieldKind, fields_in}
-use Rattle.v1_frame_values.specs.Seats.{Form, form_of, Start, moved, behind}
+use Rattle.p416_syntax.specs.Names.{Name}
+use Rattle.p416_syntax.specs.Scopes.{Layout, FieldKind, fields_in}
+use Rattle.v1_core.specs.Seats.{Form, form_of, Start, moved, behind}
 
 abbrev pub no_size : Start
 no_size = record { slot = 0; header = 0; stack = 0 }

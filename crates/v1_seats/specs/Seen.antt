@@ -1,7 +1,7 @@
 -- Which seat of a frame a seat of code is.
-use Rattle.p416_kinds.specs.Seen.{seen_kind}
-use Rattle.v1_frame_values.specs.Seats as seats
-use Rattle.v1_frame_values.specs.Seats.{form_of}
+use Rattle.p416_names.specs.SeenKinds.{seen_kind}
+use Rattle.v1_core.specs.Seats as seats
+use Rattle.v1_core.specs.Seats.{form_of}
 use Rattle.v1_seats.specs.declared.start.Start.{Start}
 use Rattle.v1_seats.specs.declared.seat.Seat.{Seat}
 

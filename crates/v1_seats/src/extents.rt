@@ -1,8 +1,8 @@
 // How far values reach.
 ghost use Rattle.std.specs.Prelude.{◌≡◌, ◌≤◌, length, slice_get, Some, IfSome, IfOk};
-ghost use Rattle.p416_rules.specs.Scopes.{fields_in};
-ghost use Rattle.p416_kinds.specs.Seen.{seen_kind};
-ghost use Rattle.v1_frame_values.specs.Seats.{header_form, stack_form, struct_form};
+ghost use Rattle.p416_syntax.specs.Scopes.{fields_in};
+ghost use Rattle.p416_names.specs.SeenKinds.{seen_kind};
+ghost use Rattle.v1_core.specs.Seats.{header_form, stack_form, struct_form};
 ghost use Rattle.v1_seats.specs.Seen.{seen_start};
 ghost use Rattle.v1_seats.specs.Extents.{no_size, one_slot, further, forms_in, Reaches};
 ghost use Rattle.v1_seats.specs.internal.Rows.{HasExtent, AreStructs, IsLaid};
@@ -12,7 +12,7 @@ use crate::rows::Rows;
 use crate::start::{Start, further, product, small};
 use name_numbers::narrow;
 use p4x_bits::OutOfMemory;
-use p416_kinds::Kind;
+use p416_names::Kind;
 
 /// How far a value reaches that is looked into through at least so many structs within each other.
 #[derive(Clone, Copy, Drop)]

@@ -1,7 +1,7 @@
 // Seats of the values of a frame.
 ghost use Rattle.std.specs.Prelude.{◌≡◌, map, IfOk};
-ghost use Rattle.p416_kinds.specs.Seen.{seen_kind};
-ghost use Rattle.v1_frame_values.specs.Programs.{first_start};
+ghost use Rattle.p416_names.specs.SeenKinds.{seen_kind};
+ghost use Rattle.v1_core.specs.Programs.{first_start};
 ghost use Rattle.v1_seats.specs.Seen.{seen_seat};
 ghost use Rattle.v1_seats.specs.Frame.{seats_from};
 
@@ -9,7 +9,7 @@ use crate::seat::Seat;
 use crate::start::Start;
 use crate::types::TypeTable;
 use p4x_bits::OutOfMemory;
-use p416_kinds::Kind;
+use p416_names::Kind;
 use std::alloc::Global;
 
 /// The seats of values of these kinds, one after another, as `v1_layout` lays them out. Errors as those of `TypeTable::behind`.

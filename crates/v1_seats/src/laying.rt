@@ -8,7 +8,7 @@ use crate::rows::Rows;
 use crate::start::Start;
 use digraph::{Components, Digraph};
 use p4x_bits::OutOfMemory;
-use p416_kinds::Kind;
+use p416_names::Kind;
 use std::alloc::Global;
 
 /// Where each member of a struct begins, counted from the beginning of the struct, and how far all together reach.

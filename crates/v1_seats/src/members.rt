@@ -1,11 +1,11 @@
 // Fields, members and elements (P4_16 1.2, "Operations on headers", "Operations on struct types", "Operations on header
 // stacks").
 ghost use Rattle.std.specs.Prelude.{◌≡◌, length, map, slice_get, Some, IfOk, option_map};
-ghost use Rattle.p416_rules.specs.Scopes.{fields_in};
-ghost use Rattle.p416_rules.specs.Totals.{bits_in};
-ghost use Rattle.p416_kinds.specs.Seen.{seen_kind};
-ghost use Rattle.v1_sem.specs.Values.{to_member};
-ghost use Rattle.v1_frame_values.specs.Seats.{some_bits, slot_form, struct_form, form_of, moved, field_seat, element_seat, stepped_seat};
+ghost use Rattle.p416_syntax.specs.Scopes.{fields_in};
+ghost use Rattle.p416_syntax.specs.Totals.{bits_in};
+ghost use Rattle.p416_names.specs.SeenKinds.{seen_kind};
+ghost use Rattle.v1_core.specs.Values.{to_member};
+ghost use Rattle.v1_core.specs.Seats.{some_bits, slot_form, struct_form, form_of, moved, field_seat, element_seat, stepped_seat};
 ghost use Rattle.v1_seats.specs.Seen.{seen_start, seen_seat};
 ghost use Rattle.v1_seats.specs.internal.Rows.{AreStructs};
 
@@ -15,7 +15,7 @@ use crate::rows::Rows;
 use crate::seat::Seat;
 use crate::start::{Start, further, product, small, sum};
 use p4x_bits::OutOfMemory;
-use p416_kinds::Kind;
+use p416_names::Kind;
 
 /// A field of a header is bits, whatever it is declared as.
 fn as_bits<'a>(kind: Kind<'_>) -> Kind<'a>

@@ -1,16 +1,15 @@
 // The fields of the types of a program, each found by its name (P4_16 1.2, "Derived types").
 ghost use Rattle.std.specs.Prelude.{◌≡◌, List, length, map, slice_get, IfOk, IfSome, Some};
 ghost use Rattle.name_numbers.specs.Names.{find_name};
-ghost use Rattle.p416_rules.specs.Scopes.{FieldKind, fields_in};
-ghost use Rattle.p416_rules.specs.BuiltIn.{standard_layout};
-ghost use Rattle.p416_rules.specs.Declarations.{layouts_of, field_name, member_name};
+ghost use Rattle.p416_syntax.specs.Scopes.{FieldKind, fields_in};
+ghost use Rattle.p416_syntax.specs.BuiltIn.{standard_layout};
+ghost use Rattle.p416_syntax.specs.Declarations.{layouts_of, field_name, member_name};
 ghost use Rattle.v1_seats.specs.internal.Rows.{called_of_field, IsRow, AreRows, IsRowAt, Finds};
 
 use name_numbers::{Numbering, number_names};
 use p4x_bits::OutOfMemory;
-use p416_ast::{BitField, StructField};
-use p416_kinds::Kind;
-use p416_names::{Fields, Top, decl_name};
+use p416_names::{Fields, Kind, Top, decl_name};
+use p416_syntax::{BitField, StructField};
 use std::alloc::Global;
 use std::marker::Model;
 use v1_layout::{depth_of, field_kinds};
@@ -18,10 +17,18 @@ use v1_layout::{depth_of, field_kinds};
 const STANDARD_METADATA: &[u8] = b"standard_metadata_t";
 
 /// The fields of a type: their names, and what they are.
-#[derive(Drop)]
 pub(crate) struct Row<'a> {
     pub(crate) names: Numbering<'a>,
     pub(crate) kinds: Vec<Kind<'a>>,
+}
+
+impl Drop for Row<'_> {
+    fn drop(self) {
+        let Row {
+            names: _names,
+            kinds: _kinds,
+        } = self;
+    }
 }
 
 /// A field by its place among those of its type, and what it is.
@@ -51,15 +58,24 @@ impl<'a> Row<'a> {
 }
 
 /// The types of a program with their fields. Contracts see the types, and the names by which these are found.
-#[derive(Drop)]
 pub(crate) struct Rows<'t, 'a> {
     top: &'t Top<'a>,
     numbers: Numbering<'a>,
     rows: Vec<Row<'a>>,
 }
 
+impl Drop for Rows<'_, '_> {
+    fn drop(self) {
+        let Rows {
+            top: _top,
+            numbers: _numbers,
+            rows: _rows,
+        } = self;
+    }
+}
+
 impl<'t, 'a> Model for Rows<'t, 'a> {
-    ghost use Rattle.p416_rules.specs.Declarations.{layouts_of};
+    ghost use Rattle.p416_syntax.specs.Declarations.{layouts_of};
     ghost use Rattle.v1_seats.specs.internal.Rows.{Written, AreRows};
 
     ghost Value = { Written };

@@ -6,7 +6,7 @@ ghost use Rattle.v1_seats.specs.Extents.{further};
 use p4x_bits::OutOfMemory;
 
 /// Where a value begins: its first slot, its first header and its first stack; or how many of these it has.
-#[derive(Clone, Copy, Debug, PartialEq, Eq, Drop)]
+#[derive(Clone, Copy, PartialEq, Eq, Drop)]
 pub struct Start {
     /// The slot.
     pub slot: u32,

@@ -1,9 +1,9 @@
 // Seats of parts.
 ghost use Rattle.std.specs.Prelude.{◌≡◌, length, IfOk, option_map};
-ghost use Rattle.p416_rules.specs.Scopes.{fields_in};
-ghost use Rattle.p416_rules.specs.Declarations.{layouts_of};
-ghost use Rattle.v1_sem.specs.Values.{to_member, to_element};
-ghost use Rattle.v1_frame_values.specs.Seats.{behind_seat, stepped_seat};
+ghost use Rattle.p416_syntax.specs.Scopes.{fields_in};
+ghost use Rattle.p416_syntax.specs.Declarations.{layouts_of};
+ghost use Rattle.v1_core.specs.Values.{to_member, to_element};
+ghost use Rattle.v1_core.specs.Seats.{behind_seat, stepped_seat};
 ghost use Rattle.v1_seats.specs.Seen.{seen_start, seen_seat};
 
 use crate::extents::{extent_of, field_count};
@@ -13,21 +13,28 @@ use crate::rows::Rows;
 use crate::seat::Seat;
 use crate::start::{Start, further};
 use p4x_bits::OutOfMemory;
-use p416_kinds::Kind;
-use p416_names::Top;
+use p416_names::{Kind, Top};
 use std::alloc::Global;
 use std::marker::Model;
 
 /// The types of a program, with where each field and each member stands. Contracts see the types with their fields.
-#[derive(Drop)]
 pub struct TypeTable<'t, 'a> {
     rows: Rows<'t, 'a>,
     laid: Vec<Option<Laid>>,
 }
 
+impl Drop for TypeTable<'_, '_> {
+    fn drop(self) {
+        let TypeTable {
+            rows: _rows,
+            laid: _laid,
+        } = self;
+    }
+}
+
 impl<'t, 'a> Model for TypeTable<'t, 'a> {
     ghost use Rattle.std.specs.Prelude.{List};
-    ghost use Rattle.p416_rules.specs.Scopes.{Layout};
+    ghost use Rattle.p416_syntax.specs.Scopes.{Layout};
     ghost use Rattle.v1_seats.specs.internal.Rows.{AreStructs};
 
     ghost Value = { List Layout };

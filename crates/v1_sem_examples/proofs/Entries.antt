@@ -11,23 +11,23 @@ use Rattle.match_core.specs.declared.entries.TableFill.{TableFill}
 use Rattle.match_core.specs.declared.entries.DefaultCall.{DefaultCall}
 use Rattle.fabric.specs.declared.items.Event.{Event}
 use Rattle.fabric.specs.Queue.{run}
-use Rattle.p416_ast.specs.declared.parts.Member.TheVariants as member_of
-use Rattle.p416_ast.specs.declared.parts.CounterType.TheVariants.{Packets, Bytes}
-use Rattle.p416_ast.specs.declared.controls.ActionName.TheVariants as action_name
-use Rattle.p416_ast.specs.declared.controls.Instance.TheVariants as instance
-use Rattle.p416_ast.specs.declared.controls.Local.{Local}
-use Rattle.p416_ast.specs.declared.controls.Local.TheVariants as local
-use Rattle.p416_ast.specs.declared.controls.Property.{Property}
-use Rattle.p416_ast.specs.declared.controls.Property.TheVariants as property
-use Rattle.p416_ast.specs.declared.controls.TableKey.{TableKey}
-use Rattle.p416_ast.specs.declared.node.CaseLabel.TheVariants as label
-use Rattle.p416_ast.specs.declared.program.Syntax16.{Syntax16}
-use Rattle.p416_ast.specs.Tree.{Exp16, Stmt16, assign, switch, no_cases, case_of}
-use Rattle.v1_sem.specs.Signatures.{signature16}
-use Rattle.v1_sem.specs.Blocks.{control16}
-use Rattle.v1_sem.specs.Parsing.{parse16}
-use Rattle.v1_sem.specs.Passes.{ingress16, reparse16, egress16}
-use Rattle.v1_sem.specs.Runs.{Run16}
+use Rattle.p416_syntax.specs.declared.parts.Member.TheVariants as member_of
+use Rattle.p416_syntax.specs.declared.parts.CounterType.TheVariants.{Packets, Bytes}
+use Rattle.p416_syntax.specs.declared.controls.ActionName.TheVariants as action_name
+use Rattle.p416_syntax.specs.declared.controls.Instance.TheVariants as instance
+use Rattle.p416_syntax.specs.declared.controls.Local.{Local}
+use Rattle.p416_syntax.specs.declared.controls.Local.TheVariants as local
+use Rattle.p416_syntax.specs.declared.controls.Property.{Property}
+use Rattle.p416_syntax.specs.declared.controls.Property.TheVariants as property
+use Rattle.p416_syntax.specs.declared.controls.TableKey.{TableKey}
+use Rattle.p416_syntax.specs.declared.node.CaseLabel.TheVariants as label
+use Rattle.p416_syntax.specs.declared.program.Syntax16.{Syntax16}
+use Rattle.p416_syntax.specs.Tree.{Exp16, Stmt16, assign, switch, no_cases, case_of}
+use Rattle.v1_core.specs.Signatures.{signature16}
+use Rattle.v1_core.specs.Blocks.{control16}
+use Rattle.v1_core.specs.Parsing.{parse16}
+use Rattle.v1_core.specs.Passes.{ingress16, reparse16, egress16}
+use Rattle.v1_core.specs.Runs.{Run16}
 use Rattle.v1_sem_examples.specs.Parts.{n, bits_type, param, field, action, table, key, an_action, method, calls, given, does, statements, var as variable}
 use Rattle.v1_sem_examples.specs.Samples.{doing, program, h_x, h_y, h_z, packet}
 use Rattle.v1_sem_examples.specs.Packets.{Outcome, plainly, filled, outcome, sends, cells, ingress_events, egress_events}

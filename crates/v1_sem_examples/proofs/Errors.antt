@@ -6,18 +6,18 @@ use Rattle.std.proofs.Common.{◌≡◌, ℕ, List, [], ◌∷◌, ◌++◌, ref
 use Rattle.std.specs.Prelude.{codes, true, false, Some}
 use Rattle.p4x_bits.specs.BitLists.{num, bits}
 use Rattle.fabric.specs.Queue.{run}
-use Rattle.p416_ast.specs.declared.parsers.Var.{Var}
-use Rattle.p416_ast.specs.declared.parsers.Target.TheVariants as target
-use Rattle.p416_ast.specs.declared.parsers.Transition.{Transition}
-use Rattle.p416_ast.specs.declared.parsers.Transition.TheVariants as transition
-use Rattle.p416_ast.specs.declared.node.BinaryOperator.TheVariants.{Add, Equal, And}
-use Rattle.p416_ast.specs.Tree.{Exp16, truth, name, member, lookahead, no_arguments, binary, choice, Stmt16, assign, block, if_then, if_else, var_is}
-use Rattle.p416_ast.specs.Tree as tree
-use Rattle.v1_sem.specs.Signatures.{signature16}
-use Rattle.v1_sem.specs.Blocks.{control16}
-use Rattle.v1_sem.specs.Parsing.{parse16}
-use Rattle.v1_sem.specs.Passes.{ingress16, reparse16, egress16}
-use Rattle.v1_sem.specs.Runs.{Run16}
+use Rattle.p416_syntax.specs.declared.parsers.Var.{Var}
+use Rattle.p416_syntax.specs.declared.parsers.Target.TheVariants as target
+use Rattle.p416_syntax.specs.declared.parsers.Transition.{Transition}
+use Rattle.p416_syntax.specs.declared.parsers.Transition.TheVariants as transition
+use Rattle.p416_syntax.specs.declared.node.BinaryOperator.TheVariants.{Add, Equal, And}
+use Rattle.p416_syntax.specs.Tree.{Exp16, truth, name, member, lookahead, no_arguments, binary, choice, Stmt16, assign, block, if_then, if_else, var_is}
+use Rattle.p416_syntax.specs.Tree as tree
+use Rattle.v1_core.specs.Signatures.{signature16}
+use Rattle.v1_core.specs.Blocks.{control16}
+use Rattle.v1_core.specs.Parsing.{parse16}
+use Rattle.v1_core.specs.Passes.{ingress16, reparse16, egress16}
+use Rattle.v1_core.specs.Runs.{Run16}
 use Rattle.v1_sem_examples.specs.Parts.{n, hdr, field, sm, is_error, bits_type, method, does, extract, state, accept, statements}
 use Rattle.v1_sem_examples.specs.Samples.{Sample, small, parsing, program, to_port_3, h_x, h_y, packet}
 use Rattle.v1_sem_examples.specs.Packets.{Outcome, plainly, outcome, sends}

@@ -5,21 +5,21 @@ use Rattle.std.specs.Prelude.{codes, true, false, Some, None}
 use Rattle.p4x_bits.specs.BitLists.{num, bits}
 use Rattle.state_store.specs.declared.cells.Cells.TheVariants.{Counts}
 use Rattle.fabric.specs.Queue.{run}
-use Rattle.p416_ast.specs.declared.parts.Direction.TheVariants.{In, InOut}
-use Rattle.p416_ast.specs.declared.parts.Member.TheVariants as member_of
-use Rattle.p416_ast.specs.declared.parts.CounterType.TheVariants.{Packets}
-use Rattle.p416_ast.specs.declared.controls.Instance.TheVariants as instance
-use Rattle.p416_ast.specs.declared.controls.Local.{Local}
-use Rattle.p416_ast.specs.declared.controls.Local.TheVariants as local
-use Rattle.p416_ast.specs.declared.controls.Property.TheVariants as property
-use Rattle.p416_ast.specs.declared.node.BinaryOperator.TheVariants.{Add, Concatenate}
-use Rattle.p416_ast.specs.declared.program.Syntax16.{Syntax16}
-use Rattle.p416_ast.specs.Tree.{Exp16, truth, member, binary, choice, Stmt16, assign, if_else}
-use Rattle.v1_sem.specs.Signatures.{signature16}
-use Rattle.v1_sem.specs.Blocks.{control16}
-use Rattle.v1_sem.specs.Parsing.{parse16}
-use Rattle.v1_sem.specs.Passes.{ingress16, reparse16, egress16}
-use Rattle.v1_sem.specs.Runs.{Run16}
+use Rattle.p416_syntax.specs.declared.parts.Direction.TheVariants.{In, InOut}
+use Rattle.p416_syntax.specs.declared.parts.Member.TheVariants as member_of
+use Rattle.p416_syntax.specs.declared.parts.CounterType.TheVariants.{Packets}
+use Rattle.p416_syntax.specs.declared.controls.Instance.TheVariants as instance
+use Rattle.p416_syntax.specs.declared.controls.Local.{Local}
+use Rattle.p416_syntax.specs.declared.controls.Local.TheVariants as local
+use Rattle.p416_syntax.specs.declared.controls.Property.TheVariants as property
+use Rattle.p416_syntax.specs.declared.node.BinaryOperator.TheVariants.{Add, Concatenate}
+use Rattle.p416_syntax.specs.declared.program.Syntax16.{Syntax16}
+use Rattle.p416_syntax.specs.Tree.{Exp16, truth, member, binary, choice, Stmt16, assign, if_else}
+use Rattle.v1_core.specs.Signatures.{signature16}
+use Rattle.v1_core.specs.Blocks.{control16}
+use Rattle.v1_core.specs.Parsing.{parse16}
+use Rattle.v1_core.specs.Passes.{ingress16, reparse16, egress16}
+use Rattle.v1_core.specs.Runs.{Run16}
 use Rattle.v1_sem_examples.specs.Parts.{n, named, bits_type, param, hdr, action, table, an_action, method, calls, given, does, statements, var as variable}
 use Rattle.v1_sem_examples.specs.Samples.{doing, program, h_x, h_z, packet}
 use Rattle.v1_sem_examples.specs.Packets.{Outcome, plainly, outcome, sends, sends_of, cells}

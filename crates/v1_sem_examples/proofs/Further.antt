@@ -7,26 +7,26 @@ use Rattle.state_store.specs.declared.cells.Cells.TheVariants.{Counts}
 use Rattle.match_core.specs.declared.entries.KeyMatch.TheVariants as key_match
 use Rattle.match_core.specs.declared.entries.TableFill.{TableFill}
 use Rattle.fabric.specs.Queue.{run}
-use Rattle.p416_ast.specs.declared.parts.Type16.TheVariants.{Bool as BoolType}
-use Rattle.p416_ast.specs.declared.parts.Member.TheVariants as member_of
-use Rattle.p416_ast.specs.declared.parts.CounterType.TheVariants.{Packets}
-use Rattle.p416_ast.specs.declared.parsers.Target.TheVariants as target
-use Rattle.p416_ast.specs.declared.parsers.Transition.TheVariants as transition
-use Rattle.p416_ast.specs.declared.controls.Instance.TheVariants as instance
-use Rattle.p416_ast.specs.declared.controls.Local.{Local}
-use Rattle.p416_ast.specs.declared.controls.Local.TheVariants as local
-use Rattle.p416_ast.specs.declared.controls.Property.TheVariants as property
-use Rattle.p416_ast.specs.declared.node.BinaryOperator.TheVariants.{Add, Equal, Concatenate, And, Or}
-use Rattle.p416_ast.specs.declared.node.CastType.TheVariants.{Bit}
-use Rattle.p416_ast.specs.declared.program.Decl16.TheVariants as decl
-use Rattle.p416_ast.specs.declared.program.Syntax16.{Syntax16}
-use Rattle.p416_ast.specs.Tree.{truth, name, member, index, slice, cast, binary, choice, assign, if_then, var, var_is}
-use Rattle.p416_ast.specs.Tree as tree
-use Rattle.v1_sem.specs.Signatures.{signature16}
-use Rattle.v1_sem.specs.Blocks.{control16}
-use Rattle.v1_sem.specs.Parsing.{parse16}
-use Rattle.v1_sem.specs.Passes.{ingress16, reparse16, egress16}
-use Rattle.v1_sem.specs.Runs.{Run16}
+use Rattle.p416_syntax.specs.declared.parts.Type16.TheVariants.{Bool as BoolType}
+use Rattle.p416_syntax.specs.declared.parts.Member.TheVariants as member_of
+use Rattle.p416_syntax.specs.declared.parts.CounterType.TheVariants.{Packets}
+use Rattle.p416_syntax.specs.declared.parsers.Target.TheVariants as target
+use Rattle.p416_syntax.specs.declared.parsers.Transition.TheVariants as transition
+use Rattle.p416_syntax.specs.declared.controls.Instance.TheVariants as instance
+use Rattle.p416_syntax.specs.declared.controls.Local.{Local}
+use Rattle.p416_syntax.specs.declared.controls.Local.TheVariants as local
+use Rattle.p416_syntax.specs.declared.controls.Property.TheVariants as property
+use Rattle.p416_syntax.specs.declared.node.BinaryOperator.TheVariants.{Add, Equal, Concatenate, And, Or}
+use Rattle.p416_syntax.specs.declared.node.CastType.TheVariants.{Bit}
+use Rattle.p416_syntax.specs.declared.program.Decl16.TheVariants as decl
+use Rattle.p416_syntax.specs.declared.program.Syntax16.{Syntax16}
+use Rattle.p416_syntax.specs.Tree.{truth, name, member, index, slice, cast, binary, choice, assign, if_then, var, var_is}
+use Rattle.p416_syntax.specs.Tree as tree
+use Rattle.v1_core.specs.Signatures.{signature16}
+use Rattle.v1_core.specs.Blocks.{control16}
+use Rattle.v1_core.specs.Parsing.{parse16}
+use Rattle.v1_core.specs.Passes.{ingress16, reparse16, egress16}
+use Rattle.v1_core.specs.Runs.{Run16}
 use Rattle.v1_sem_examples.specs.Parts.{n, number, named, bits_type, param, key, action, table, an_action, hdr, sm, method, calls, given, does, statements, extract, emit, state, accept, var as variable}
 use Rattle.v1_sem_examples.specs.Samples.{small_types, small, doing, program, to_port_3, h_x, h_y, h_z, packet}
 use Rattle.v1_sem_examples.specs.Packets.{plainly, filled, ran_from, ran, told, outcome, sends, cells, sends_of}

@@ -4,17 +4,17 @@ use Rattle.std.proofs.Common.{◌≡◌, ℕ, List, [], ◌∷◌, refl}
 use Rattle.std.specs.Prelude.{codes, Some}
 use Rattle.p4x_bits.specs.BitLists.{num, bits}
 use Rattle.fabric.specs.Queue.{run}
-use Rattle.p416_ast.specs.declared.parts.Type16.TheVariants.{Named}
-use Rattle.p416_ast.specs.declared.parts.Direction.TheVariants.{In, Out, InOut}
-use Rattle.p416_ast.specs.declared.controls.Local.{Local}
-use Rattle.p416_ast.specs.declared.node.BinaryOperator.TheVariants.{Add, SaturatingAdd, ShiftRight}
-use Rattle.p416_ast.specs.declared.node.CastType.TheVariants.{Bit}
-use Rattle.p416_ast.specs.Tree.{Exp16, member, index, slice, cast, binary, choice, Stmt16, assign, block, empty, if_then, if_else, var, var_is}
-use Rattle.v1_sem.specs.Signatures.{signature16}
-use Rattle.v1_sem.specs.Blocks.{control16}
-use Rattle.v1_sem.specs.Parsing.{parse16}
-use Rattle.v1_sem.specs.Passes.{ingress16, reparse16, egress16}
-use Rattle.v1_sem.specs.Runs.{Run16}
+use Rattle.p416_syntax.specs.declared.parts.Type16.TheVariants.{Named}
+use Rattle.p416_syntax.specs.declared.parts.Direction.TheVariants.{In, Out, InOut}
+use Rattle.p416_syntax.specs.declared.controls.Local.{Local}
+use Rattle.p416_syntax.specs.declared.node.BinaryOperator.TheVariants.{Add, SaturatingAdd, ShiftRight}
+use Rattle.p416_syntax.specs.declared.node.CastType.TheVariants.{Bit}
+use Rattle.p416_syntax.specs.Tree.{Exp16, member, index, slice, cast, binary, choice, Stmt16, assign, block, empty, if_then, if_else, var, var_is}
+use Rattle.v1_core.specs.Signatures.{signature16}
+use Rattle.v1_core.specs.Blocks.{control16}
+use Rattle.v1_core.specs.Parsing.{parse16}
+use Rattle.v1_core.specs.Passes.{ingress16, reparse16, egress16}
+use Rattle.v1_core.specs.Runs.{Run16}
 use Rattle.v1_sem_examples.specs.Parts.{n, number, plain, bits_type, param, hdr, field, meta, action, method, calls, does, extract, state, accept, statements, var as variable}
 use Rattle.v1_sem_examples.specs.Samples.{Sample, small, doing, program, h_x, h_y, h_z, packet}
 use Rattle.v1_sem_examples.specs.Packets.{Outcome, plainly, outcome, sends, sends_of}

@@ -1,12 +1,12 @@
 -- Operators at the widths 1, 8, 16, 64, 127 and 128, on the least and the greatest numbers of each.
 use Rattle.std.proofs.Common.{◌≡◌, ℕ, ◌-◌, ◌/◌, List, [], ◌∷◌, refl}
 use Rattle.std.specs.Prelude.{true, false, map}
-use Rattle.p416_ast.specs.declared.node.CastType.TheVariants.{Bit, Bool as Truth}
-use Rattle.p416_ast.specs.declared.node.UnaryOperator.TheVariants.{Not, Complement, Negate}
-use Rattle.p416_ast.specs.declared.node.BinaryOperator.{BinaryOperator}
-use Rattle.p416_ast.specs.declared.node.BinaryOperator.TheVariants.{Multiply, Add, Subtract, SaturatingAdd, SaturatingSubtract, Concatenate, ShiftLeft, ShiftRight, BitAnd, BitXor, BitOr, Less, LessEqual, Greater, GreaterEqual, Equal, NotEqual}
-use Rattle.v1_sem.specs.Values.{Value, a_number, a_truth, an_error, Slice, sliced, spliced}
-use Rattle.v1_sem.specs.Numbers.{unary_value, binary_value, cast_value}
+use Rattle.p416_syntax.specs.declared.node.CastType.TheVariants.{Bit, Bool as Truth}
+use Rattle.p416_syntax.specs.declared.node.UnaryOperator.TheVariants.{Not, Complement, Negate}
+use Rattle.p416_syntax.specs.declared.node.BinaryOperator.{BinaryOperator}
+use Rattle.p416_syntax.specs.declared.node.BinaryOperator.TheVariants.{Multiply, Add, Subtract, SaturatingAdd, SaturatingSubtract, Concatenate, ShiftLeft, ShiftRight, BitAnd, BitXor, BitOr, Less, LessEqual, Greater, GreaterEqual, Equal, NotEqual}
+use Rattle.v1_core.specs.Values.{Value, a_number, a_truth, an_error, Slice, sliced, spliced}
+use Rattle.v1_core.specs.Numbers.{unary_value, binary_value, cast_value}
 use Rattle.v1_sem_examples.specs.Parts.{number}
 
 -- each width with its greatest number

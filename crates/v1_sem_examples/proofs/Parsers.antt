@@ -3,25 +3,25 @@ use Rattle.std.proofs.Common.{◌≡◌, ℕ, List, [], ◌∷◌, refl}
 use Rattle.std.specs.Prelude.{codes}
 use Rattle.p4x_bits.specs.BitLists.{num, bits}
 use Rattle.fabric.specs.Queue.{run}
-use Rattle.p416_ast.specs.declared.parsers.Target.{Target}
-use Rattle.p416_ast.specs.declared.parsers.Target.TheVariants as target
-use Rattle.p416_ast.specs.declared.parsers.Transition.{Transition}
-use Rattle.p416_ast.specs.declared.parsers.Transition.TheVariants as transition
-use Rattle.p416_ast.specs.declared.parsers.Keyset.{Keyset}
-use Rattle.p416_ast.specs.declared.parsers.Keyset.TheVariants as keyset
-use Rattle.p416_ast.specs.declared.parsers.Simple.{Simple}
-use Rattle.p416_ast.specs.declared.parsers.Simple.TheVariants as simple
-use Rattle.p416_ast.specs.declared.parsers.SelectCase.{SelectCase}
-use Rattle.p416_ast.specs.declared.program.Syntax16.{Syntax16}
-use Rattle.p416_ast.specs.Tree.{Exp16, name, member, lookahead, no_arguments, Stmt16, assign, empty, block, if_then, binary}
-use Rattle.p416_ast.specs.declared.node.BinaryOperator.TheVariants.{Equal}
-use Rattle.p416_ast.specs.Tree as tree
-use Rattle.v1_sem.specs.declared.parser_error.ParserError.TheVariants.{NoError, PacketTooShort, StackOutOfBounds, NoMatch}
-use Rattle.v1_sem.specs.Signatures.{signature16}
-use Rattle.v1_sem.specs.Blocks.{control16}
-use Rattle.v1_sem.specs.Parsing.{parse16}
-use Rattle.v1_sem.specs.Passes.{ingress16, reparse16, egress16}
-use Rattle.v1_sem.specs.Runs.{Run16}
+use Rattle.p416_syntax.specs.declared.parsers.Target.{Target}
+use Rattle.p416_syntax.specs.declared.parsers.Target.TheVariants as target
+use Rattle.p416_syntax.specs.declared.parsers.Transition.{Transition}
+use Rattle.p416_syntax.specs.declared.parsers.Transition.TheVariants as transition
+use Rattle.p416_syntax.specs.declared.parsers.Keyset.{Keyset}
+use Rattle.p416_syntax.specs.declared.parsers.Keyset.TheVariants as keyset
+use Rattle.p416_syntax.specs.declared.parsers.Simple.{Simple}
+use Rattle.p416_syntax.specs.declared.parsers.Simple.TheVariants as simple
+use Rattle.p416_syntax.specs.declared.parsers.SelectCase.{SelectCase}
+use Rattle.p416_syntax.specs.declared.program.Syntax16.{Syntax16}
+use Rattle.p416_syntax.specs.Tree.{Exp16, name, member, lookahead, no_arguments, Stmt16, assign, empty, block, if_then, binary}
+use Rattle.p416_syntax.specs.declared.node.BinaryOperator.TheVariants.{Equal}
+use Rattle.p416_syntax.specs.Tree as tree
+use Rattle.v1_core.specs.declared.parser_error.ParserError.TheVariants.{NoError, PacketTooShort, StackOutOfBounds, NoMatch}
+use Rattle.v1_core.specs.Signatures.{signature16}
+use Rattle.v1_core.specs.Blocks.{control16}
+use Rattle.v1_core.specs.Parsing.{parse16}
+use Rattle.v1_core.specs.Passes.{ingress16, reparse16, egress16}
+use Rattle.v1_core.specs.Runs.{Run16}
 use Rattle.v1_sem_examples.specs.Parts.{n, plain, hdr, field, sm, bits_type, extract, state, accept, statements}
 use Rattle.v1_sem_examples.specs.Samples.{small, program, to_port_3}
 use Rattle.v1_sem_examples.specs.Packets.{parsed, ends, plainly, outcome, sends}

@@ -4,18 +4,18 @@ use Rattle.std.proofs.Common.{◌≡◌, ℕ, List, [], ◌∷◌, refl}
 use Rattle.std.specs.Prelude.{codes, true}
 use Rattle.p4x_bits.specs.BitLists.{num, bits}
 use Rattle.fabric.specs.Queue.{run}
-use Rattle.p416_ast.specs.declared.parts.Note.TheVariants as note
-use Rattle.p416_ast.specs.declared.parts.StructField.{StructField}
-use Rattle.p416_ast.specs.declared.node.BinaryOperator.TheVariants.{Add, Concatenate}
-use Rattle.p416_ast.specs.declared.node.CastType.TheVariants.{Bit}
-use Rattle.p416_ast.specs.declared.program.Decl16.{Decl16}
-use Rattle.p416_ast.specs.declared.program.Decl16.TheVariants as decl
-use Rattle.p416_ast.specs.Tree.{Exp16, truth, member, cast, binary, listed, Stmt16, assign, block, if_then, if_else}
-use Rattle.v1_sem.specs.Signatures.{signature16}
-use Rattle.v1_sem.specs.Blocks.{control16}
-use Rattle.v1_sem.specs.Parsing.{parse16}
-use Rattle.v1_sem.specs.Passes.{ingress16, reparse16, egress16}
-use Rattle.v1_sem.specs.Runs.{Run16}
+use Rattle.p416_syntax.specs.declared.parts.Note.TheVariants as note
+use Rattle.p416_syntax.specs.declared.parts.StructField.{StructField}
+use Rattle.p416_syntax.specs.declared.node.BinaryOperator.TheVariants.{Add, Concatenate}
+use Rattle.p416_syntax.specs.declared.node.CastType.TheVariants.{Bit}
+use Rattle.p416_syntax.specs.declared.program.Decl16.{Decl16}
+use Rattle.p416_syntax.specs.declared.program.Decl16.TheVariants as decl
+use Rattle.p416_syntax.specs.Tree.{Exp16, truth, member, cast, binary, listed, Stmt16, assign, block, if_then, if_else}
+use Rattle.v1_core.specs.Signatures.{signature16}
+use Rattle.v1_core.specs.Blocks.{control16}
+use Rattle.v1_core.specs.Parsing.{parse16}
+use Rattle.v1_core.specs.Passes.{ingress16, reparse16, egress16}
+use Rattle.v1_core.specs.Runs.{Run16}
 use Rattle.v1_sem_examples.specs.Parts.{n, number, named, bits_type, struct_field, listed_field, hdr, sm, sm_octet, is_kind, is_error, meta, algorithm, given, calls, method, does, statements, extract, state, accept, drops_it, clones_to, resubmits_with, recirculates_with}
 use Rattle.v1_sem_examples.specs.Samples.{Sample, types_with, small, doing, program, to_port_3, h_x, h_y, h_z, packet}
 use Rattle.v1_sem_examples.specs.Packets.{Outcome, plainly, with_session, ran, ran_from, told, outcome, sends, sends_nothing, sends_both}

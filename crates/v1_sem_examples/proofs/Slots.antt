@@ -2,14 +2,14 @@
 -- of variables: x, y and z of h and of i, v of both elements of s, k and l, and the 7 fields of the standard metadata.
 use Rattle.std.proofs.Common.{◌≡◌, List, [], ◌∷◌, refl}
 use Rattle.std.specs.Prelude.{codes, true, false, length, map, Some, None}
-use Rattle.p416_ast.specs.declared.parts.Type16.TheVariants.{Bool as BoolType}
-use Rattle.p416_ast.specs.declared.controls.Local.{Local}
-use Rattle.p416_ast.specs.declared.program.Syntax16.{Syntax16}
-use Rattle.p416_ast.specs.Tree.{Stmt16, block, var}
-use Rattle.v1_sem.specs.Values.{to_member, to_element}
-use Rattle.v1_sem.specs.Slots.{the_headers, the_metadata, the_standard, the_variable, part_with, slots_of, headers_of, stacks_of, slot_number, header_number, stack_number}
-use Rattle.v1_sem.specs.Numbered.{Numbered, new_numbered, slot_value, with_slot, slot_limit, header_valid, with_validity, stack_place, with_stack_place, stack_size}
-use Rattle.v1_sem.specs.Reentry.{reenters16}
+use Rattle.p416_syntax.specs.declared.parts.Type16.TheVariants.{Bool as BoolType}
+use Rattle.p416_syntax.specs.declared.controls.Local.{Local}
+use Rattle.p416_syntax.specs.declared.program.Syntax16.{Syntax16}
+use Rattle.p416_syntax.specs.Tree.{Stmt16, block, var}
+use Rattle.v1_core.specs.Values.{to_member, to_element}
+use Rattle.v1_core.specs.Slots.{the_headers, the_metadata, the_standard, the_variable, part_with, slots_of, headers_of, stacks_of, slot_number, header_number, stack_number}
+use Rattle.v1_core.specs.Numbered.{Numbered, new_numbered, slot_value, with_slot, slot_limit, header_valid, with_validity, stack_place, with_stack_place, stack_size}
+use Rattle.v1_core.specs.Reentry.{reenters16}
 use Rattle.v1_sem_examples.specs.Parts.{n, named, bits_type, param, action, calls, does, statements}
 use Rattle.v1_sem_examples.specs.Samples.{small, doing, program}
 

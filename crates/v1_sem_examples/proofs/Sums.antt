@@ -5,19 +5,19 @@ use Rattle.std.specs.Prelude.{codes, true, false}
 use Rattle.p4x_bits.specs.BitLists.{num, bits}
 use Rattle.state_store.specs.declared.cells.Cells.TheVariants.{Counts, Numbers}
 use Rattle.fabric.specs.Queue.{run}
-use Rattle.p416_ast.specs.declared.parts.Member.TheVariants as member_of
-use Rattle.p416_ast.specs.declared.parts.CounterType.TheVariants.{Packets, Bytes}
-use Rattle.p416_ast.specs.declared.controls.Instance.TheVariants as instance
-use Rattle.p416_ast.specs.declared.controls.Local.{Local}
-use Rattle.p416_ast.specs.declared.controls.Local.TheVariants as local
-use Rattle.p416_ast.specs.declared.controls.Property.TheVariants as property
-use Rattle.p416_ast.specs.declared.program.Syntax16.{Syntax16}
-use Rattle.p416_ast.specs.Tree.{Exp16, truth, member, slice, choice, listed, Stmt16, assign}
-use Rattle.v1_sem.specs.Signatures.{signature16}
-use Rattle.v1_sem.specs.Blocks.{control16}
-use Rattle.v1_sem.specs.Parsing.{parse16}
-use Rattle.v1_sem.specs.Passes.{ingress16, reparse16, egress16}
-use Rattle.v1_sem.specs.Runs.{Run16}
+use Rattle.p416_syntax.specs.declared.parts.Member.TheVariants as member_of
+use Rattle.p416_syntax.specs.declared.parts.CounterType.TheVariants.{Packets, Bytes}
+use Rattle.p416_syntax.specs.declared.controls.Instance.TheVariants as instance
+use Rattle.p416_syntax.specs.declared.controls.Local.{Local}
+use Rattle.p416_syntax.specs.declared.controls.Local.TheVariants as local
+use Rattle.p416_syntax.specs.declared.controls.Property.TheVariants as property
+use Rattle.p416_syntax.specs.declared.program.Syntax16.{Syntax16}
+use Rattle.p416_syntax.specs.Tree.{Exp16, truth, member, slice, choice, listed, Stmt16, assign}
+use Rattle.v1_core.specs.Signatures.{signature16}
+use Rattle.v1_core.specs.Blocks.{control16}
+use Rattle.v1_core.specs.Parsing.{parse16}
+use Rattle.v1_core.specs.Passes.{ingress16, reparse16, egress16}
+use Rattle.v1_core.specs.Runs.{Run16}
 use Rattle.v1_sem_examples.specs.Parts.{n, number, field, action, table, an_action, algorithm, hashes, method, calls, given, does, statements, var as variable}
 use Rattle.v1_sem_examples.specs.Samples.{doing, program, h_x, h_y, h_z, packet}
 use Rattle.v1_sem_examples.specs.Packets.{Outcome, plainly, outcome, sends, sends_of, sends_both, told, ran_all, cells}

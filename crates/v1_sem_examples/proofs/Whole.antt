@@ -3,13 +3,13 @@ use Rattle.std.proofs.Common.{◌≡◌, ℕ, List, [], ◌∷◌, refl}
 use Rattle.std.specs.Prelude.{take, codes}
 use Rattle.p4x_bits.specs.BitLists.{num, bits}
 use Rattle.fabric.specs.Queue.{run}
-use Rattle.p416_ast.specs.declared.node.BinaryOperator.TheVariants.{ShiftLeft}
-use Rattle.p416_ast.specs.Tree.{binary, assign}
-use Rattle.v1_sem.specs.Signatures.{signature16}
-use Rattle.v1_sem.specs.Blocks.{control16}
-use Rattle.v1_sem.specs.Parsing.{parse16}
-use Rattle.v1_sem.specs.Passes.{ingress16, reparse16, egress16}
-use Rattle.v1_sem.specs.Runs.{Run16}
+use Rattle.p416_syntax.specs.declared.node.BinaryOperator.TheVariants.{ShiftLeft}
+use Rattle.p416_syntax.specs.Tree.{binary, assign}
+use Rattle.v1_core.specs.Signatures.{signature16}
+use Rattle.v1_core.specs.Blocks.{control16}
+use Rattle.v1_core.specs.Parsing.{parse16}
+use Rattle.v1_core.specs.Passes.{ingress16, reparse16, egress16}
+use Rattle.v1_core.specs.Runs.{Run16}
 use Rattle.v1_sem_examples.specs.Parts.{n, field}
 use Rattle.v1_sem_examples.specs.Samples.{Sample, q1, to_port_3, program}
 use Rattle.v1_sem_examples.specs.Packets.{plainly, outcome, sends}

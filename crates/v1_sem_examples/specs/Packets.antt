@@ -10,15 +10,15 @@ use Rattle.fabric.specs.declared.items.Item.{Item}
 use Rattle.fabric.specs.declared.packets.Arrival.{Arrival}
 use Rattle.fabric.specs.declared.packets.Sent.{Sent}
 use Rattle.fabric.specs.Fabric.{Whole}
-use Rattle.p416_ast.specs.declared.program.Syntax16.{Syntax16}
-use Rattle.p416_ast.specs.Tree.{Stmt16}
-use Rattle.v1_sem.specs.Signatures.{signature16}
-use Rattle.v1_sem.specs.Surroundings.{Setting}
-use Rattle.v1_sem.specs.Values.{Value}
-use Rattle.v1_sem.specs.Parsing.{Parsed, parse16}
-use Rattle.v1_sem.specs.Passes.{Between, none_preserved, item_moment, ingress16}
-use Rattle.v1_sem.specs.Runs.{before, Run16}
-use Rattle.v1_sem.specs.declared.parser_error.ParserError.{ParserError}
+use Rattle.p416_syntax.specs.declared.program.Syntax16.{Syntax16}
+use Rattle.p416_syntax.specs.Tree.{Stmt16}
+use Rattle.v1_core.specs.Signatures.{signature16}
+use Rattle.v1_core.specs.Surroundings.{Setting}
+use Rattle.v1_core.specs.Values.{Value}
+use Rattle.v1_core.specs.Parsing.{Parsed, parse16}
+use Rattle.v1_core.specs.Passes.{Between, none_preserved, item_moment, ingress16}
+use Rattle.v1_core.specs.Runs.{before, Run16}
+use Rattle.v1_core.specs.declared.parser_error.ParserError.{ParserError}
 use Rattle.v1_sem_examples.specs.Samples.{program, doing, packet}
 
 abbrev pub no_fill : TableSig → TableFill

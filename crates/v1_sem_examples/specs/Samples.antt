@@ -1,18 +1,18 @@
 -- The program of the examples, of which each changes a part.
 use Rattle.std.specs.Prelude.{ℕ, List, [], ◌∷◌, ◌++◌, Some, None, codes}
-use Rattle.p416_ast.specs.declared.parts.Type16.TheVariants.{Named}
-use Rattle.p416_ast.specs.declared.parts.Direction.{Direction}
-use Rattle.p416_ast.specs.declared.parts.Direction.TheVariants.{In, Out, InOut}
-use Rattle.p416_ast.specs.declared.parts.Param.{Param}
-use Rattle.p416_ast.specs.declared.parts.StructField.{StructField}
-use Rattle.p416_ast.specs.declared.parsers.Var.{Var}
-use Rattle.p416_ast.specs.declared.parsers.State.{State}
-use Rattle.p416_ast.specs.declared.controls.Local.{Local}
-use Rattle.p416_ast.specs.declared.program.Decl16.{Decl16}
-use Rattle.p416_ast.specs.declared.program.Decl16.TheVariants as decl
-use Rattle.p416_ast.specs.declared.program.Syntax16.{Syntax16}
-use Rattle.p416_ast.specs.Tree.{Exp16, Stmt16, assign}
-use Rattle.p416_rules.specs.Names.{Name}
+use Rattle.p416_syntax.specs.declared.parts.Type16.TheVariants.{Named}
+use Rattle.p416_syntax.specs.declared.parts.Direction.{Direction}
+use Rattle.p416_syntax.specs.declared.parts.Direction.TheVariants.{In, Out, InOut}
+use Rattle.p416_syntax.specs.declared.parts.Param.{Param}
+use Rattle.p416_syntax.specs.declared.parts.StructField.{StructField}
+use Rattle.p416_syntax.specs.declared.parsers.Var.{Var}
+use Rattle.p416_syntax.specs.declared.parsers.State.{State}
+use Rattle.p416_syntax.specs.declared.controls.Local.{Local}
+use Rattle.p416_syntax.specs.declared.program.Decl16.{Decl16}
+use Rattle.p416_syntax.specs.declared.program.Decl16.TheVariants as decl
+use Rattle.p416_syntax.specs.declared.program.Syntax16.{Syntax16}
+use Rattle.p416_syntax.specs.Tree.{Exp16, Stmt16, assign}
+use Rattle.p416_syntax.specs.Names.{Name}
 use Rattle.v1_sem_examples.specs.Parts.{n, number, bit_field, named, bits_type, struct_field, listed_field, param, hdr, field, sm, statements, extract, emit, state, accept}
 
 -- Q1: its header has 14 octets, and its ingress sends on port 3

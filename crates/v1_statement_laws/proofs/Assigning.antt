@@ -1,23 +1,23 @@
 -- A single value is assigned to what an l-value means.
 use Rattle.std.proofs.Common.{◌≡◌, inl, inr, ℕ, ◌+◌, ◌*◌, Bool, true, false, cond, Option, Some, None, IfSome, length, refl, sym, ap, ◌∙◌, subst}
 use Rattle.std.specs.Prelude.{option_map}
-use Rattle.p416_ast.specs.Tree.{Exp16}
-use Rattle.p416_rules.specs.Scopes.{Scope}
-use Rattle.p416_rules.specs.Calls.{Place}
-use Rattle.p416_rules.specs.Breaks.{BreaksNone, program_rules}
-use Rattle.v1_sem.specs.declared.parser_error.ParserError.TheVariants.{StackOutOfBounds}
-use Rattle.v1_sem.specs.Values.{Slice as SliceOf}
-use Rattle.v1_sem.specs.Frames as sem
-use Rattle.v1_sem.specs.Frames.{Reference, put_at}
-use Rattle.v1_sem.specs.Slots.{variable_kinds}
-use Rattle.v1_sem.specs.Surroundings as meaning
-use Rattle.v1_sem.specs.Numbered.{InScope}
-use Rattle.v1_sem.specs.Expressions as sem_expressions
-use Rattle.v1_sem.specs.Expressions.{Referred, reference_of, value_of}
-use Rattle.v1_frames.specs.Cells.{Cells, stack_place, stack_size}
-use Rattle.v1_frame_values.specs.Seats.{Content, some_bits, a_truth, an_error, Form, slot_form, header_form, stack_form, struct_form, no_form, Seat}
-use Rattle.v1_frame_values.specs.Scopes.{IsScope}
-use Rattle.v1_ready_expressions.specs.Ready.{Ended, element_by, is_past}
+use Rattle.p416_syntax.specs.Tree.{Exp16}
+use Rattle.p416_syntax.specs.Scopes.{Scope}
+use Rattle.p416_syntax.specs.Calls.{Place}
+use Rattle.p416_syntax.specs.Breaks.{BreaksNone, program_rules}
+use Rattle.v1_core.specs.declared.parser_error.ParserError.TheVariants.{StackOutOfBounds}
+use Rattle.v1_core.specs.Values.{Slice as SliceOf}
+use Rattle.v1_core.specs.Frames as sem
+use Rattle.v1_core.specs.Frames.{Reference, put_at}
+use Rattle.v1_core.specs.Slots.{variable_kinds}
+use Rattle.v1_core.specs.Surroundings as meaning
+use Rattle.v1_core.specs.Numbered.{InScope}
+use Rattle.v1_core.specs.Expressions as sem_expressions
+use Rattle.v1_core.specs.Expressions.{Referred, reference_of, value_of}
+use Rattle.v1_core.specs.Cells.{Cells, stack_place, stack_size}
+use Rattle.v1_core.specs.Seats.{Content, some_bits, a_truth, an_error, Form, slot_form, header_form, stack_form, struct_form, no_form, Seat}
+use Rattle.v1_core.specs.Scopes.{IsScope}
+use Rattle.v1_core.specs.Ready.{Ended, element_by, is_past}
 use Rattle.v1_ready_forms.specs.Spots.{Told, Spot, spot, element_with}
 use Rattle.v1_ready_laws.specs.Asked.{stopped_by}
 use Rattle.v1_ready_blocks.specs.declared.places.SlotPlace.{SlotPlace}

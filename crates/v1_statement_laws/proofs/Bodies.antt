@@ -1,10 +1,10 @@
 -- The statements of the states of a parser.
 use Rattle.std.proofs.Common.{◌≡◌, ℕ, Bool, false, Option, Some, None, IfSome, List, [], refl, subst, append-nil}
-use Rattle.p416_ast.specs.declared.program.Syntax16.{Syntax16}
-use Rattle.p416_ast.specs.declared.node.CaseLabel.{CaseLabel}
-use Rattle.v1_sem.specs.Frames as sem
-use Rattle.v1_sem.specs.Numbered.{Variable}
-use Rattle.v1_sem.specs.Statements.{no_label, run}
+use Rattle.p416_syntax.specs.declared.program.Syntax16.{Syntax16}
+use Rattle.p416_syntax.specs.declared.node.CaseLabel.{CaseLabel}
+use Rattle.v1_core.specs.Frames as sem
+use Rattle.v1_core.specs.Numbered.{Variable}
+use Rattle.v1_core.specs.Statements.{no_label, run}
 use Rattle.v1_ready_forms.specs.Named.{seats_in}
 use Rattle.v1_ready_blocks.specs.Moments.{Moment}
 use Rattle.v1_ready_blocks.specs.Tests.{quiet_world}

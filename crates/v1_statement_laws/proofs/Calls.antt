@@ -3,26 +3,26 @@ use Rattle.std.proofs.Common.{◌≡◌, Bool, true, false, cond, Option, Some, 
 use Rattle.std.specs.Prelude.{option_map, option_and_then, codes}
 use Rattle.std.specs.Str.{bytes_eq}
 use Rattle.std.proofs.lemmas.Slice.Eq.{bytes_eq-Decides}
-use Rattle.p416_ast.specs.Tree.{Exp16, member, call, expression}
-use Rattle.p416_rules.specs.Names.{Name}
-use Rattle.p416_rules.specs.Kinds.{Kind, header}
-use Rattle.p416_rules.specs.Scopes.{Scope}
-use Rattle.p416_rules.specs.Calls.{Place, owner}
-use Rattle.p416_rules.specs.Expressions.{kind_of}
-use Rattle.p416_rules.specs.Uses.{arguments_of}
-use Rattle.p416_rules.specs.Breaks.{BreaksNone, program_rules}
-use Rattle.p416_rules.specs.Declarations.{layouts_of}
-use Rattle.v1_sem.specs.Values.{a_truth, header_in}
-use Rattle.v1_sem.specs.Frames as sem
-use Rattle.v1_sem.specs.Frames.{Reference}
-use Rattle.v1_sem.specs.Slots.{variable_kinds}
-use Rattle.v1_sem.specs.Surroundings as meaning
-use Rattle.v1_sem.specs.Numbered.{InScope}
-use Rattle.v1_sem.specs.Expressions.{reference_of, value_of}
-use Rattle.v1_sem.specs.HeaderCalls.{set_valid, set_invalid, header_call}
-use Rattle.v1_sem.specs.Calls.{method_call, call_statement}
-use Rattle.v1_frames.specs.Cells.{Cells}
-use Rattle.v1_frame_values.specs.Scopes.{IsScope}
+use Rattle.p416_syntax.specs.Tree.{Exp16, member, call, expression}
+use Rattle.p416_syntax.specs.Names.{Name}
+use Rattle.p416_syntax.specs.Kinds.{Kind, header}
+use Rattle.p416_syntax.specs.Scopes.{Scope}
+use Rattle.p416_syntax.specs.Calls.{Place, owner}
+use Rattle.p416_syntax.specs.Expressions.{kind_of}
+use Rattle.p416_syntax.specs.Uses.{arguments_of}
+use Rattle.p416_syntax.specs.Breaks.{BreaksNone, program_rules}
+use Rattle.p416_syntax.specs.Declarations.{layouts_of}
+use Rattle.v1_core.specs.Values.{a_truth, header_in}
+use Rattle.v1_core.specs.Frames as sem
+use Rattle.v1_core.specs.Frames.{Reference}
+use Rattle.v1_core.specs.Slots.{variable_kinds}
+use Rattle.v1_core.specs.Surroundings as meaning
+use Rattle.v1_core.specs.Numbered.{InScope}
+use Rattle.v1_core.specs.Expressions.{reference_of, value_of}
+use Rattle.v1_core.specs.HeaderCalls.{set_valid, set_invalid, header_call}
+use Rattle.v1_core.specs.Calls.{method_call, call_statement}
+use Rattle.v1_core.specs.Cells.{Cells}
+use Rattle.v1_core.specs.Scopes.{IsScope}
 use Rattle.v1_ready_forms.specs.Named.{NamedSeat, seats_in}
 use Rattle.v1_ready_forms.specs.Ways.{its_validity}
 use Rattle.v1_ready_forms.specs.Expressions.{asked_ready}

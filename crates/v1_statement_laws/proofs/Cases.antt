@@ -3,18 +3,18 @@ use Rattle.std.proofs.Common.{◌≡◌, ℕ, suc, ◌+◌, ◌==◌, ◌≤◌,
 use Rattle.std.proofs.lemmas.Slice.Eq.{bytes_eq-Decides}
 use Rattle.std.proofs.lemmas.Bool.{eqb-true, eq-eqb}
 use Rattle.std.specs.Str.{bytes_eq}
-use Rattle.p416_ast.specs.declared.node.CaseLabel.{CaseLabel}
-use Rattle.p416_ast.specs.declared.node.CaseLabel.TheVariants as label
-use Rattle.p416_ast.specs.Tree.{Stmt16, no_statements, then, block, empty, var, var_is, assign, expression, if_then, if_else, switch, no_cases, case_of}
-use Rattle.p416_rules.specs.Names.{Name}
-use Rattle.p416_rules.specs.Scopes.{Scope}
-use Rattle.v1_sem.specs.Frames as sem
-use Rattle.v1_sem.specs.Frames.{closed}
-use Rattle.v1_sem.specs.Slots.{kinds_in}
-use Rattle.v1_sem.specs.Surroundings as meaning
-use Rattle.v1_sem.specs.Numbered.{InScope}
-use Rattle.v1_sem.specs.Statements.{names_action, is_default, has_label, chosen_label, no_label, run}
-use Rattle.v1_frames.specs.Cells.{Cells}
+use Rattle.p416_syntax.specs.declared.node.CaseLabel.{CaseLabel}
+use Rattle.p416_syntax.specs.declared.node.CaseLabel.TheVariants as label
+use Rattle.p416_syntax.specs.Tree.{Stmt16, no_statements, then, block, empty, var, var_is, assign, expression, if_then, if_else, switch, no_cases, case_of}
+use Rattle.p416_syntax.specs.Names.{Name}
+use Rattle.p416_syntax.specs.Scopes.{Scope}
+use Rattle.v1_core.specs.Frames as sem
+use Rattle.v1_core.specs.Frames.{closed}
+use Rattle.v1_core.specs.Slots.{kinds_in}
+use Rattle.v1_core.specs.Surroundings as meaning
+use Rattle.v1_core.specs.Numbered.{InScope}
+use Rattle.v1_core.specs.Statements.{names_action, is_default, has_label, chosen_label, no_label, run}
+use Rattle.v1_core.specs.Cells.{Cells}
 use Rattle.v1_ready_forms.specs.Named.{NamedSeat}
 use Rattle.v1_ready_blocks.specs.Moments.{Moment}
 use Rattle.v1_ready_blocks.specs.Tests.{World}

@@ -2,27 +2,27 @@
 use Rattle.std.proofs.Common.{◌≡◌, inl, inr, Bool, true, false, cond, Option, Some, None, IfSome, List, [], ◌∷◌, length, refl, sym, ap, ◌∙◌, subst}
 use Rattle.std.specs.Prelude.{option_map, codes}
 use Rattle.std.specs.Str.{bytes_eq}
-use Rattle.p416_ast.specs.Tree.{Exp16, literal, truth, error, name, member, index, slice, call, lookahead, cast, unary, binary, choice, parenthesized, no_arguments, argument, listed, expression}
-use Rattle.p416_rules.specs.Names.{Name}
-use Rattle.p416_rules.specs.Kinds.{Kind, bits, unsized, boolean, error_code, header, stack, struct, packet_in, packet_out, errors, enumeration, one_of, table, applied, object, items, nothing, unknown}
-use Rattle.p416_rules.specs.Scopes.{Layout, Scope}
-use Rattle.p416_rules.specs.Calls.{emitted}
-use Rattle.p416_rules.specs.Expressions.{kind_of}
-use Rattle.p416_rules.specs.Uses.{arguments_of}
-use Rattle.p416_rules.specs.Breaks.{BreaksNone, program_rules}
-use Rattle.p416_rules.specs.Declarations.{layouts_of}
-use Rattle.v1_sem.specs.Externs.Packets as packets
-use Rattle.v1_sem.specs.Frames as sem
-use Rattle.v1_sem.specs.Frames.{Reference}
-use Rattle.v1_sem.specs.Slots.{variable_kinds}
-use Rattle.v1_sem.specs.Surroundings as meaning
-use Rattle.v1_sem.specs.Numbered.{InScope}
-use Rattle.v1_sem.specs.Expressions.{Valued, value_of}
-use Rattle.v1_sem.specs.Calls.{Given, argument_at, arguments_from, by_value, value_at, method_call}
-use Rattle.v1_frames.specs.Cells.{Cells}
-use Rattle.v1_frame_values.specs.Seats.{Form, slot_form, header_form, stack_form, struct_form, no_form, form_of}
-use Rattle.v1_frame_values.specs.Values.{seat_value}
-use Rattle.v1_frame_values.specs.Scopes.{IsScope}
+use Rattle.p416_syntax.specs.Tree.{Exp16, literal, truth, error, name, member, index, slice, call, lookahead, cast, unary, binary, choice, parenthesized, no_arguments, argument, listed, expression}
+use Rattle.p416_syntax.specs.Names.{Name}
+use Rattle.p416_syntax.specs.Kinds.{Kind, bits, unsized, boolean, error_code, header, stack, struct, packet_in, packet_out, errors, enumeration, one_of, table, applied, object, items, nothing, unknown}
+use Rattle.p416_syntax.specs.Scopes.{Layout, Scope}
+use Rattle.p416_syntax.specs.Calls.{emitted}
+use Rattle.p416_syntax.specs.Expressions.{kind_of}
+use Rattle.p416_syntax.specs.Uses.{arguments_of}
+use Rattle.p416_syntax.specs.Breaks.{BreaksNone, program_rules}
+use Rattle.p416_syntax.specs.Declarations.{layouts_of}
+use Rattle.v1_core.specs.Externs.Packets as packets
+use Rattle.v1_core.specs.Frames as sem
+use Rattle.v1_core.specs.Frames.{Reference}
+use Rattle.v1_core.specs.Slots.{variable_kinds}
+use Rattle.v1_core.specs.Surroundings as meaning
+use Rattle.v1_core.specs.Numbered.{InScope}
+use Rattle.v1_core.specs.Expressions.{Valued, value_of}
+use Rattle.v1_core.specs.Calls.{Given, argument_at, arguments_from, by_value, value_at, method_call}
+use Rattle.v1_core.specs.Cells.{Cells}
+use Rattle.v1_core.specs.Seats.{Form, slot_form, header_form, stack_form, struct_form, no_form, form_of}
+use Rattle.v1_core.specs.PackedValues.{seat_value}
+use Rattle.v1_core.specs.Scopes.{IsScope}
 use Rattle.v1_ready_forms.specs.Named.{NamedSeat, seats_in}
 use Rattle.v1_ready_forms.specs.Spots.{Told, Spot}
 use Rattle.v1_ready_laws.specs.Rules.{NamesSeated}

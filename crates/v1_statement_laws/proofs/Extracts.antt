@@ -4,32 +4,32 @@ use Rattle.std.specs.Prelude.{option_map, option_and_then, codes}
 use Rattle.std.specs.Str.{bytes_eq}
 use Rattle.std.proofs.lemmas.Bool.{ltb-true}
 use Rattle.std.proofs.lemmas.Slice.Eq.{bytes_eq-Decides}
-use Rattle.p416_ast.specs.Tree.{Exp16, literal, truth, error, name, member, index, slice, call, lookahead, cast, unary, binary, choice, parenthesized, no_arguments, argument, listed, expression}
-use Rattle.p416_rules.specs.Names.{Name, has_name}
-use Rattle.p416_rules.specs.Kinds.{Kind, bits, unsized, boolean, error_code, header, stack, struct, packet_in, packet_out, errors, enumeration, one_of, table, applied, object, items, nothing, unknown, is_stack}
-use Rattle.p416_rules.specs.Scopes.{Layout, FieldKind, fields_in, Scope}
-use Rattle.p416_rules.specs.Calls.{written_header, parser_position, extern_at}
-use Rattle.p416_rules.specs.Expressions.{kind_of, known_kind, member_kind}
-use Rattle.p416_rules.specs.Uses.{arguments_of, wanted_by}
-use Rattle.p416_rules.specs.Breaks.{BreaksNone, program_rules}
-use Rattle.p416_rules.specs.Declarations.{layouts_of}
-use Rattle.v1_sem.specs.declared.parser_error.ParserError.TheVariants.{PacketTooShort}
-use Rattle.v1_sem.specs.Values.{to_member, to_element, Slice as SliceOf}
-use Rattle.v1_sem.specs.Externs.Packets as packets
-use Rattle.v1_sem.specs.Frames as sem
-use Rattle.v1_sem.specs.Frames.{Reference}
-use Rattle.v1_sem.specs.Slots.{variable_kinds}
-use Rattle.v1_sem.specs.Surroundings as meaning
-use Rattle.v1_sem.specs.Numbered.{InScope}
-use Rattle.v1_sem.specs.Expressions.{reference_of, slice_of}
-use Rattle.v1_sem.specs.Calls.{Given, argument_at, arguments_from, target_at, by_reference, stack_of_next, first_stack_of_next, method_call}
-use Rattle.v1_frames.specs.Cells.{Cells, stack_place, stack_size}
-use Rattle.v1_frame_values.specs.Seats.{Form, slot_form, header_form, stack_form, struct_form, no_form, Content, Start, moved, Seat, seat, field_form, field_seat, element_seat, stepped_seat}
-use Rattle.v1_frame_values.specs.Scopes.{IsScope}
-use Rattle.v1_frame_values.proofs.Reading.{by_truth}
-use Rattle.v1_ready_expressions.specs.declared.node.Which.{Which}
-use Rattle.v1_ready_expressions.specs.declared.node.Which.TheVariants.{Next, Last}
-use Rattle.v1_ready_expressions.specs.Ready.{element_by}
+use Rattle.p416_syntax.specs.Tree.{Exp16, literal, truth, error, name, member, index, slice, call, lookahead, cast, unary, binary, choice, parenthesized, no_arguments, argument, listed, expression}
+use Rattle.p416_syntax.specs.Names.{Name, has_name}
+use Rattle.p416_syntax.specs.Kinds.{Kind, bits, unsized, boolean, error_code, header, stack, struct, packet_in, packet_out, errors, enumeration, one_of, table, applied, object, items, nothing, unknown, is_stack}
+use Rattle.p416_syntax.specs.Scopes.{Layout, FieldKind, fields_in, Scope}
+use Rattle.p416_syntax.specs.Calls.{written_header, parser_position, extern_at}
+use Rattle.p416_syntax.specs.Expressions.{kind_of, known_kind, member_kind}
+use Rattle.p416_syntax.specs.Uses.{arguments_of, wanted_by}
+use Rattle.p416_syntax.specs.Breaks.{BreaksNone, program_rules}
+use Rattle.p416_syntax.specs.Declarations.{layouts_of}
+use Rattle.v1_core.specs.declared.parser_error.ParserError.TheVariants.{PacketTooShort}
+use Rattle.v1_core.specs.Values.{to_member, to_element, Slice as SliceOf}
+use Rattle.v1_core.specs.Externs.Packets as packets
+use Rattle.v1_core.specs.Frames as sem
+use Rattle.v1_core.specs.Frames.{Reference}
+use Rattle.v1_core.specs.Slots.{variable_kinds}
+use Rattle.v1_core.specs.Surroundings as meaning
+use Rattle.v1_core.specs.Numbered.{InScope}
+use Rattle.v1_core.specs.Expressions.{reference_of, slice_of}
+use Rattle.v1_core.specs.Calls.{Given, argument_at, arguments_from, target_at, by_reference, stack_of_next, first_stack_of_next, method_call}
+use Rattle.v1_core.specs.Cells.{Cells, stack_place, stack_size}
+use Rattle.v1_core.specs.Seats.{Form, slot_form, header_form, stack_form, struct_form, no_form, Content, Start, moved, Seat, seat, field_form, field_seat, element_seat, stepped_seat}
+use Rattle.v1_core.specs.Scopes.{IsScope}
+use Rattle.v1_core.proofs.Reading.{by_truth}
+use Rattle.v1_core.specs.declared.node.Which.{Which}
+use Rattle.v1_core.specs.declared.node.Which.TheVariants.{Next, Last}
+use Rattle.v1_core.specs.Ready.{element_by}
 use Rattle.v1_ready_forms.specs.Named.{NamedSeat, seat_of_name, seats_in}
 use Rattle.v1_ready_forms.specs.Ways.{which_of}
 use Rattle.v1_ready_forms.specs.Spots.{Told, Spot, spot, spot_with, spot_behind, told_in, told_spot}

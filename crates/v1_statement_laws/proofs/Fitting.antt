@@ -1,18 +1,18 @@
 -- What is given at the place of an assignment fits the slot of its target.
 use Rattle.std.proofs.Common.{◌≡◌, ◌⊎◌, inl, inr, ℕ, suc, ◌-◌, Bool, true, false, cond, Option, Some, None, IfSome, List, refl, sym, ap, ◌∙◌, subst}
 use Rattle.std.specs.Prelude.{option_map}
-use Rattle.p416_lexemes.specs.declared.lexeme.Literal16.{Literal16}
-use Rattle.p416_ast.specs.Tree.{Exp16, literal, truth, error, name, member, index, slice, call, lookahead, cast, unary, binary, choice, parenthesized, no_arguments, argument, listed}
-use Rattle.p416_rules.specs.Names.{Name}
-use Rattle.p416_rules.specs.Kinds.{Kind, bits, unsized, boolean, error_code, header, stack, struct, packet_in, packet_out, errors, enumeration, one_of, table, applied, object, items, nothing, unknown}
-use Rattle.p416_rules.specs.Scopes.{Layout, Scope}
-use Rattle.p416_rules.specs.Calls.{value}
-use Rattle.p416_rules.specs.Expressions.{kind_of, is_chosen, slice_kind, leaves_width}
-use Rattle.p416_rules.specs.Statements.{assigned_place}
-use Rattle.p416_rules.specs.Types.{takes}
-use Rattle.v1_sem.specs.Values.{Value, as_number, number_in, to_member, to_element, Slice}
-use Rattle.v1_sem.specs.Expressions.{slice_of}
-use Rattle.v1_frame_values.specs.Seats.{Content, some_bits, a_truth, an_error, Form, slot_form, form_of}
+use Rattle.p416_syntax.specs.declared.lexeme.Literal16.{Literal16}
+use Rattle.p416_syntax.specs.Tree.{Exp16, literal, truth, error, name, member, index, slice, call, lookahead, cast, unary, binary, choice, parenthesized, no_arguments, argument, listed}
+use Rattle.p416_syntax.specs.Names.{Name}
+use Rattle.p416_syntax.specs.Kinds.{Kind, bits, unsized, boolean, error_code, header, stack, struct, packet_in, packet_out, errors, enumeration, one_of, table, applied, object, items, nothing, unknown}
+use Rattle.p416_syntax.specs.Scopes.{Layout, Scope}
+use Rattle.p416_syntax.specs.Calls.{value}
+use Rattle.p416_syntax.specs.Expressions.{kind_of, is_chosen, slice_kind, leaves_width}
+use Rattle.p416_syntax.specs.Statements.{assigned_place}
+use Rattle.p416_syntax.specs.Types.{takes}
+use Rattle.v1_core.specs.Values.{Value, as_number, number_in, to_member, to_element, Slice}
+use Rattle.v1_core.specs.Expressions.{slice_of}
+use Rattle.v1_core.specs.Seats.{Content, some_bits, a_truth, an_error, Form, slot_form, form_of}
 use Rattle.v1_ready_forms.specs.Named.{NamedSeat, seat_of_name}
 use Rattle.v1_ready_forms.specs.Ways.{which_of}
 use Rattle.v1_ready_forms.specs.Spots.{Spot, spot_with, spot_behind, told_spot}

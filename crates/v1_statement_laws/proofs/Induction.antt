@@ -1,24 +1,24 @@
 -- Statements and ready ones do the same, where those without others in them do.
 use Rattle.std.proofs.Common.{◌≡◌, inl, inr, ℕ, ◌+◌, ◌≤◌, Bool, true, false, cond, is_some, Option, Some, None, IfSome, List, [], ◌∷◌, ◌++◌, length, refl, sym, ap, ◌∙◌, subst, arith, append_assoc}
-use Rattle.p416_ast.specs.declared.node.CaseLabel.{CaseLabel}
-use Rattle.p416_ast.specs.Tree.{Exp16, Stmt16, no_statements, then, block, empty, var, var_is, assign, expression, if_then, if_else, switch, no_cases, case_of}
-use Rattle.p416_rules.specs.Names.{Name}
-use Rattle.p416_rules.specs.Kinds.{boolean}
-use Rattle.p416_rules.specs.Scopes.{Scope}
-use Rattle.p416_rules.specs.Calls.{Place, value}
-use Rattle.p416_rules.specs.Statements.{behind}
-use Rattle.p416_rules.specs.Breaks.{BreaksNone, program_rules}
-use Rattle.v1_sem.specs.declared.parser_error.ParserError.{ParserError}
-use Rattle.v1_sem.specs.Values.{is_true}
-use Rattle.v1_sem.specs.Frames as sem
-use Rattle.v1_sem.specs.Frames.{closed}
-use Rattle.v1_sem.specs.Slots.{variable_kinds, kinds_in}
-use Rattle.v1_sem.specs.Surroundings as meaning
-use Rattle.v1_sem.specs.Numbered.{Variable, InScope}
-use Rattle.v1_sem.specs.Expressions as sem_expressions
-use Rattle.v1_sem.specs.Statements.{chosen_label, condition, no_label, run}
-use Rattle.v1_frames.specs.Cells.{Cells}
-use Rattle.v1_ready_expressions.specs.Ready.{Ended}
+use Rattle.p416_syntax.specs.declared.node.CaseLabel.{CaseLabel}
+use Rattle.p416_syntax.specs.Tree.{Exp16, Stmt16, no_statements, then, block, empty, var, var_is, assign, expression, if_then, if_else, switch, no_cases, case_of}
+use Rattle.p416_syntax.specs.Names.{Name}
+use Rattle.p416_syntax.specs.Kinds.{boolean}
+use Rattle.p416_syntax.specs.Scopes.{Scope}
+use Rattle.p416_syntax.specs.Calls.{Place, value}
+use Rattle.p416_syntax.specs.Statements.{behind}
+use Rattle.p416_syntax.specs.Breaks.{BreaksNone, program_rules}
+use Rattle.v1_core.specs.declared.parser_error.ParserError.{ParserError}
+use Rattle.v1_core.specs.Values.{is_true}
+use Rattle.v1_core.specs.Frames as sem
+use Rattle.v1_core.specs.Frames.{closed}
+use Rattle.v1_core.specs.Slots.{variable_kinds, kinds_in}
+use Rattle.v1_core.specs.Surroundings as meaning
+use Rattle.v1_core.specs.Numbered.{Variable, InScope}
+use Rattle.v1_core.specs.Expressions as sem_expressions
+use Rattle.v1_core.specs.Statements.{chosen_label, condition, no_label, run}
+use Rattle.v1_core.specs.Cells.{Cells}
+use Rattle.v1_core.specs.Ready.{Ended}
 use Rattle.v1_ready_forms.specs.Named.{NamedSeat, seats_in}
 use Rattle.v1_ready_laws.specs.Rules.{with_inner_ones}
 use Rattle.v1_ready_blocks.specs.Moments as blocks

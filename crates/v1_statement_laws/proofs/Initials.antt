@@ -3,32 +3,32 @@ use Rattle.std.proofs.Common.{◌≡◌, inl, inr, ℕ, ◌+◌, ◌≤◌, Bool
 use Rattle.std.specs.Prelude.{option_map, option_and_then}
 use Rattle.std.specs.Str.{bytes_eq}
 use Rattle.std.proofs.lemmas.Slice.Eq.{bytes_eq-Decides}
-use Rattle.p416_ast.specs.declared.parts.Type16.{Type16}
-use Rattle.p416_ast.specs.declared.program.Syntax16.{Syntax16}
-use Rattle.p416_ast.specs.Tree.{Exp16, var_is}
-use Rattle.p416_rules.specs.Names.{Name}
-use Rattle.p416_rules.specs.Kinds.{Kind, bits, unsized, boolean, error_code, header, stack, struct, packet_in, packet_out, errors, enumeration, one_of, table, applied, object, items, nothing, unknown}
-use Rattle.p416_rules.specs.Scopes.{Layout, a_value, sort_in, Scope, kind_of_type}
-use Rattle.p416_rules.specs.Calls.{value}
-use Rattle.p416_rules.specs.Expressions.{kind_of}
-use Rattle.p416_rules.specs.Statements.{with_variable}
-use Rattle.p416_rules.specs.Breaks.{BreaksNone, program_rules}
-use Rattle.p416_rules.specs.Declarations.{layouts_of}
-use Rattle.v1_sem.specs.Values.{Value, a_member, no_value, to_member, with_member, member_in, with_part_at, fitted, zero_value}
-use Rattle.v1_sem.specs.Frames as sem
-use Rattle.v1_sem.specs.Frames.{Frame, Reference, of_inner, put_at}
-use Rattle.v1_sem.specs.Slots.{the_variable, part_with, variable_kinds}
-use Rattle.v1_sem.specs.Surroundings as meaning
-use Rattle.v1_sem.specs.Numbered.{InScope, Numbered, number_of, part_behind}
-use Rattle.v1_sem.specs.Expressions as sem_expressions
-use Rattle.v1_sem.specs.Expressions.{value_of}
-use Rattle.v1_sem.specs.Statements.{starts, initialized}
-use Rattle.v1_frames.specs.Cells.{Cells, slot_value}
-use Rattle.v1_frame_values.specs.Seats.{Content, some_bits, a_truth, an_error, Form, slot_form, form_of, Seat, seat_behind, seat_at}
-use Rattle.v1_frame_values.specs.Values.{content_value, seat_value}
-use Rattle.v1_frame_values.specs.Programs.{owner_seat, numbered16}
-use Rattle.v1_frame_values.proofs.Laws.{part_read}
-use Rattle.v1_ready_expressions.specs.Ready.{Ended}
+use Rattle.p416_syntax.specs.declared.parts.Type16.{Type16}
+use Rattle.p416_syntax.specs.declared.program.Syntax16.{Syntax16}
+use Rattle.p416_syntax.specs.Tree.{Exp16, var_is}
+use Rattle.p416_syntax.specs.Names.{Name}
+use Rattle.p416_syntax.specs.Kinds.{Kind, bits, unsized, boolean, error_code, header, stack, struct, packet_in, packet_out, errors, enumeration, one_of, table, applied, object, items, nothing, unknown}
+use Rattle.p416_syntax.specs.Scopes.{Layout, a_value, sort_in, Scope, kind_of_type}
+use Rattle.p416_syntax.specs.Calls.{value}
+use Rattle.p416_syntax.specs.Expressions.{kind_of}
+use Rattle.p416_syntax.specs.Statements.{with_variable}
+use Rattle.p416_syntax.specs.Breaks.{BreaksNone, program_rules}
+use Rattle.p416_syntax.specs.Declarations.{layouts_of}
+use Rattle.v1_core.specs.Values.{Value, a_member, no_value, to_member, with_member, member_in, with_part_at, fitted, zero_value}
+use Rattle.v1_core.specs.Frames as sem
+use Rattle.v1_core.specs.Frames.{Frame, Reference, of_inner, put_at}
+use Rattle.v1_core.specs.Slots.{the_variable, part_with, variable_kinds}
+use Rattle.v1_core.specs.Surroundings as meaning
+use Rattle.v1_core.specs.Numbered.{InScope, Numbered, number_of, part_behind}
+use Rattle.v1_core.specs.Expressions as sem_expressions
+use Rattle.v1_core.specs.Expressions.{value_of}
+use Rattle.v1_core.specs.Statements.{starts, initialized}
+use Rattle.v1_core.specs.Cells.{Cells, slot_value}
+use Rattle.v1_core.specs.Seats.{Content, some_bits, a_truth, an_error, Form, slot_form, form_of, Seat, seat_behind, seat_at}
+use Rattle.v1_core.specs.PackedValues.{content_value, seat_value}
+use Rattle.v1_core.specs.Programs.{owner_seat, numbered16}
+use Rattle.v1_core.proofs.Laws.{part_read}
+use Rattle.v1_core.specs.Ready.{Ended}
 use Rattle.v1_ready_forms.specs.Named.{NamedSeat, seat_of_name, seats_in}
 use Rattle.v1_ready_laws.specs.Rules.{Keeps, SortSeated, with_inner_ones}
 use Rattle.v1_ready_blocks.specs.declared.places.SlotPlace.TheVariants as slot_place

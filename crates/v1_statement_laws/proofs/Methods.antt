@@ -1,26 +1,26 @@
 -- What calls of headers and of packets do: `setValid`, `setInvalid`, `extract`.
 use Rattle.std.proofs.Common.{◌≡◌, inl, inr, Bool, true, false, cond, Option, Some, None, IfSome, List, length, refl, sym, ap, ◌∙◌, subst}
-use Rattle.p416_ast.specs.Tree.{Exp16}
-use Rattle.p416_rules.specs.Names.{Name}
-use Rattle.p416_rules.specs.Kinds.{Kind, header}
-use Rattle.p416_rules.specs.Scopes.{Layout, Scope}
-use Rattle.p416_rules.specs.Declarations.{layouts_of}
-use Rattle.p416_rules.specs.Expressions.{kind_of}
-use Rattle.p416_rules.specs.Breaks.{BreaksNone, program_rules}
-use Rattle.v1_sem.specs.declared.parser_error.ParserError.TheVariants.{StackOutOfBounds}
-use Rattle.v1_sem.specs.Values.{Slice as SliceOf}
-use Rattle.v1_sem.specs.Frames as sem
-use Rattle.v1_sem.specs.Frames.{Reference}
-use Rattle.v1_sem.specs.Slots.{variable_kinds}
-use Rattle.v1_sem.specs.Surroundings as meaning
-use Rattle.v1_sem.specs.Numbered.{InScope}
-use Rattle.v1_sem.specs.Expressions.{Referred, reference_of}
-use Rattle.v1_sem.specs.HeaderCalls.{set_valid, set_invalid}
-use Rattle.v1_frames.specs.Cells.{Cells, stack_place, stack_size}
-use Rattle.v1_ready_expressions.specs.Ready.{element_by, is_past}
+use Rattle.p416_syntax.specs.Tree.{Exp16}
+use Rattle.p416_syntax.specs.Names.{Name}
+use Rattle.p416_syntax.specs.Kinds.{Kind, header}
+use Rattle.p416_syntax.specs.Scopes.{Layout, Scope}
+use Rattle.p416_syntax.specs.Declarations.{layouts_of}
+use Rattle.p416_syntax.specs.Expressions.{kind_of}
+use Rattle.p416_syntax.specs.Breaks.{BreaksNone, program_rules}
+use Rattle.v1_core.specs.declared.parser_error.ParserError.TheVariants.{StackOutOfBounds}
+use Rattle.v1_core.specs.Values.{Slice as SliceOf}
+use Rattle.v1_core.specs.Frames as sem
+use Rattle.v1_core.specs.Frames.{Reference}
+use Rattle.v1_core.specs.Slots.{variable_kinds}
+use Rattle.v1_core.specs.Surroundings as meaning
+use Rattle.v1_core.specs.Numbered.{InScope}
+use Rattle.v1_core.specs.Expressions.{Referred, reference_of}
+use Rattle.v1_core.specs.HeaderCalls.{set_valid, set_invalid}
+use Rattle.v1_core.specs.Cells.{Cells, stack_place, stack_size}
+use Rattle.v1_core.specs.Ready.{element_by, is_past}
 use Rattle.v1_ready_forms.specs.Spots.{Told, Spot}
-use Rattle.v1_frame_values.specs.Seats.{header_form, Seat}
-use Rattle.v1_frame_values.specs.Scopes.{IsScope}
+use Rattle.v1_core.specs.Seats.{header_form, Seat}
+use Rattle.v1_core.specs.Scopes.{IsScope}
 use Rattle.v1_ready_forms.specs.Named.{NamedSeat, seats_in}
 use Rattle.v1_ready_laws.specs.Rules.{NamesSeated}
 use Rattle.v1_ready_blocks.specs.declared.places.Range.{Range}

@@ -1,19 +1,19 @@
 -- A test that applies no table gives what the expression means.
 use Rattle.std.proofs.Common.{◌≡◌, inl, inr, ℕ, Option, Some, None, IfSome, List, sym, ap, ◌∙◌, subst}
-use Rattle.p416_ast.specs.Tree.{Exp16}
-use Rattle.p416_rules.specs.Scopes.{Scope}
-use Rattle.p416_rules.specs.Calls.{Place}
-use Rattle.p416_rules.specs.Declarations.{layouts_of}
-use Rattle.p416_rules.specs.Breaks.{BreaksNone, program_rules}
-use Rattle.v1_sem.specs.declared.parser_error.ParserError.{ParserError}
-use Rattle.v1_sem.specs.Values.{Value}
-use Rattle.v1_sem.specs.Frames as sem
-use Rattle.v1_sem.specs.Surroundings as meaning
-use Rattle.v1_sem.specs.Numbered.{InScope}
-use Rattle.v1_sem.specs.Expressions as sem_expressions
-use Rattle.v1_sem.specs.Expressions.{value_of}
-use Rattle.v1_frames.specs.Cells.{Cells}
-use Rattle.v1_ready_expressions.specs.Ready.{Ready, Ended, given, ready_value}
+use Rattle.p416_syntax.specs.Tree.{Exp16}
+use Rattle.p416_syntax.specs.Scopes.{Scope}
+use Rattle.p416_syntax.specs.Calls.{Place}
+use Rattle.p416_syntax.specs.Declarations.{layouts_of}
+use Rattle.p416_syntax.specs.Breaks.{BreaksNone, program_rules}
+use Rattle.v1_core.specs.declared.parser_error.ParserError.{ParserError}
+use Rattle.v1_core.specs.Values.{Value}
+use Rattle.v1_core.specs.Frames as sem
+use Rattle.v1_core.specs.Surroundings as meaning
+use Rattle.v1_core.specs.Numbered.{InScope}
+use Rattle.v1_core.specs.Expressions as sem_expressions
+use Rattle.v1_core.specs.Expressions.{value_of}
+use Rattle.v1_core.specs.Cells.{Cells}
+use Rattle.v1_core.specs.Ready.{Ready, Ended, given, ready_value}
 use Rattle.v1_ready_forms.specs.Named.{NamedSeat, seats_in}
 use Rattle.v1_ready_forms.specs.Ways.{Way, its_value}
 use Rattle.v1_ready_forms.specs.Expressions.{asked_ready, ready_of_exp}

@@ -2,24 +2,24 @@
 use Rattle.std.proofs.Common.{◌≡◌, ◌⊎◌, inl, inr, ℕ, Bool, true, false, cond, ◌||◌, Option, Some, None, IfSome, List, [], refl, sym, ap, ◌∙◌, subst}
 use Rattle.std.specs.Prelude.{option_map, codes, filter_map}
 use Rattle.std.specs.Str.{bytes_eq}
-use Rattle.p416_ast.specs.declared.controls.Local.{Local}
-use Rattle.p416_ast.specs.Tree.{Exp16, literal, truth, error, name, member, index, slice, call, lookahead, cast, unary, binary, choice, parenthesized, no_arguments, argument, listed}
-use Rattle.p416_rules.specs.Names.{Name}
-use Rattle.p416_rules.specs.Kinds.{Kind, bits, unsized, boolean, error_code, header, stack, struct, packet_in, packet_out, errors, enumeration, one_of, table, applied, object, items, nothing, unknown}
-use Rattle.p416_rules.specs.Scopes.{Scope}
-use Rattle.p416_rules.specs.Calls.{Place, value, any_bits, owner, a_stack, method, method_signature}
-use Rattle.p416_rules.specs.Expressions.{kind_of, call_kind}
-use Rattle.p416_rules.specs.Uses.{unary_place, left_place, right_place, cast_place, chosen_place}
-use Rattle.p416_rules.specs.Breaks.{BreaksNone, program_rules}
-use Rattle.p416_rules.specs.Declarations.{layouts_of, table_in}
-use Rattle.v1_sem.specs.Values.{Value}
-use Rattle.v1_sem.specs.Frames as sem
-use Rattle.v1_sem.specs.Surroundings as meaning
-use Rattle.v1_sem.specs.Numbered.{InScope}
-use Rattle.v1_sem.specs.Expressions as sem_expressions
-use Rattle.v1_sem.specs.Expressions.{value_of}
-use Rattle.v1_frames.specs.Cells.{Cells}
-use Rattle.v1_ready_expressions.specs.Ready.{Ready, given, ready_value}
+use Rattle.p416_syntax.specs.declared.controls.Local.{Local}
+use Rattle.p416_syntax.specs.Tree.{Exp16, literal, truth, error, name, member, index, slice, call, lookahead, cast, unary, binary, choice, parenthesized, no_arguments, argument, listed}
+use Rattle.p416_syntax.specs.Names.{Name}
+use Rattle.p416_syntax.specs.Kinds.{Kind, bits, unsized, boolean, error_code, header, stack, struct, packet_in, packet_out, errors, enumeration, one_of, table, applied, object, items, nothing, unknown}
+use Rattle.p416_syntax.specs.Scopes.{Scope}
+use Rattle.p416_syntax.specs.Calls.{Place, value, any_bits, owner, a_stack, method, method_signature}
+use Rattle.p416_syntax.specs.Expressions.{kind_of, call_kind}
+use Rattle.p416_syntax.specs.Uses.{unary_place, left_place, right_place, cast_place, chosen_place}
+use Rattle.p416_syntax.specs.Breaks.{BreaksNone, program_rules}
+use Rattle.p416_syntax.specs.Declarations.{layouts_of, table_in}
+use Rattle.v1_core.specs.Values.{Value}
+use Rattle.v1_core.specs.Frames as sem
+use Rattle.v1_core.specs.Surroundings as meaning
+use Rattle.v1_core.specs.Numbered.{InScope}
+use Rattle.v1_core.specs.Expressions as sem_expressions
+use Rattle.v1_core.specs.Expressions.{value_of}
+use Rattle.v1_core.specs.Cells.{Cells}
+use Rattle.v1_core.specs.Ready.{Ready, given, ready_value}
 use Rattle.v1_ready_forms.specs.Named.{NamedSeat, seats_in}
 use Rattle.v1_ready_forms.specs.Ways.{Way, its_value, its_validity, through_member, through_element, through_told, which_of}
 use Rattle.v1_ready_forms.specs.Expressions.{method_ready, asked_ready, ready_of_exp}

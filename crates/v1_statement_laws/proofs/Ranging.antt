@@ -1,18 +1,18 @@
 -- Where the parts of an l-value are found, its seat is.
 use Rattle.std.proofs.Common.{◌≡◌, ℕ, zero, suc, ◌+◌, ◌-◌, ◌*◌, Bool, true, false, cond, Option, Some, None, IfSome, List, [], ◌∷◌, length, refl, sym, ap, ◌∙◌, subst, arith}
 use Rattle.std.specs.Str.{bytes_eq}
-use Rattle.p416_ast.specs.Tree.{Exp16, literal, truth, error, name, member, index, slice, call, lookahead, cast, unary, binary, choice, parenthesized, no_arguments, argument, listed}
-use Rattle.p416_rules.specs.Names.{Name}
-use Rattle.p416_rules.specs.Kinds.{Kind, bits, unsized, boolean, error_code, header, stack, struct, packet_in, packet_out, errors, enumeration, one_of, table, applied, object, items, nothing, unknown}
-use Rattle.p416_rules.specs.Scopes.{Layout, FieldKind, fields_in, Scope}
-use Rattle.p416_rules.specs.Expressions.{kind_of}
-use Rattle.v1_sem.specs.Values.{Step, to_member, to_element, Slice}
-use Rattle.v1_sem.specs.Expressions.{slice_of}
-use Rattle.v1_frames.specs.Cells.{Cells, stack_place, stack_size}
-use Rattle.v1_frame_values.specs.Seats.{Form, slot_form, header_form, stack_form, struct_form, no_form, Start, moved, Seat, field_form, field_seat, element_seat, stepped_seat}
-use Rattle.v1_frame_values.proofs.Reading.{by_truth}
-use Rattle.v1_ready_expressions.specs.declared.node.Which.{Which}
-use Rattle.v1_ready_expressions.specs.Ready.{element_by, is_past}
+use Rattle.p416_syntax.specs.Tree.{Exp16, literal, truth, error, name, member, index, slice, call, lookahead, cast, unary, binary, choice, parenthesized, no_arguments, argument, listed}
+use Rattle.p416_syntax.specs.Names.{Name}
+use Rattle.p416_syntax.specs.Kinds.{Kind, bits, unsized, boolean, error_code, header, stack, struct, packet_in, packet_out, errors, enumeration, one_of, table, applied, object, items, nothing, unknown}
+use Rattle.p416_syntax.specs.Scopes.{Layout, FieldKind, fields_in, Scope}
+use Rattle.p416_syntax.specs.Expressions.{kind_of}
+use Rattle.v1_core.specs.Values.{Step, to_member, to_element, Slice}
+use Rattle.v1_core.specs.Expressions.{slice_of}
+use Rattle.v1_core.specs.Cells.{Cells, stack_place, stack_size}
+use Rattle.v1_core.specs.Seats.{Form, slot_form, header_form, stack_form, struct_form, no_form, Start, moved, Seat, field_form, field_seat, element_seat, stepped_seat}
+use Rattle.v1_core.proofs.Reading.{by_truth}
+use Rattle.v1_core.specs.declared.node.Which.{Which}
+use Rattle.v1_core.specs.Ready.{element_by, is_past}
 use Rattle.v1_ready_forms.specs.Named.{NamedSeat, seat_of_name}
 use Rattle.v1_ready_forms.specs.Ways.{which_of}
 use Rattle.v1_ready_forms.specs.Spots.{Told, Spot, spot_with, spot_behind, told_in, told_spot}

@@ -1,24 +1,24 @@
 -- Headers and stacks that are read: what an l-value gives as a value that no stack tells, and its parts.
 use Rattle.std.proofs.Common.{◌≡◌, ℕ, Bool, true, false, cond, Option, Some, None, IfSome, List, [], ◌∷◌, ◌++◌, length, refl, sym, ap, ◌∙◌, subst}
 use Rattle.std.specs.Prelude.{option_map, codes}
-use Rattle.p416_ast.specs.Tree.{Exp16, literal, truth, error, name, member, index, slice, call, lookahead, cast, unary, binary, choice, parenthesized, no_arguments, argument, listed}
-use Rattle.p416_rules.specs.Names.{Name, has_name}
-use Rattle.p416_rules.specs.Kinds.{Kind, bits, unsized, boolean, error_code, header, stack, struct, packet_in, packet_out, errors, enumeration, one_of, table, applied, object, items, nothing, unknown}
-use Rattle.p416_rules.specs.Scopes.{Layout, fields_in, Scope}
-use Rattle.p416_rules.specs.BuiltIn.{members_of, error_names}
-use Rattle.p416_rules.specs.Calls.{Place, owner, a_stack}
-use Rattle.p416_rules.specs.Expressions.{kind_of, known_kind, member_kind, element_kind}
-use Rattle.p416_rules.specs.Breaks.{BreaksNone, program_rules}
-use Rattle.p416_rules.specs.Declarations.{layouts_of}
-use Rattle.v1_sem.specs.Values.{Value, Step, to_member, to_element, part_of, part_at, Slice}
-use Rattle.v1_sem.specs.Frames as sem
-use Rattle.v1_sem.specs.Frames.{Frame, Reference, stepped, owned, within_slice, read}
-use Rattle.v1_sem.specs.Surroundings as meaning
-use Rattle.v1_sem.specs.Numbered.{InScope}
-use Rattle.v1_sem.specs.Expressions.{Valued, valued, slice_of, member_value, value_of, Referred, referred, member_reference, reference_of}
-use Rattle.v1_frames.specs.Cells.{Cells}
-use Rattle.v1_frame_values.specs.Seats.{Form, slot_form, header_form, stack_form, struct_form, no_form, Seat, stepped_seat}
-use Rattle.v1_frame_values.specs.Values.{seat_value}
+use Rattle.p416_syntax.specs.Tree.{Exp16, literal, truth, error, name, member, index, slice, call, lookahead, cast, unary, binary, choice, parenthesized, no_arguments, argument, listed}
+use Rattle.p416_syntax.specs.Names.{Name, has_name}
+use Rattle.p416_syntax.specs.Kinds.{Kind, bits, unsized, boolean, error_code, header, stack, struct, packet_in, packet_out, errors, enumeration, one_of, table, applied, object, items, nothing, unknown}
+use Rattle.p416_syntax.specs.Scopes.{Layout, fields_in, Scope}
+use Rattle.p416_syntax.specs.BuiltIn.{members_of, error_names}
+use Rattle.p416_syntax.specs.Calls.{Place, owner, a_stack}
+use Rattle.p416_syntax.specs.Expressions.{kind_of, known_kind, member_kind, element_kind}
+use Rattle.p416_syntax.specs.Breaks.{BreaksNone, program_rules}
+use Rattle.p416_syntax.specs.Declarations.{layouts_of}
+use Rattle.v1_core.specs.Values.{Value, Step, to_member, to_element, part_of, part_at, Slice}
+use Rattle.v1_core.specs.Frames as sem
+use Rattle.v1_core.specs.Frames.{Frame, Reference, stepped, owned, within_slice, read}
+use Rattle.v1_core.specs.Surroundings as meaning
+use Rattle.v1_core.specs.Numbered.{InScope}
+use Rattle.v1_core.specs.Expressions.{Valued, valued, slice_of, member_value, value_of, Referred, referred, member_reference, reference_of}
+use Rattle.v1_core.specs.Cells.{Cells}
+use Rattle.v1_core.specs.Seats.{Form, slot_form, header_form, stack_form, struct_form, no_form, Seat, stepped_seat}
+use Rattle.v1_core.specs.PackedValues.{seat_value}
 use Rattle.v1_ready_forms.specs.Named.{NamedSeat, seat_of_name, seats_in}
 use Rattle.v1_ready_forms.specs.Ways.{Way, its_value, through_member, through_element, through_told, which_of}
 use Rattle.v1_ready_forms.specs.Spots.{Told, Spot, spot_with, spot_behind, told_in, told_spot}

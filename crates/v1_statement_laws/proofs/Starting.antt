@@ -2,26 +2,26 @@
 use Rattle.std.proofs.Common.{◌≡◌, ◌⊎◌, inl, inr, ℕ, zero, suc, ◌+◌, ◌-◌, ◌<◌, ◌≤◌, ◌≢◌, Option, Some, None, IfSome, List, [], ◌∷◌, length, map, get_or, set, is_some, cond, refl, sym, ap, ◌∙◌, subst, arith}
 use Rattle.std.specs.Prelude.{option_map}
 use Rattle.std.proofs.lemmas.List.{get_or-set_other}
-use Rattle.p416_ast.specs.declared.parts.Type16.{Type16}
-use Rattle.p416_ast.specs.declared.program.Syntax16.{Syntax16}
-use Rattle.p416_ast.specs.Tree.{var}
-use Rattle.p416_rules.specs.Names.{Name}
-use Rattle.p416_rules.specs.Kinds.{Kind, unknown}
-use Rattle.p416_rules.specs.Scopes.{Layout, Scope, kind_of_type}
-use Rattle.p416_rules.specs.Declarations.{layouts_of}
-use Rattle.v1_sem.specs.declared.parser_error.ParserError.{ParserError}
-use Rattle.v1_sem.specs.Values.{Value, no_value, a_member, zero_value, fitted}
-use Rattle.v1_sem.specs.Frames as sem
-use Rattle.v1_sem.specs.Frames.{Frame}
-use Rattle.v1_sem.specs.Slots.{the_variable, variable_kinds}
-use Rattle.v1_sem.specs.Surroundings as meaning
-use Rattle.v1_sem.specs.Numbered.{Numbered, Variable, InScope, named_values, frame_in, part_value, with_part_value, new_numbered}
-use Rattle.v1_sem.specs.Statements.{starts}
-use Rattle.v1_frames.specs.Cells.{Cells}
-use Rattle.v1_frame_values.specs.Seats.{Seat, behind_seat}
-use Rattle.v1_frame_values.specs.Scopes.{AreAway}
-use Rattle.v1_frame_values.specs.Programs.{owner_seat, numbered16}
-use Rattle.v1_frame_values.proofs.Starts.{Before, ends_behind}
+use Rattle.p416_syntax.specs.declared.parts.Type16.{Type16}
+use Rattle.p416_syntax.specs.declared.program.Syntax16.{Syntax16}
+use Rattle.p416_syntax.specs.Tree.{var}
+use Rattle.p416_syntax.specs.Names.{Name}
+use Rattle.p416_syntax.specs.Kinds.{Kind, unknown}
+use Rattle.p416_syntax.specs.Scopes.{Layout, Scope, kind_of_type}
+use Rattle.p416_syntax.specs.Declarations.{layouts_of}
+use Rattle.v1_core.specs.declared.parser_error.ParserError.{ParserError}
+use Rattle.v1_core.specs.Values.{Value, no_value, a_member, zero_value, fitted}
+use Rattle.v1_core.specs.Frames as sem
+use Rattle.v1_core.specs.Frames.{Frame}
+use Rattle.v1_core.specs.Slots.{the_variable, variable_kinds}
+use Rattle.v1_core.specs.Surroundings as meaning
+use Rattle.v1_core.specs.Numbered.{Numbered, Variable, InScope, named_values, frame_in, part_value, with_part_value, new_numbered}
+use Rattle.v1_core.specs.Statements.{starts}
+use Rattle.v1_core.specs.Cells.{Cells}
+use Rattle.v1_core.specs.Seats.{Seat, behind_seat}
+use Rattle.v1_core.specs.Scopes.{AreAway}
+use Rattle.v1_core.specs.Programs.{owner_seat, numbered16}
+use Rattle.v1_core.proofs.Starts.{Before, ends_behind}
 use Rattle.v1_ready_laws.specs.Rules.{with_inner_ones}
 use Rattle.v1_ready_blocks.specs.declared.places.Range.{Range}
 use Rattle.v1_ready_blocks.specs.Moments as blocks

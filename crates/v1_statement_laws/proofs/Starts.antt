@@ -2,24 +2,24 @@
 use Rattle.std.proofs.Common.{◌≡◌, ◌≢◌, ℕ, suc, ◌+◌, ◌<◌, Bool, Option, Some, None, IfSome, List, [], ◌∷◌, length, get_or, refl, sym, ap, ◌∙◌, subst, arith}
 use Rattle.std.specs.Prelude.{option_map, filter_map, flat_map}
 use Rattle.std.proofs.lemmas.List.{get_or-set_other}
-use Rattle.p416_ast.specs.declared.parts.Type16.{Type16}
-use Rattle.p416_ast.specs.declared.parsers.Var.{Var}
-use Rattle.p416_ast.specs.declared.controls.Local.{Local}
-use Rattle.p416_ast.specs.declared.controls.Local.TheVariants as local
-use Rattle.p416_rules.specs.Kinds.{Kind}
-use Rattle.p416_rules.specs.Scopes.{Layout, Scope, kind_of_type}
-use Rattle.p416_rules.specs.Declarations.{layouts_of}
-use Rattle.v1_sem.specs.Values.{Value, no_value, no_members, a_member, zero_value, fitted}
-use Rattle.v1_sem.specs.Frames as sem
-use Rattle.v1_sem.specs.Frames.{Frame}
-use Rattle.v1_sem.specs.Slots.{the_variable, variable_kinds, local_kinds}
-use Rattle.v1_sem.specs.Numbered.{Numbered, Variable, nobody, named_values, frame_in, part_value, new_numbered}
-use Rattle.v1_sem.specs.Statements.{starts}
-use Rattle.v1_sem.specs.Blocks.{variables_of, with_variables, var_in}
-use Rattle.v1_frames.specs.Cells.{Cells}
-use Rattle.v1_frame_values.specs.Seats.{Seat}
-use Rattle.v1_frame_values.specs.Programs.{owner_seat, numbered16}
-use Rattle.v1_frame_values.specs.Frames.{IsFrameOf}
+use Rattle.p416_syntax.specs.declared.parts.Type16.{Type16}
+use Rattle.p416_syntax.specs.declared.parsers.Var.{Var}
+use Rattle.p416_syntax.specs.declared.controls.Local.{Local}
+use Rattle.p416_syntax.specs.declared.controls.Local.TheVariants as local
+use Rattle.p416_syntax.specs.Kinds.{Kind}
+use Rattle.p416_syntax.specs.Scopes.{Layout, Scope, kind_of_type}
+use Rattle.p416_syntax.specs.Declarations.{layouts_of}
+use Rattle.v1_core.specs.Values.{Value, no_value, no_members, a_member, zero_value, fitted}
+use Rattle.v1_core.specs.Frames as sem
+use Rattle.v1_core.specs.Frames.{Frame}
+use Rattle.v1_core.specs.Slots.{the_variable, variable_kinds, local_kinds}
+use Rattle.v1_core.specs.Numbered.{Numbered, Variable, nobody, named_values, frame_in, part_value, new_numbered}
+use Rattle.v1_core.specs.Statements.{starts}
+use Rattle.v1_core.specs.Blocks.{variables_of, with_variables, var_in}
+use Rattle.v1_core.specs.Cells.{Cells}
+use Rattle.v1_core.specs.Seats.{Seat}
+use Rattle.v1_core.specs.Programs.{owner_seat, numbered16}
+use Rattle.v1_core.specs.PackedFrames.{IsFrameOf}
 use Rattle.v1_ready_blocks.specs.declared.places.Range.{Range}
 use Rattle.v1_ready_blocks.specs.Moments.{Moment, with_cells}
 use Rattle.v1_ready_blocks.specs.Places.{emptied}

@@ -1,20 +1,20 @@
 -- Who is in scope behind statements, and when moments are one there (P4_16 1.2, "Variable declarations", "Block statement";
 -- that an error stops the parser is said with frames).
 use Rattle.std.specs.Prelude.{◌≡◌, ◌⊎◌, Bool, true, ℕ, ◌+◌, List, [], ◌∷◌, ◌++◌, length, None, Some}
-use Rattle.p416_ast.specs.declared.program.Syntax16.{Syntax16}
-use Rattle.p416_ast.specs.Tree.{Stmt16, then, var, var_is}
-use Rattle.p416_rules.specs.Scopes.{Scope}
-use Rattle.p416_rules.specs.Statements.{behind}
-use Rattle.p416_rules.specs.Declarations.{layouts_of}
-use Rattle.v1_sem.specs.declared.parser_error.ParserError.{ParserError}
-use Rattle.v1_sem.specs.Frames as sem
-use Rattle.v1_sem.specs.Slots.{variable_kinds, kinds_in}
-use Rattle.v1_sem.specs.Surroundings.{Root}
-use Rattle.v1_sem.specs.Numbered.{Variable, InScope}
-use Rattle.v1_sem.specs.Expressions as sem_expressions
-use Rattle.v1_frames.specs.Cells.{Cells}
-use Rattle.v1_frame_values.specs.Frames.{IsFrameOf}
-use Rattle.v1_ready_expressions.specs.Ready.{given, failed}
+use Rattle.p416_syntax.specs.declared.program.Syntax16.{Syntax16}
+use Rattle.p416_syntax.specs.Tree.{Stmt16, then, var, var_is}
+use Rattle.p416_syntax.specs.Scopes.{Scope}
+use Rattle.p416_syntax.specs.Statements.{behind}
+use Rattle.p416_syntax.specs.Declarations.{layouts_of}
+use Rattle.v1_core.specs.declared.parser_error.ParserError.{ParserError}
+use Rattle.v1_core.specs.Frames as sem
+use Rattle.v1_core.specs.Slots.{variable_kinds, kinds_in}
+use Rattle.v1_core.specs.Surroundings.{Root}
+use Rattle.v1_core.specs.Numbered.{Variable, InScope}
+use Rattle.v1_core.specs.Expressions as sem_expressions
+use Rattle.v1_core.specs.Cells.{Cells}
+use Rattle.v1_core.specs.PackedFrames.{IsFrameOf}
+use Rattle.v1_core.specs.Ready.{given, failed}
 use Rattle.v1_ready_forms.specs.Named.{seats_in}
 use Rattle.v1_ready_laws.specs.Rules.{NamesSeated, with_inner_ones}
 use Rattle.v1_ready_blocks.specs.Moments.{Moment, raised}

@@ -1,26 +1,26 @@
 -- That ready statements do what those of the program do.
 use Rattle.std.specs.Prelude.{◌≡◌, ℕ, ◌+◌, ◌≤◌, Bool, true, false, List, [], ◌∷◌, length, flat_map, filter_map, IfSome, Option, Some, None}
-use Rattle.p416_ast.specs.declared.parts.Type16.{Type16}
-use Rattle.p416_ast.specs.declared.parsers.Var.{Var}
-use Rattle.p416_ast.specs.declared.controls.Local.{Local}
-use Rattle.p416_ast.specs.declared.node.CaseLabel.{CaseLabel}
-use Rattle.p416_ast.specs.Tree.{Exp16, member, call, Stmt16, var_is, assign, expression}
-use Rattle.p416_rules.specs.Names.{Name}
-use Rattle.p416_rules.specs.Kinds.{Kind, header, stack, struct, packet_in, packet_out}
-use Rattle.p416_rules.specs.Scopes.{Scope, kind_of_type}
-use Rattle.p416_rules.specs.Calls.{Place, value}
-use Rattle.p416_rules.specs.Expressions.{kind_of, is_chosen}
-use Rattle.p416_rules.specs.Uses.{Use, arguments_of}
-use Rattle.p416_rules.specs.Statements.{assigned_place}
-use Rattle.p416_rules.specs.Declarations.{layouts_of}
-use Rattle.p416_rules.specs.Breaks.{BreaksNone, program_rules}
-use Rattle.v1_sem.specs.Frames as sem
-use Rattle.v1_sem.specs.Slots.{variable_kinds, local_kinds, kinds_in}
-use Rattle.v1_sem.specs.Surroundings as meaning
-use Rattle.v1_sem.specs.Numbered.{Variable, InScope, nobody, number_of}
-use Rattle.v1_sem.specs.Blocks.{variables_of, with_variables, with_initial, var_in}
-use Rattle.v1_sem.specs.Statements.{no_label, run}
-use Rattle.v1_frame_values.specs.Seats.{Content, slot_form, form_of}
+use Rattle.p416_syntax.specs.declared.parts.Type16.{Type16}
+use Rattle.p416_syntax.specs.declared.parsers.Var.{Var}
+use Rattle.p416_syntax.specs.declared.controls.Local.{Local}
+use Rattle.p416_syntax.specs.declared.node.CaseLabel.{CaseLabel}
+use Rattle.p416_syntax.specs.Tree.{Exp16, member, call, Stmt16, var_is, assign, expression}
+use Rattle.p416_syntax.specs.Names.{Name}
+use Rattle.p416_syntax.specs.Kinds.{Kind, header, stack, struct, packet_in, packet_out}
+use Rattle.p416_syntax.specs.Scopes.{Scope, kind_of_type}
+use Rattle.p416_syntax.specs.Calls.{Place, value}
+use Rattle.p416_syntax.specs.Expressions.{kind_of, is_chosen}
+use Rattle.p416_syntax.specs.Uses.{Use, arguments_of}
+use Rattle.p416_syntax.specs.Statements.{assigned_place}
+use Rattle.p416_syntax.specs.Declarations.{layouts_of}
+use Rattle.p416_syntax.specs.Breaks.{BreaksNone, program_rules}
+use Rattle.v1_core.specs.Frames as sem
+use Rattle.v1_core.specs.Slots.{variable_kinds, local_kinds, kinds_in}
+use Rattle.v1_core.specs.Surroundings as meaning
+use Rattle.v1_core.specs.Numbered.{Variable, InScope, nobody, number_of}
+use Rattle.v1_core.specs.Blocks.{variables_of, with_variables, with_initial, var_in}
+use Rattle.v1_core.specs.Statements.{no_label, run}
+use Rattle.v1_core.specs.Seats.{Content, slot_form, form_of}
 use Rattle.v1_ready_forms.specs.Named.{seats_in}
 use Rattle.v1_ready_laws.specs.Rules.{Keeps}
 use Rattle.v1_ready_blocks.specs.Moments.{Moment}

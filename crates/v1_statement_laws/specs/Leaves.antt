@@ -1,20 +1,20 @@
 -- What statements without others in them do, and the conditions of those that have some: that ready ones do the same (P4_16
 -- 1.2, "Statements"). The laws on deeds, calls and tables give it for the blocks of a program.
 use Rattle.std.specs.Prelude.{◌≡◌, ℕ, ◌+◌, ◌≤◌, List, [], ◌∷◌, length, map, IfSome, Option, Some, None}
-use Rattle.p416_ast.specs.declared.parts.Type16.{Type16}
-use Rattle.p416_ast.specs.Tree.{Exp16, Stmt16, assign, expression, var_is}
-use Rattle.p416_rules.specs.Names.{Name}
-use Rattle.p416_rules.specs.Kinds.{boolean}
-use Rattle.p416_rules.specs.Scopes.{Scope, kind_of_type}
-use Rattle.p416_rules.specs.Calls.{Place, value}
-use Rattle.v1_sem.specs.Frames as sem
-use Rattle.v1_sem.specs.Slots.{variable_kinds, parameter_kind}
-use Rattle.v1_sem.specs.Surroundings as meaning
-use Rattle.v1_sem.specs.Numbered.{Variable, InScope, named_values}
-use Rattle.v1_sem.specs.Statements.{condition, no_label, run}
-use Rattle.v1_frames.specs.Cells.{Cells}
-use Rattle.v1_frame_values.specs.Programs.{numbered16}
-use Rattle.v1_frame_values.specs.Scopes.{IsScope}
+use Rattle.p416_syntax.specs.declared.parts.Type16.{Type16}
+use Rattle.p416_syntax.specs.Tree.{Exp16, Stmt16, assign, expression, var_is}
+use Rattle.p416_syntax.specs.Names.{Name}
+use Rattle.p416_syntax.specs.Kinds.{boolean}
+use Rattle.p416_syntax.specs.Scopes.{Scope, kind_of_type}
+use Rattle.p416_syntax.specs.Calls.{Place, value}
+use Rattle.v1_core.specs.Frames as sem
+use Rattle.v1_core.specs.Slots.{variable_kinds, parameter_kind}
+use Rattle.v1_core.specs.Surroundings as meaning
+use Rattle.v1_core.specs.Numbered.{Variable, InScope, named_values}
+use Rattle.v1_core.specs.Statements.{condition, no_label, run}
+use Rattle.v1_core.specs.Cells.{Cells}
+use Rattle.v1_core.specs.Programs.{numbered16}
+use Rattle.v1_core.specs.Scopes.{IsScope}
 use Rattle.v1_ready_forms.specs.Named.{seats_in}
 use Rattle.v1_ready_blocks.specs.Moments.{Moment}
 use Rattle.v1_ready_blocks.specs.Tests.{Applied, World, test_value}

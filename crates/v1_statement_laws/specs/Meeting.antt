@@ -1,13 +1,13 @@
 -- Statements of which something holds for each expression at its place, as that it keeps the rules (P4_16 1.2, "Statements").
 use Rattle.std.specs.Prelude.{◌≡◌, Bool, false, List, [], ◌∷◌}
 use Rattle.std.specs.List.{list_any}
-use Rattle.p416_ast.specs.Tree.{Exp16, Stmt16, then, block, var_is, assign, expression, if_then, if_else, switch, case_of}
-use Rattle.p416_rules.specs.Kinds.{boolean}
-use Rattle.p416_rules.specs.Scopes.{Scope, kind_of_type}
-use Rattle.p416_rules.specs.Calls.{Place, value, target, statement}
-use Rattle.p416_rules.specs.Expressions.{kind_of}
-use Rattle.p416_rules.specs.Uses.{Use, uses}
-use Rattle.p416_rules.specs.Statements.{behind, assigned_place}
+use Rattle.p416_syntax.specs.Tree.{Exp16, Stmt16, then, block, var_is, assign, expression, if_then, if_else, switch, case_of}
+use Rattle.p416_syntax.specs.Kinds.{boolean}
+use Rattle.p416_syntax.specs.Scopes.{Scope, kind_of_type}
+use Rattle.p416_syntax.specs.Calls.{Place, value, target, statement}
+use Rattle.p416_syntax.specs.Expressions.{kind_of}
+use Rattle.p416_syntax.specs.Uses.{Use, uses}
+use Rattle.p416_syntax.specs.Statements.{behind, assigned_place}
 
 -- none of these tests finds anything in what the rules judge
 abbrev pub FindNothing : List (Use → Bool) → List Use → Type 0

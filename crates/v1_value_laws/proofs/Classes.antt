@@ -6,46 +6,46 @@ use Rattle.std.specs.Str.{bytes_eq}
 use Rattle.std.proofs.lemmas.Bool.{lt-ltb, eqb-true}
 use Rattle.std.proofs.lemmas.Slice.Eq.{bytes_eq-Decides}
 use Rattle.p4x_bits.specs.BitLists.{bit, num, octet_bits}
-use Rattle.p416_lexemes.specs.declared.lexeme.Literal16.{Literal16}
-use Rattle.p416_ast.specs.declared.node.CastType.{CastType}
-use Rattle.p416_ast.specs.declared.node.CastType.TheVariants as cast_to
-use Rattle.p416_ast.specs.declared.node.UnaryOperator.{UnaryOperator}
-use Rattle.p416_ast.specs.declared.node.UnaryOperator.TheVariants.{Not, Complement, Negate}
-use Rattle.p416_ast.specs.declared.node.BinaryOperator.{BinaryOperator}
-use Rattle.p416_ast.specs.declared.node.BinaryOperator.TheVariants.{Multiply, Add, Subtract, SaturatingAdd, SaturatingSubtract, Concatenate, ShiftLeft, ShiftRight, BitAnd, BitXor, BitOr, Less, LessEqual, Greater, GreaterEqual, Equal, NotEqual, And, Or}
-use Rattle.p416_ast.specs.declared.program.Syntax16.{Syntax16}
-use Rattle.p416_ast.specs.Tree.{Exp16, literal, truth, error, name, member, index, slice, call, lookahead, cast, unary, binary, choice, parenthesized, no_arguments, argument, listed}
-use Rattle.p416_rules.specs.Names.{Name, has_name}
-use Rattle.p416_rules.specs.Kinds.{Kind, bits, unsized, boolean, error_code, header, stack, struct, packet_in, packet_out, errors, enumeration, one_of, table, applied, object, items, nothing, unknown, is_same_kind}
-use Rattle.p416_rules.specs.Scopes.{Layout as TypeLayout, fields_in, Scope, sort_of, kind_of_type}
-use Rattle.p416_rules.specs.BuiltIn.{error_names}
-use Rattle.p416_rules.specs.Calls.{Place, value, any_bits, bits_or_boolean, method, owner, a_stack, callee, unasked, method_signature}
-use Rattle.p416_rules.specs.Declarations.{layouts_of}
-use Rattle.p416_rules.specs.Breaks.{BreaksNone, program_rules}
-use Rattle.p416_rules.specs.Expressions.{field_kind_in, sort_kind, known_kind, member_kind, element_kind, slice_kind, lookahead_kind, cast_kind, unary_kind, binary_kind, number_kind, joint_bits, concatenated, same_choice, is_chosen, call_kind, leaves_width, kind_of, signature_of}
-use Rattle.p416_rules.specs.Uses.{Use, an_expression, a_number as a_judged_number, one, many, owner_place, wanted_by, cast_numbers, uses_at, unary_place, left_place, right_place, cast_place, chosen_place}
-use Rattle.p416_rules.specs.Types.{takes, is_mistyped}
-use Rattle.p416_rules.specs.Sizes.{leaves_size}
-use Rattle.v1_sem.specs.declared.parser_error.ParserError.TheVariants.{PacketTooShort, StackOutOfBounds}
-use Rattle.v1_sem.specs.Values.{Value, Step, a_number, a_truth, an_error, is_true, number_in, to_member, to_element, sliced}
-use Rattle.v1_sem.specs.Numbers.{unary_value, binary_value}
-use Rattle.v1_sem.specs.Frames.{Moment}
-use Rattle.v1_sem.specs.Surroundings.{World}
-use Rattle.v1_sem.specs.Numbered.{InScope, frame_in}
-use Rattle.v1_sem.specs.Expressions.{Valued, literal_number, number_of_error, value_of}
-use Rattle.v1_frames.specs.Cells.{Cells, is_live, slot_value, header_valid, stack_place, stack_size, AreWhole}
-use Rattle.v1_frame_values.specs.Seats.{Content, some_bits, Form, slot_form, header_form, stack_form, struct_form, no_form, form_of, Seat, stepped_seat}
-use Rattle.v1_frame_values.specs.Seats as seats_of
-use Rattle.v1_frame_values.specs.Values.{value_from}
-use Rattle.v1_frame_values.specs.Laid.{IsLaidAt}
-use Rattle.v1_frame_values.specs.Programs.{slot_width, numbered16}
-use Rattle.v1_frame_values.specs.Frames.{IsFrameOf}
-use Rattle.v1_frame_values.proofs.Reading.{by_truth}
-use Rattle.v1_ready_expressions.specs.declared.node.Element.{Element}
-use Rattle.v1_ready_expressions.specs.declared.node.Which.{Which}
-use Rattle.v1_ready_expressions.specs.Scalars.{bits_value, truth_value, pair_value}
-use Rattle.v1_ready_expressions.specs.Ready as ready
-use Rattle.v1_ready_expressions.specs.Ready.{Ready, Ended, given, failed, and_then, is_past, within_stack, bits_ahead, slice_at, ready_value}
+use Rattle.p416_syntax.specs.declared.lexeme.Literal16.{Literal16}
+use Rattle.p416_syntax.specs.declared.node.CastType.{CastType}
+use Rattle.p416_syntax.specs.declared.node.CastType.TheVariants as cast_to
+use Rattle.p416_syntax.specs.declared.node.UnaryOperator.{UnaryOperator}
+use Rattle.p416_syntax.specs.declared.node.UnaryOperator.TheVariants.{Not, Complement, Negate}
+use Rattle.p416_syntax.specs.declared.node.BinaryOperator.{BinaryOperator}
+use Rattle.p416_syntax.specs.declared.node.BinaryOperator.TheVariants.{Multiply, Add, Subtract, SaturatingAdd, SaturatingSubtract, Concatenate, ShiftLeft, ShiftRight, BitAnd, BitXor, BitOr, Less, LessEqual, Greater, GreaterEqual, Equal, NotEqual, And, Or}
+use Rattle.p416_syntax.specs.declared.program.Syntax16.{Syntax16}
+use Rattle.p416_syntax.specs.Tree.{Exp16, literal, truth, error, name, member, index, slice, call, lookahead, cast, unary, binary, choice, parenthesized, no_arguments, argument, listed}
+use Rattle.p416_syntax.specs.Names.{Name, has_name}
+use Rattle.p416_syntax.specs.Kinds.{Kind, bits, unsized, boolean, error_code, header, stack, struct, packet_in, packet_out, errors, enumeration, one_of, table, applied, object, items, nothing, unknown, is_same_kind}
+use Rattle.p416_syntax.specs.Scopes.{Layout as TypeLayout, fields_in, Scope, sort_of, kind_of_type}
+use Rattle.p416_syntax.specs.BuiltIn.{error_names}
+use Rattle.p416_syntax.specs.Calls.{Place, value, any_bits, bits_or_boolean, method, owner, a_stack, callee, unasked, method_signature}
+use Rattle.p416_syntax.specs.Declarations.{layouts_of}
+use Rattle.p416_syntax.specs.Breaks.{BreaksNone, program_rules}
+use Rattle.p416_syntax.specs.Expressions.{field_kind_in, sort_kind, known_kind, member_kind, element_kind, slice_kind, lookahead_kind, cast_kind, unary_kind, binary_kind, number_kind, joint_bits, concatenated, same_choice, is_chosen, call_kind, leaves_width, kind_of, signature_of}
+use Rattle.p416_syntax.specs.Uses.{Use, an_expression, a_number as a_judged_number, one, many, owner_place, wanted_by, cast_numbers, uses_at, unary_place, left_place, right_place, cast_place, chosen_place}
+use Rattle.p416_syntax.specs.Types.{takes, is_mistyped}
+use Rattle.p416_syntax.specs.Sizes.{leaves_size}
+use Rattle.v1_core.specs.declared.parser_error.ParserError.TheVariants.{PacketTooShort, StackOutOfBounds}
+use Rattle.v1_core.specs.Values.{Value, Step, a_number, a_truth, an_error, is_true, number_in, to_member, to_element, sliced}
+use Rattle.v1_core.specs.Numbers.{unary_value, binary_value}
+use Rattle.v1_core.specs.Frames.{Moment}
+use Rattle.v1_core.specs.Surroundings.{World}
+use Rattle.v1_core.specs.Numbered.{InScope, frame_in}
+use Rattle.v1_core.specs.Expressions.{Valued, literal_number, number_of_error, value_of}
+use Rattle.v1_core.specs.Cells.{Cells, is_live, slot_value, header_valid, stack_place, stack_size, AreWhole}
+use Rattle.v1_core.specs.Seats.{Content, some_bits, Form, slot_form, header_form, stack_form, struct_form, no_form, form_of, Seat, stepped_seat}
+use Rattle.v1_core.specs.Seats as seats_of
+use Rattle.v1_core.specs.PackedValues.{value_from}
+use Rattle.v1_core.specs.Laid.{IsLaidAt}
+use Rattle.v1_core.specs.Programs.{slot_width, numbered16}
+use Rattle.v1_core.specs.PackedFrames.{IsFrameOf}
+use Rattle.v1_core.proofs.Reading.{by_truth}
+use Rattle.v1_core.specs.declared.node.Element.{Element}
+use Rattle.v1_core.specs.declared.node.Which.{Which}
+use Rattle.v1_core.specs.Scalars.{bits_value, truth_value, pair_value}
+use Rattle.v1_core.specs.Ready as ready
+use Rattle.v1_core.specs.Ready.{Ready, Ended, given, failed, and_then, is_past, within_stack, bits_ahead, slice_at, ready_value}
 use Rattle.v1_ready_forms.specs.Named.{NamedSeat, seat_of_name, seats_in}
 use Rattle.v1_ready_forms.specs.Ways.{Way, its_value, its_validity, through_member, through_element, through_told, which_of}
 use Rattle.v1_ready_forms.specs.Spots.{Told, Spot, spot, spot_with, spot_behind, told_spot, element_with, value_ready, validity_ready, ready_behind, way_ready}

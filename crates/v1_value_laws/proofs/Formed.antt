@@ -1,22 +1,22 @@
 -- The seat of an l-value is of the form of its kind.
 use Rattle.std.proofs.Common.{◌≡◌, inl, inr, ℕ, zero, suc, Bool, true, false, cond, Option, Some, None, IfSome, List, [], ◌∷◌, length, refl, sym, subst}
 use Rattle.std.specs.Str.{bytes_eq}
-use Rattle.p416_ast.specs.Tree.{Exp16, literal, truth, error, name, member, index, slice, call, lookahead, cast, unary, binary, choice, parenthesized, no_arguments, argument, listed}
-use Rattle.p416_rules.specs.Names.{Name, has_name}
-use Rattle.p416_rules.specs.Kinds.{Enumeration, Kind, bits, unsized, boolean, error_code, header, stack, struct, packet_in, packet_out, errors, enumeration, one_of, table, applied, object, items, nothing, unknown}
-use Rattle.p416_rules.specs.Scopes.{Layout, FieldKind, fields_in, Sort, a_type, a_value, an_enumeration, a_function, an_object, an_action, a_table, a_state, a_block, undeclared, Scope, sort_of}
-use Rattle.p416_rules.specs.Expressions.{field_kind_in, sort_kind, known_kind, member_kind, element_kind, kind_of}
-use Rattle.v1_sem.specs.Values.{Step, to_member, to_element, Slice}
-use Rattle.v1_sem.specs.Expressions.{slice_of}
-use Rattle.v1_frame_values.specs.Seats.{Content, some_bits, a_truth, an_error, Form, slot_form, stack_form, struct_form, no_form, form_of, Start, moved, behind, Seat, seat, member_seat, field_form, field_seat, element_seat, stepped_seat}
-use Rattle.v1_frame_values.proofs.Reading.{by_truth}
+use Rattle.p416_syntax.specs.Tree.{Exp16, literal, truth, error, name, member, index, slice, call, lookahead, cast, unary, binary, choice, parenthesized, no_arguments, argument, listed}
+use Rattle.p416_syntax.specs.Names.{Name, has_name}
+use Rattle.p416_syntax.specs.Kinds.{Enumeration, Kind, bits, unsized, boolean, error_code, header, stack, struct, packet_in, packet_out, errors, enumeration, one_of, table, applied, object, items, nothing, unknown}
+use Rattle.p416_syntax.specs.Scopes.{Layout, FieldKind, fields_in, Sort, a_type, a_value, an_enumeration, a_function, an_object, an_action, a_table, a_state, a_block, undeclared, Scope, sort_of}
+use Rattle.p416_syntax.specs.Expressions.{field_kind_in, sort_kind, known_kind, member_kind, element_kind, kind_of}
+use Rattle.v1_core.specs.Values.{Step, to_member, to_element, Slice}
+use Rattle.v1_core.specs.Expressions.{slice_of}
+use Rattle.v1_core.specs.Seats.{Content, some_bits, a_truth, an_error, Form, slot_form, stack_form, struct_form, no_form, form_of, Start, moved, behind, Seat, seat, member_seat, field_form, field_seat, element_seat, stepped_seat}
+use Rattle.v1_core.proofs.Reading.{by_truth}
 use Rattle.v1_ready_forms.specs.Named.{NamedSeat, seat_of_name}
 use Rattle.v1_ready_forms.specs.Ways.{which_of}
 use Rattle.v1_ready_forms.specs.Spots.{Told, Spot, spot_with, spot_behind, told_in, told_spot}
-use Rattle.v1_ready_expressions.specs.declared.node.Which.{Which}
+use Rattle.v1_core.specs.declared.node.Which.{Which}
 use Rattle.v1_ready_laws.specs.Rules.{SortSeated, NamesSeated}
 use Rattle.v1_place_laws.specs.Places.{Meant, meant, behind_meant, slice_meant, member_meant, meant_by}
-use Rattle.p416_rules.specs.BuiltIn.{members_of}
+use Rattle.p416_syntax.specs.BuiltIn.{members_of}
 use Rattle.std.specs.Prelude.{codes}
 use Rattle.v1_value_laws.specs.Kinds.{IsBits, FieldsBits, KindFine, SortFine, Fine, IsUnformed, FormIs}
 

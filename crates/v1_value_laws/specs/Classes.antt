@@ -1,7 +1,7 @@
 -- What a value of a kind is: a number, a truth value, an error (P4_16 1.2, "P4 data types", "Expressions").
 use Rattle.std.specs.Prelude.{◌≡◌, ◌<◌, ℕ, Bool}
-use Rattle.p416_rules.specs.Kinds.{Kind, bits, unsized, boolean, error_code}
-use Rattle.v1_sem.specs.Values.{Value, a_number, a_truth, an_error}
+use Rattle.p416_syntax.specs.Kinds.{Kind, bits, unsized, boolean, error_code}
+use Rattle.v1_core.specs.Values.{Value, a_number, a_truth, an_error}
 
 abbrev pub IsNumber : Value → Type 0
 IsNumber v = (width : ℕ) × ((number : ℕ) × (v ≡ a_number width number))

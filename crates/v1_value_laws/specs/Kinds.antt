@@ -1,11 +1,11 @@
 -- That a kind tells of which form a value is: what headers have for fields are bits, in the types that names and members are of
 -- (P4_16 1.2, "Header types", "P4 data types").
 use Rattle.std.specs.Prelude.{◌≡◌, ◌⊎◌, List, [], ◌∷◌}
-use Rattle.p416_rules.specs.Names.{Name}
-use Rattle.p416_rules.specs.Kinds.{Kind, bits, header, stack, enumeration, one_of, table, object, unknown}
-use Rattle.p416_rules.specs.Scopes.{Layout, FieldKind, fields_in, Sort, a_type, a_value, Scope, sort_of}
-use Rattle.p416_rules.specs.Expressions.{field_kind_in, known_kind}
-use Rattle.v1_frame_values.specs.Seats.{Form, form_of}
+use Rattle.p416_syntax.specs.Names.{Name}
+use Rattle.p416_syntax.specs.Kinds.{Kind, bits, header, stack, enumeration, one_of, table, object, unknown}
+use Rattle.p416_syntax.specs.Scopes.{Layout, FieldKind, fields_in, Sort, a_type, a_value, Scope, sort_of}
+use Rattle.p416_syntax.specs.Expressions.{field_kind_in, known_kind}
+use Rattle.v1_core.specs.Seats.{Form, form_of}
 
 abbrev pub IsBits : Kind → Type 0
 IsBits (bits width) = Unit {0}

@@ -1,26 +1,26 @@
 -- That headers have bits for fields in all scopes, that l-values stand at seats of the forms of their kinds, and that values are of
 -- the classes of theirs.
 use Rattle.std.specs.Prelude.{◌≡◌, ℕ, List, None, IfSome}
-use Rattle.p416_ast.specs.declared.parsers.Parser16.{Parser16}
-use Rattle.p416_ast.specs.declared.controls.Action16.{Action16}
-use Rattle.p416_ast.specs.declared.controls.Control16.{Control16}
-use Rattle.p416_ast.specs.declared.program.Decl16.{Decl16}
-use Rattle.p416_ast.specs.declared.program.Syntax16.{Syntax16}
-use Rattle.p416_ast.specs.Tree.{Exp16, Stmt16}
-use Rattle.p416_rules.specs.Scopes.{Scope}
-use Rattle.p416_rules.specs.Calls.{Place}
-use Rattle.p416_rules.specs.Statements.{behind}
-use Rattle.p416_rules.specs.Declarations.{layouts_of, top_scope, parser_scope, control_scope, action_scope}
-use Rattle.p416_rules.specs.Expressions.{kind_of}
-use Rattle.p416_rules.specs.Breaks.{BreaksNone, program_rules}
-use Rattle.v1_sem.specs.Values.{Value}
-use Rattle.v1_sem.specs.Frames.{Moment}
-use Rattle.v1_sem.specs.Surroundings.{World}
-use Rattle.v1_sem.specs.Numbered.{InScope, frame_in}
-use Rattle.v1_frames.specs.Cells.{Cells}
-use Rattle.v1_frame_values.specs.Programs.{numbered16}
-use Rattle.v1_frame_values.specs.Frames.{IsFrameOf}
-use Rattle.v1_ready_expressions.specs.Ready.{given, ready_value}
+use Rattle.p416_syntax.specs.declared.parsers.Parser16.{Parser16}
+use Rattle.p416_syntax.specs.declared.controls.Action16.{Action16}
+use Rattle.p416_syntax.specs.declared.controls.Control16.{Control16}
+use Rattle.p416_syntax.specs.declared.program.Decl16.{Decl16}
+use Rattle.p416_syntax.specs.declared.program.Syntax16.{Syntax16}
+use Rattle.p416_syntax.specs.Tree.{Exp16, Stmt16}
+use Rattle.p416_syntax.specs.Scopes.{Scope}
+use Rattle.p416_syntax.specs.Calls.{Place}
+use Rattle.p416_syntax.specs.Statements.{behind}
+use Rattle.p416_syntax.specs.Declarations.{layouts_of, top_scope, parser_scope, control_scope, action_scope}
+use Rattle.p416_syntax.specs.Expressions.{kind_of}
+use Rattle.p416_syntax.specs.Breaks.{BreaksNone, program_rules}
+use Rattle.v1_core.specs.Values.{Value}
+use Rattle.v1_core.specs.Frames.{Moment}
+use Rattle.v1_core.specs.Surroundings.{World}
+use Rattle.v1_core.specs.Numbered.{InScope, frame_in}
+use Rattle.v1_core.specs.Cells.{Cells}
+use Rattle.v1_core.specs.Programs.{numbered16}
+use Rattle.v1_core.specs.PackedFrames.{IsFrameOf}
+use Rattle.v1_core.specs.Ready.{given, ready_value}
 use Rattle.v1_ready_forms.specs.Named.{NamedSeat, seats_in}
 use Rattle.v1_ready_forms.specs.Expressions.{ready_of_exp}
 use Rattle.v1_ready_laws.specs.Rules.{Keeps, NamesSeated}

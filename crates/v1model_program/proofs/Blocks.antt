@@ -1,10 +1,10 @@
 -- The ready blocks of a program do what its blocks do.
 use Rattle.std.proofs.Common.{◌∙◌, refl, sym}
-use Rattle.p416_rules.specs.Breaks.{BreaksNone, program_rules}
-use Rattle.v1_sem.specs.declared.block.Block.{Block}
-use Rattle.v1_sem.specs.declared.block.Block.TheVariants.{Verify, Ingress, Egress, Compute, Deparse}
-use Rattle.v1_sem.specs.Surroundings.{Setting}
-use Rattle.v1_frame_values.specs.Programs.{layout16}
+use Rattle.p416_syntax.specs.Breaks.{BreaksNone, program_rules}
+use Rattle.v1_core.specs.declared.block.Block.{Block}
+use Rattle.v1_core.specs.declared.block.Block.TheVariants.{Verify, Ingress, Egress, Compute, Deparse}
+use Rattle.v1_core.specs.Surroundings.{Setting}
+use Rattle.v1_core.specs.Programs.{layout16}
 use Rattle.v1_ready_blocks.specs.Tables.{Fill}
 use Rattle.v1_ready_states.specs.declared.states.ReadyParser.{ReadyParser}
 use Rattle.v1_block_run.specs.declared.block.ReadyBlock.{ReadyBlock}

@@ -7,12 +7,12 @@ use Rattle.match_core.specs.declared.signatures.Signature.{Signature}
 use Rattle.match_core.specs.Fits.{Fits}
 use Rattle.match_core.specs.Stores.{first_store}
 use Rattle.match_core.specs.Tables.{tables_of}
-use Rattle.p416_ast.specs.declared.program.Syntax16.{Syntax16}
-use Rattle.p416_rules.specs.Breaks.{BreaksNone, program_rules}
-use Rattle.v1_sem.specs.Signatures.{signature16}
-use Rattle.v1_sem.specs.Surroundings.{Setting}
-use Rattle.v1_frames.specs.Layouts.{Layout}
-use Rattle.v1_frame_values.specs.Programs.{layout16}
+use Rattle.p416_syntax.specs.declared.program.Syntax16.{Syntax16}
+use Rattle.p416_syntax.specs.Breaks.{BreaksNone, program_rules}
+use Rattle.v1_core.specs.Signatures.{signature16}
+use Rattle.v1_core.specs.Surroundings.{Setting}
+use Rattle.v1_core.specs.Layouts.{Layout}
+use Rattle.v1_core.specs.Programs.{layout16}
 use Rattle.v1_ready_blocks.specs.Tables.{Fill}
 use Rattle.v1_control_run.specs.Prepared.{objects_of}
 use Rattle.v1_program_laws.specs.Laws.{IsFilledWith}

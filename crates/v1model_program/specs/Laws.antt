@@ -1,8 +1,8 @@
 -- That the blocks of a program which are made ready do what its blocks do (P4_16 1.2, "Packet parsing", "Control blocks"; ready blocks
 -- are this project's own).
-use Rattle.p416_rules.specs.Breaks.{BreaksNone, program_rules}
-use Rattle.v1_sem.specs.Surroundings.{Setting}
-use Rattle.v1_frame_values.specs.Programs.{layout16}
+use Rattle.p416_syntax.specs.Breaks.{BreaksNone, program_rules}
+use Rattle.v1_core.specs.Surroundings.{Setting}
+use Rattle.v1_core.specs.Programs.{layout16}
 use Rattle.v1_ready_blocks.specs.Tables.{Fill}
 use Rattle.v1_control_run.specs.Prepared.{objects_of}
 use Rattle.v1_program_laws.specs.Laws.{IsFilledWith}

@@ -2,19 +2,19 @@
 ghost use Rattle.std.specs.Prelude.{◌≡◌, IfOk};
 ghost use Rattle.match_core.specs.Fits.{Fits};
 ghost use Rattle.match_core.specs.Signatures.{IsSignature};
-ghost use Rattle.v1_sem.specs.Signatures.{signature16};
-ghost use Rattle.v1_frame_values.specs.Programs.{layout16};
+ghost use Rattle.v1_core.specs.Signatures.{signature16};
+ghost use Rattle.v1_core.specs.Programs.{layout16};
 ghost use Rattle.v1model_program.specs.Laws.{taken};
 
 use match_core::{Entries, Signature, first_store};
 use p4x_bits::OutOfMemory;
-use p416_ast::Syntax16;
 use p416_main_check::main_kinds;
 use p416_names::Top;
 use p416_program::Program16;
+use p416_syntax::Syntax16;
 use std::alloc::Global;
 use v1_block_tables::filled_tables;
-use v1_frames::FrameLayout;
+use v1_core::FrameLayout;
 use v1_layout::layout_of_program;
 use v1_packets::Packets;
 use v1_ready_whole::{ReadyBlocks as Made, ready_blocks};

@@ -3,8 +3,8 @@ ghost use Rattle.std.specs.Prelude.{◌≡◌, All, IfOk};
 ghost use Rattle.fabric.specs.Numbers.{HasPort, IsBound};
 ghost use Rattle.match_core.specs.Fits.{Fits};
 ghost use Rattle.match_core.specs.Signatures.{IsSignature};
-ghost use Rattle.v1_sem.specs.Signatures.{signature16};
-ghost use Rattle.v1_frame_values.specs.Programs.{layout16};
+ghost use Rattle.v1_core.specs.Signatures.{signature16};
+ghost use Rattle.v1_core.specs.Programs.{layout16};
 ghost use Rattle.v1model_program.specs.Ran.{IsRun16};
 
 use crate::program::{frame_layout16, ready_program16};
@@ -14,7 +14,7 @@ use p4x_bits::OutOfMemory;
 use p416_program::Program16;
 use p416_signature::signature16;
 use std::alloc::Global;
-use v1_frames::FrameLayout;
+use v1_core::FrameLayout;
 use v1model_runner::run_ready16;
 
 /// The run of a program with this signature, whose frames have this layout.

@@ -2,11 +2,11 @@
 use Rattle.std.proofs.Common.{◌≡◌, List, sym, ap, ◌∙◌}
 use Rattle.state_store.specs.declared.shapes.Shape.{Shape}
 use Rattle.state_store.specs.State.{Contents}
-use Rattle.v1_sem.specs.declared.block.Block.{Block}
-use Rattle.v1_sem.specs.declared.block.Block.TheVariants.{Verify, Ingress, Egress, Compute, Deparse}
-use Rattle.v1_sem.specs.Surroundings.{Setting}
-use Rattle.v1_frames.specs.Layouts.{Layout}
-use Rattle.v1_frame_values.specs.Programs.{layout16}
+use Rattle.v1_core.specs.declared.block.Block.{Block}
+use Rattle.v1_core.specs.declared.block.Block.TheVariants.{Verify, Ingress, Egress, Compute, Deparse}
+use Rattle.v1_core.specs.Surroundings.{Setting}
+use Rattle.v1_core.specs.Layouts.{Layout}
+use Rattle.v1_core.specs.Programs.{layout16}
 use Rattle.v1_ready_blocks.specs.Tables.{Fill}
 use Rattle.v1_control_run.specs.declared.prepared.Prepared.{Prepared}
 use Rattle.v1_control_run.specs.Prepared.{DoesControl, IsPrepared, control_of, objects_of, setting_of}

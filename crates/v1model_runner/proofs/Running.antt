@@ -13,10 +13,10 @@ use Rattle.fabric.specs.declared.packets.Out.{Out}
 use Rattle.fabric.specs.declared.packets.Sent.{Sent}
 use Rattle.fabric.specs.Queue.{Run}
 use Rattle.fabric.specs.Fabric.{Whole, fabric, followed, one_of}
-use Rattle.v1_sem.specs.Surroundings.{Setting}
-use Rattle.v1_sem.specs.Signatures.{signature16}
-use Rattle.v1_sem.specs.Passes.{Between}
-use Rattle.v1_sem.specs.Runs.{Run16, Work16, before, machine16}
+use Rattle.v1_core.specs.Surroundings.{Setting}
+use Rattle.v1_core.specs.Signatures.{signature16}
+use Rattle.v1_core.specs.Passes.{Between}
+use Rattle.v1_core.specs.Runs.{Run16, Work16, before, machine16}
 use Rattle.v1_passes.specs.Runs.{between_of, run_on}
 use Rattle.v1_control_run.specs.Prepared.{objects_of}
 use Rattle.v1_control_run.specs.Running.{Running}

@@ -1,9 +1,9 @@
 -- What is owed of the ready blocks of a program (this project's own).
 use Rattle.std.specs.Prelude.{◌≡◌}
-use Rattle.v1_sem.specs.declared.block.Block.TheVariants.{Verify, Ingress, Egress, Compute, Deparse}
-use Rattle.v1_sem.specs.Surroundings.{Setting}
-use Rattle.v1_frames.specs.Layouts.{Layout}
-use Rattle.v1_frame_values.specs.Programs.{layout16}
+use Rattle.v1_core.specs.declared.block.Block.TheVariants.{Verify, Ingress, Egress, Compute, Deparse}
+use Rattle.v1_core.specs.Surroundings.{Setting}
+use Rattle.v1_core.specs.Layouts.{Layout}
+use Rattle.v1_core.specs.Programs.{layout16}
 use Rattle.v1_ready_blocks.specs.Tables.{Fill}
 use Rattle.v1_control_run.specs.Prepared.{DoesControl, DoesParser}
 use Rattle.v1model_runner.specs.declared.ready.ReadyBlocks.{ReadyBlocks}

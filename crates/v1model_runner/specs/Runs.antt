@@ -4,9 +4,9 @@ use Rattle.state_store.specs.declared.ports.Session.{Session}
 use Rattle.fabric.specs.declared.packets.Arrival.{Arrival}
 use Rattle.fabric.specs.declared.packets.Out.{Out}
 use Rattle.fabric.specs.Fabric.{followed, one_of}
-use Rattle.v1_sem.specs.Surroundings.{Setting}
-use Rattle.v1_sem.specs.Passes.{Between}
-use Rattle.v1_sem.specs.Runs.{Run16}
+use Rattle.v1_core.specs.Surroundings.{Setting}
+use Rattle.v1_core.specs.Passes.{Between}
+use Rattle.v1_core.specs.Runs.{Run16}
 
 -- it runs this program, with the program's clone sessions, and its state is the one that the run over these packets leaves
 pub record IsBehind (c : Setting) (bound : ℕ) (arrivals : List Arrival) (runs : Setting) (sessions : List Session) (state : Between) : Type 0 where

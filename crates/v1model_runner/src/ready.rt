@@ -1,6 +1,6 @@
 // A program that is made ready.
 ghost use Rattle.std.specs.Prelude.{◌≡◌, IfOk};
-ghost use Rattle.v1_frame_values.specs.Programs.{layout16};
+ghost use Rattle.v1_core.specs.Programs.{layout16};
 ghost use Rattle.v1_control_run.specs.Prepared.{IsPrepared, objects_of, setting_of};
 ghost use Rattle.v1model_runner.specs.Ready.{AreReady};
 
@@ -12,12 +12,11 @@ use std::marker::Model;
 use v1_block_run::ReadyBlock;
 use v1_block_tables::FilledTables;
 use v1_control_run::{Prepared, PreparedBlocks};
-use v1_frames::FrameLayout;
+use v1_core::FrameLayout;
 use v1_packets::Packets;
 use v1_ready_states::ReadyParser;
 
 /// The ready blocks of a program.
-#[derive(Drop)]
 pub struct ReadyBlocks<'r> {
     /// Its parser.
     pub parser: ReadyParser,
@@ -35,9 +34,22 @@ pub struct ReadyBlocks<'r> {
     pub deparse: ReadyBlock<'r>,
 }
 
+impl Drop for ReadyBlocks<'_> {
+    fn drop(self) {
+        let ReadyBlocks {
+            parser: _parser,
+            states: _states,
+            verify: _verify,
+            ingress: _ingress,
+            egress: _egress,
+            compute: _compute,
+            deparse: _deparse,
+        } = self;
+    }
+}
+
 /// A P4_16 program with what stands in its tables, made ready to run packets. The layout of its frames and the entries are lent.
 /// Contracts see the program with its entries.
-#[derive(Drop)]
 pub struct ReadyProgram16<'r> {
     packets: Packets<'r>,
     layout: &'r FrameLayout,
@@ -46,8 +58,20 @@ pub struct ReadyProgram16<'r> {
     blocks: ReadyBlocks<'r>,
 }
 
+impl Drop for ReadyProgram16<'_> {
+    fn drop(self) {
+        let ReadyProgram16 {
+            packets: _packets,
+            layout: _layout,
+            entries: _entries,
+            fill: _fill,
+            blocks: _blocks,
+        } = self;
+    }
+}
+
 impl<'r> Model for ReadyProgram16<'r> {
-    ghost use Rattle.v1_sem.specs.Surroundings.{Setting};
+    ghost use Rattle.v1_core.specs.Surroundings.{Setting};
     ghost use Rattle.v1_control_run.specs.Running.{coded_setting};
     ghost use Rattle.v1model_runner.specs.Ready.{IsReady};
 

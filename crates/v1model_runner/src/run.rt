@@ -6,9 +6,9 @@ ghost use Rattle.match_core.specs.Signatures.{IsSignature};
 ghost use Rattle.match_core.specs.Stores.{first_store};
 ghost use Rattle.fabric.specs.Numbers.{HasPort, IsBound};
 ghost use Rattle.fabric.specs.declared.packets.Arrival.{Arrival as Came};
-ghost use Rattle.v1_sem.specs.Surroundings.{Setting};
-ghost use Rattle.v1_sem.specs.Signatures.{signature16};
-ghost use Rattle.v1_sem.specs.Runs.{Run16, Work16};
+ghost use Rattle.v1_core.specs.Surroundings.{Setting};
+ghost use Rattle.v1_core.specs.Signatures.{signature16};
+ghost use Rattle.v1_core.specs.Runs.{Run16, Work16};
 ghost use Rattle.v1_passes.specs.Runs.{between_of};
 ghost use Rattle.v1model_runner.specs.Runs.{ComesNext, IsBehind};
 

@@ -7,11 +7,11 @@ use std::marker::Model;
 
 /// Items of which the last one put is the first one taken. Contracts see the list of them, the next one first.
 #[derive(Drop)]
-pub struct Stack<T: Drop> {
+pub struct Stack<T> {
     items: Vec<T>,
 }
 
-impl<T: Drop> Model for Stack<T> {
+impl<T> Model for Stack<T> {
     ghost use Rattle.std.specs.Prelude.{List, reverse};
 
     ghost Value = { List T };
@@ -19,7 +19,7 @@ impl<T: Drop> Model for Stack<T> {
     ghost view = { λ s. reverse s.items.items };
 }
 
-impl<T: Drop> Stack<T> {
+impl<T> Stack<T> {
     /// Nothing. It takes no memory.
     pub fn new(alloc: Global) -> Self
         ensures { result ≡ [] }
@@ -29,6 +29,16 @@ impl<T: Drop> Stack<T> {
         }
     }
 
+    /// Takes the item in front, if there is one.
+    pub fn pop(&mut self) -> Option<T>
+        ensures { MatchOption result ((self.old ≡ []) × (self.new ≡ [])) (λ x. self.old ≡ x ∷ self.new) }
+    {
+        self.items.pop()
+    }
+}
+
+// What lets go of items.
+impl<T: Drop> Stack<T> {
     /// Puts one item in front.
     pub fn push(&mut self, item: T) -> Result<(), OutOfMemory>
         ensures { OnOk result (self.new ≡ item ∷ self.old) }
@@ -51,12 +61,5 @@ impl<T: Drop> Stack<T> {
     {
         self.push(third)?;
         self.push_two(first, second)
-    }
-
-    /// Takes the item in front, if there is one.
-    pub fn pop(&mut self) -> Option<T>
-        ensures { MatchOption result ((self.old ≡ []) × (self.new ≡ [])) (λ x. self.old ≡ x ∷ self.new) }
-    {
-        self.items.pop()
     }
 }

@@ -1,6 +1,6 @@
 -- Expressions and statements that are put over earlier ones, which keep their places (this project's own).
 use Rattle.std.specs.Prelude.{◌≡◌, ℕ, ◌<◌, length}
-use Rattle.p416_ast.specs.Tree.{Exp16, Stmt16, Trees, exp_at, stmt_at, Keeps}
+use Rattle.p416_syntax.specs.Tree.{Exp16, Stmt16, Trees, exp_at, stmt_at, Keeps}
 
 -- this expression stands at the place
 pub record MakesExp (old new : Trees) (i : ℕ) (e : Exp16) : Type 0 where

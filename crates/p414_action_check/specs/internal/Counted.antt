@@ -2,19 +2,19 @@
 use Rattle.std.specs.Prelude.{ℕ, ◌+◌, max, min, Bool, ◌&&◌, true, false, cond, is_some, nat_lt, List, [], ◌∷◌, map, filter_map, sum_by, slice_index, Option, Some, None}
 use Rattle.std.specs.List.{list_any}
 use Rattle.std.specs.Option.{option_map_or}
-use Rattle.p414_ast.specs.declared.calculations.FieldListCalculation.{FieldListCalculation}
-use Rattle.p414_ast.specs.declared.tables.Table.{Table}
-use Rattle.p414_ast.specs.declared.syntax.Decl.{Decl}
-use Rattle.p414_ast.specs.declared.syntax.Sort.TheVariants as sort
-use Rattle.p414_rules.specs.declared.place.ArgumentPlace.{ArgumentPlace}
-use Rattle.p414_rules.specs.declared.place.ArgumentPlace.TheVariants as place
-use Rattle.p414_rules.specs.Names.{Name, number_of}
-use Rattle.p414_rules.specs.Uses.{first_place, further_places}
-use Rattle.p414_rules.specs.Expansion.{list_number}
-use Rattle.p414_rules.specs.Lists.{calculation_in}
-use Rattle.p414_rules.specs.Arguments.{Argument, name_argument, Invocation, invocations_of, actions, action_number, PlacedArgument, placed_in}
-use Rattle.p414_rules.specs.ActionExpansion.{called_in}
-use Rattle.p414_rules.specs.Actions.{distinct_listed}
+use Rattle.p414_syntax.specs.declared.calculations.FieldListCalculation.{FieldListCalculation}
+use Rattle.p414_syntax.specs.declared.tables.Table.{Table}
+use Rattle.p414_syntax.specs.declared.syntax.Decl.{Decl}
+use Rattle.p414_syntax.specs.declared.syntax.Sort.TheVariants as sort
+use Rattle.p414_syntax.specs.declared.place.ArgumentPlace.{ArgumentPlace}
+use Rattle.p414_syntax.specs.declared.place.ArgumentPlace.TheVariants as place
+use Rattle.p414_syntax.specs.Names.{Name, number_of}
+use Rattle.p414_syntax.specs.Uses.{first_place, further_places}
+use Rattle.p414_syntax.specs.Expansion.{list_number}
+use Rattle.p414_syntax.specs.Lists.{calculation_in}
+use Rattle.p414_syntax.specs.Arguments.{Argument, name_argument, Invocation, invocations_of, actions, action_number, PlacedArgument, placed_in}
+use Rattle.p414_syntax.specs.ActionExpansion.{called_in}
+use Rattle.p414_syntax.specs.Actions.{distinct_listed}
 
 -- each action leads to the actions that it calls
 abbrev pub action_graph : List Decl → List (List ℕ)

@@ -1,11 +1,11 @@
 -- What is known where C15 is asked.
 use Rattle.std.specs.Prelude.{◌≡◌, ℕ, false, List}
 use Rattle.digraph.specs.Expansions.{AreSizes}
-use Rattle.p414_ast.specs.declared.syntax.Decl.{Decl}
-use Rattle.p414_rules.specs.Twice.{declares_twice}
-use Rattle.p414_rules.specs.Unknown.{has_unknown_name}
-use Rattle.p414_rules.specs.Lists.{HoldsItself}
-use Rattle.p414_rules.specs.Calls.{has_wrong_call}
+use Rattle.p414_syntax.specs.declared.syntax.Decl.{Decl}
+use Rattle.p414_syntax.specs.Twice.{declares_twice}
+use Rattle.p414_syntax.specs.Unknown.{has_unknown_name}
+use Rattle.p414_syntax.specs.Lists.{HoldsItself}
+use Rattle.p414_syntax.specs.Calls.{has_wrong_call}
 use Rattle.p414_list_check.specs.Lengths.{AreLengths}
 use Rattle.p414_action_check.specs.internal.Counted.{action_graph, input_lengths, own_counts}
 

@@ -1,7 +1,7 @@
 -- The names of a program that breaks no rule of declarations.
 use Rattle.std.specs.Prelude.{◌≡◌, List, Result, Ok, Err}
-use Rattle.p414_ast.specs.declared.syntax.Decl.{Decl}
-use Rattle.p414_rules.specs.Breaks.{BreaksNone, declaration_rules}
+use Rattle.p414_syntax.specs.declared.syntax.Decl.{Decl}
+use Rattle.p414_syntax.specs.Breaks.{BreaksNone, declaration_rules}
 use Rattle.p414_body_check.specs.declared.fault.Check14.{Check14}
 use Rattle.p414_body_check.specs.internal.Steps.{Keeps}
 

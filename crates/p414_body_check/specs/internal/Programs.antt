@@ -1,7 +1,7 @@
 -- What is kept of a program.
 use Rattle.std.specs.Prelude.{◌≡◌, List}
-use Rattle.p414_ast.specs.declared.syntax.Syntax14.{Syntax14}
-use Rattle.p414_rules.specs.Names.{Name}
+use Rattle.p414_syntax.specs.declared.syntax.Syntax14.{Syntax14}
+use Rattle.p414_syntax.specs.Names.{Name}
 use Rattle.p414_numbers.specs.Sorts.{names_by_sort}
 use Rattle.p414_body_check.specs.Answers.{IsAccepted}
 

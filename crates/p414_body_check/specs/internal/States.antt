@@ -1,7 +1,7 @@
 -- The graph of a program's parser states, with all that is known of it.
 use Rattle.std.specs.Prelude.{◌≡◌, ◌↔◌, ℕ, List}
-use Rattle.p414_ast.specs.declared.syntax.Decl.{Decl}
-use Rattle.p414_rules.specs.ParserGraph.{HasIdleCycle}
+use Rattle.p414_syntax.specs.declared.syntax.Decl.{Decl}
+use Rattle.p414_syntax.specs.ParserGraph.{HasIdleCycle}
 use Rattle.parse_graph.specs.declared.nodes.Graph.{Graph}
 use Rattle.parse_graph.specs.Graphs.{IsWhole, IsIdle}
 use Rattle.parse_graph.specs.Programs.{IsGraph, BeginsInStart}

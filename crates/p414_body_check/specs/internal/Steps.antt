@@ -1,9 +1,9 @@
 -- What each step of the check answers.
 use Rattle.std.specs.Prelude.{◌≡◌, List, [], ◌∷◌, ◌++◌, Result, Ok, Err}
-use Rattle.p414_ast.specs.declared.syntax.Decl.{Decl}
-use Rattle.p414_rules.specs.declared.rule.ProgramRule.{ProgramRule}
-use Rattle.p414_rules.specs.declared.rule.ProgramRule.TheVariants.{C11, C12, C13, C14, C15, C16, C17, C18, C19, C20, C21, C22, C23, C24, C25, C26, C27, C28}
-use Rattle.p414_rules.specs.Breaks.{IsFirstBroken, BreaksNone, rule_fault}
+use Rattle.p414_syntax.specs.declared.syntax.Decl.{Decl}
+use Rattle.p414_syntax.specs.declared.rule.ProgramRule.{ProgramRule}
+use Rattle.p414_syntax.specs.declared.rule.ProgramRule.TheVariants.{C11, C12, C13, C14, C15, C16, C17, C18, C19, C20, C21, C22, C23, C24, C25, C26, C27, C28}
+use Rattle.p414_syntax.specs.Breaks.{IsFirstBroken, BreaksNone, rule_fault}
 use Rattle.p414_body_check.specs.declared.fault.Check14.{Check14}
 use Rattle.p414_body_check.specs.declared.fault.Check14.TheVariants.{Memory, Refused}
 

@@ -2,13 +2,13 @@
 use Rattle.std.specs.Prelude.{Bool, false, not, List, [], ◌∷◌, flat_map, Option, Some, None, option_and_then}
 use Rattle.std.specs.List.{list_any}
 use Rattle.std.specs.Option.{option_map_or}
-use Rattle.p414_ast.specs.declared.actions.Action.{Action}
-use Rattle.p414_ast.specs.declared.syntax.Decl.{Decl}
-use Rattle.p414_ast.specs.declared.syntax.Sort.TheVariants as sort
-use Rattle.p414_rules.specs.declared.place.ArgumentPlace.{ArgumentPlace}
-use Rattle.p414_rules.specs.Names.{Name, declaration_of}
-use Rattle.p414_rules.specs.Arguments.{Argument, Invocation, action_in, PlacedArgument, placed_argument, placed_in, wanted_of}
-use Rattle.p414_rules.specs.Calls.{takes, takes_others, is_wrong_call}
+use Rattle.p414_syntax.specs.declared.actions.Action.{Action}
+use Rattle.p414_syntax.specs.declared.syntax.Decl.{Decl}
+use Rattle.p414_syntax.specs.declared.syntax.Sort.TheVariants as sort
+use Rattle.p414_syntax.specs.declared.place.ArgumentPlace.{ArgumentPlace}
+use Rattle.p414_syntax.specs.Names.{Name, declaration_of}
+use Rattle.p414_syntax.specs.Arguments.{Argument, Invocation, action_in, PlacedArgument, placed_argument, placed_in, wanted_of}
+use Rattle.p414_syntax.specs.Calls.{takes, takes_others, is_wrong_call}
 
 -- the action that is declared by a name
 abbrev pub declared_action : List Decl → Name → Option Action

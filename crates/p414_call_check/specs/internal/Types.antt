@@ -3,7 +3,7 @@ use Rattle.std.specs.Prelude.{Bool, false, not, List, [], ◌∷◌, Option, Som
 use Rattle.std.specs.List.{list_all}
 use Rattle.std.specs.Option.{option_map_or}
 use Rattle.std.specs.Str.{bytes_eq}
-use Rattle.p414_rules.specs.Names.{Name}
+use Rattle.p414_syntax.specs.Names.{Name}
 
 -- the first of these names
 abbrev pub first_of : List Name → Option Name

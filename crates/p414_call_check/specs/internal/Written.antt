@@ -1,11 +1,11 @@
 -- What statements of parser states and arguments write, one by one.
 use Rattle.std.specs.Prelude.{Bool, List}
 use Rattle.std.specs.List.{list_any}
-use Rattle.p414_ast.specs.declared.parsers.PStmt.{PStmt}
-use Rattle.p414_ast.specs.declared.syntax.Decl.{Decl}
-use Rattle.p414_rules.specs.Arguments.{PlacedArgument}
-use Rattle.p414_rules.specs.Targets.{statements_in, extracted_in, set_in, target_of, is_no_header, is_no_metadata_field, is_read_only}
-use Rattle.p414_rules.specs.Unsupported.{is_group_field}
+use Rattle.p414_syntax.specs.declared.parsers.PStmt.{PStmt}
+use Rattle.p414_syntax.specs.declared.syntax.Decl.{Decl}
+use Rattle.p414_syntax.specs.Arguments.{PlacedArgument}
+use Rattle.p414_syntax.specs.Targets.{statements_in, extracted_in, set_in, target_of, is_no_header, is_no_metadata_field, is_read_only}
+use Rattle.p414_syntax.specs.Unsupported.{is_group_field}
 
 abbrev pub extracts_no_header : List Decl → PStmt → Bool
 extracts_no_header ds s = list_any (is_no_header ds) (extracted_in s)

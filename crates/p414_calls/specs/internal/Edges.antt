@@ -1,9 +1,9 @@
 -- The actions of a program as a graph, while it is built.
 use Rattle.std.specs.Prelude.{ℕ, List, [], ◌∷◌, filter_map}
 use Rattle.digraph.specs.Graphs.{with_edge}
-use Rattle.p414_ast.specs.declared.syntax.Decl.{Decl}
-use Rattle.p414_rules.specs.Arguments.{Invocation}
-use Rattle.p414_rules.specs.ActionExpansion.{callee_number}
+use Rattle.p414_syntax.specs.declared.syntax.Decl.{Decl}
+use Rattle.p414_syntax.specs.Arguments.{Invocation}
+use Rattle.p414_syntax.specs.ActionExpansion.{callee_number}
 
 -- a graph with further edges from its last node
 abbrev pub with_edges : List (List ℕ) → List ℕ → List (List ℕ)

@@ -1,12 +1,12 @@
 -- How deep blocks nest within a statement, where it is known how deep they nest within each control.
 use Rattle.std.specs.Prelude.{◌≡◌, ℕ, ◌+◌, ◌<◌, max, min, List, [], ◌∷◌, length, slice_get, slice_index, Some}
 use Rattle.std.specs.Option.{option_map_or}
-use Rattle.p414_ast.specs.declared.syntax.Decl.{Decl}
-use Rattle.p414_ast.specs.Tree.{Stmt, no_statements, then, apply, apply_branches, if_then, call, no_else, else_block, else_if, no_branches, branch}
-use Rattle.p414_ast.specs.Views.{ControlTree}
-use Rattle.p414_rules.specs.Names.{Name}
-use Rattle.p414_rules.specs.ControlExpansion.{controls, control_number, StatementExpands}
-use Rattle.p414_rules.specs.Nesting.{nesting}
+use Rattle.p414_syntax.specs.declared.syntax.Decl.{Decl}
+use Rattle.p414_syntax.specs.Tree.{Stmt, no_statements, then, apply, apply_branches, if_then, call, no_else, else_block, else_if, no_branches, branch}
+use Rattle.p414_syntax.specs.Views.{ControlTree}
+use Rattle.p414_syntax.specs.Names.{Name}
+use Rattle.p414_syntax.specs.ControlExpansion.{controls, control_number, StatementExpands}
+use Rattle.p414_syntax.specs.Nesting.{nesting}
 use Rattle.p414_control_check.specs.declared.depth.Level.{Level}
 
 -- how deep blocks nest within a control by its name; 0 where there is none

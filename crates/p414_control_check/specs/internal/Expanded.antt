@@ -1,12 +1,12 @@
 -- The controls of a program as a graph, and what is counted of their statements.
 use Rattle.std.specs.Prelude.{ℕ, ◌+◌, min, slice_index, List, map, sum_by}
 use Rattle.std.specs.Option.{option_map_or}
-use Rattle.p414_ast.specs.declared.syntax.Decl.{Decl}
-use Rattle.p414_ast.specs.Subtrees.{subtrees}
-use Rattle.p414_ast.specs.Views.{ControlTree}
-use Rattle.p414_rules.specs.Names.{Name}
-use Rattle.p414_rules.specs.ControlExpansion.{controls, control_number, calls_in, ingress, egress}
-use Rattle.p414_rules.specs.Controls.{own_count}
+use Rattle.p414_syntax.specs.declared.syntax.Decl.{Decl}
+use Rattle.p414_syntax.specs.Subtrees.{subtrees}
+use Rattle.p414_syntax.specs.Views.{ControlTree}
+use Rattle.p414_syntax.specs.Names.{Name}
+use Rattle.p414_syntax.specs.ControlExpansion.{controls, control_number, calls_in, ingress, egress}
+use Rattle.p414_syntax.specs.Controls.{own_count}
 
 -- the numbers of the controls that each control calls, in order
 abbrev pub control_graph : List Decl → List (List ℕ)

@@ -1,7 +1,7 @@
 -- The controls of a program, ready to run, `ingress` and `egress` among them (P4_14 1.0.5, "Packet Processing and Control Flow").
 use Rattle.std.specs.Prelude.{◌≡◌, List}
-use Rattle.p414_ast.specs.declared.syntax.Decl.{Decl}
-use Rattle.p414_rules.specs.ControlExpansion.{control_number, ingress, egress}
+use Rattle.p414_syntax.specs.declared.syntax.Decl.{Decl}
+use Rattle.p414_syntax.specs.ControlExpansion.{control_number, ingress, egress}
 use Rattle.p414_ready_controls.specs.Nodes.{control_nodes}
 use Rattle.p414_control_run.specs.declared.bodies.Bodies.{Bodies}
 

@@ -1,13 +1,13 @@
 -- The rules that are truth values, behind C1: without C1 there are no names to ask the others with.
 use Rattle.std.specs.Prelude.{Bool, false, if◌then◌else◌, List, [], ◌∷◌, Option, Some, None}
-use Rattle.p414_ast.specs.declared.syntax.Decl.{Decl}
-use Rattle.p414_rules.specs.declared.rule.ProgramRule.{ProgramRule}
-use Rattle.p414_rules.specs.declared.rule.ProgramRule.TheVariants.{C2, C3, C4, C5, C6, C7}
-use Rattle.p414_rules.specs.Unknown.{has_unknown_name}
-use Rattle.p414_rules.specs.Widths.{has_bad_width, has_bad_layout}
-use Rattle.p414_rules.specs.Stacks.{has_bad_stack}
-use Rattle.p414_rules.specs.Selects.{has_bad_select}
-use Rattle.p414_rules.specs.Totals.{has_too_much}
+use Rattle.p414_syntax.specs.declared.syntax.Decl.{Decl}
+use Rattle.p414_syntax.specs.declared.rule.ProgramRule.{ProgramRule}
+use Rattle.p414_syntax.specs.declared.rule.ProgramRule.TheVariants.{C2, C3, C4, C5, C6, C7}
+use Rattle.p414_syntax.specs.Unknown.{has_unknown_name}
+use Rattle.p414_syntax.specs.Widths.{has_bad_width, has_bad_layout}
+use Rattle.p414_syntax.specs.Stacks.{has_bad_stack}
+use Rattle.p414_syntax.specs.Selects.{has_bad_select}
+use Rattle.p414_syntax.specs.Totals.{has_too_much}
 
 abbrev pub behind_c1 : List ProgramRule
 behind_c1 = C2 ∷ C3 ∷ C4 ∷ C5 ∷ C6 ∷ C7 ∷ []

@@ -2,13 +2,13 @@
 use Rattle.std.specs.Prelude.{◌+◌, Bool, false, ◌||◌, nat_eq, nat_lt, Option}
 use Rattle.std.specs.Option.{option_map_or}
 use Rattle.std.specs.Prelude.{List}
-use Rattle.p414_lexemes.specs.declared.lexeme.Literal.{Literal}
-use Rattle.p414_ast.specs.declared.parts.Inst.{Inst}
-use Rattle.p414_ast.specs.declared.syntax.Decl.{Decl}
-use Rattle.p414_rules.specs.Names.{Name}
-use Rattle.p414_rules.specs.Uses.{of_latest}
-use Rattle.p414_rules.specs.Unknown.{is_unknown}
-use Rattle.p414_rules.specs.Widths.{is_bad_width}
+use Rattle.p414_syntax.specs.declared.lexeme.Literal.{Literal}
+use Rattle.p414_syntax.specs.declared.parts.Inst.{Inst}
+use Rattle.p414_syntax.specs.declared.syntax.Decl.{Decl}
+use Rattle.p414_syntax.specs.Names.{Name}
+use Rattle.p414_syntax.specs.Uses.{of_latest}
+use Rattle.p414_syntax.specs.Unknown.{is_unknown}
+use Rattle.p414_syntax.specs.Widths.{is_bad_width}
 
 -- what was extracted last lacks the field
 abbrev pub lacks_field : List Decl → Option Inst → Name → Bool

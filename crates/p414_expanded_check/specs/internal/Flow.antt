@@ -2,13 +2,13 @@
 use Rattle.std.specs.Prelude.{◌≡◌, ℕ, ◌+◌, Bool, true, false, ◌||◌, ◌&&◌, List, [], ◌∷◌, ◌++◌, length, map, flat_map, replicate, slice_get, slice_index, slice_index_or, slice_set, Option, Some, None, if◌then◌else◌}
 use Rattle.std.specs.List.{list_any}
 use Rattle.digraph.specs.Graphs.{Among, IsEdge}
-use Rattle.p414_ast.specs.declared.actions.Action.{Action}
-use Rattle.p414_ast.specs.declared.syntax.Decl.{Decl}
-use Rattle.p414_rules.specs.declared.place.ArgumentPlace.{ArgumentPlace}
-use Rattle.p414_rules.specs.declared.place.ArgumentPlace.TheVariants as place
-use Rattle.p414_rules.specs.Primitives.{primitive_places}
-use Rattle.p414_rules.specs.Uses.{first_place, further_places}
-use Rattle.p414_rules.specs.Arguments.{Argument, parameter_argument, Invocation, invocations_of, actions, action_number}
+use Rattle.p414_syntax.specs.declared.actions.Action.{Action}
+use Rattle.p414_syntax.specs.declared.syntax.Decl.{Decl}
+use Rattle.p414_syntax.specs.declared.place.ArgumentPlace.{ArgumentPlace}
+use Rattle.p414_syntax.specs.declared.place.ArgumentPlace.TheVariants as place
+use Rattle.p414_syntax.specs.Primitives.{primitive_places}
+use Rattle.p414_syntax.specs.Uses.{first_place, further_places}
+use Rattle.p414_syntax.specs.Arguments.{Argument, parameter_argument, Invocation, invocations_of, actions, action_number}
 use Rattle.p414_action_check.specs.internal.Counted.{action_graph}
 use Rattle.p414_expanded_check.specs.declared.flow.Pass.{Pass}
 use Rattle.p414_expanded_check.specs.internal.Passing.{refuses}

@@ -1,11 +1,11 @@
 -- Where the parameters of actions end, when calls of actions are expanded, and what is given for them.
 use Rattle.std.specs.Prelude.{◌≡◌, ◌⊎◌, ℕ, Bool, true, false, not, List, [], ◌∷◌, slice_get, Some, None}
-use Rattle.p414_ast.specs.declared.actions.Action.{Action}
-use Rattle.p414_ast.specs.declared.syntax.Decl.{Decl}
-use Rattle.p414_rules.specs.declared.place.ArgumentPlace.{ArgumentPlace}
-use Rattle.p414_rules.specs.Primitives.{primitive_places}
-use Rattle.p414_rules.specs.Arguments.{Argument, number_argument, field_argument, parameter_argument, Invocation, invocations_of, actions, action_number, placed, placed_argument}
-use Rattle.p414_rules.specs.Calls.{takes_number, takes_field}
+use Rattle.p414_syntax.specs.declared.actions.Action.{Action}
+use Rattle.p414_syntax.specs.declared.syntax.Decl.{Decl}
+use Rattle.p414_syntax.specs.declared.place.ArgumentPlace.{ArgumentPlace}
+use Rattle.p414_syntax.specs.Primitives.{primitive_places}
+use Rattle.p414_syntax.specs.Arguments.{Argument, number_argument, field_argument, parameter_argument, Invocation, invocations_of, actions, action_number, placed, placed_argument}
+use Rattle.p414_syntax.specs.Calls.{takes_number, takes_field}
 
 -- x stands in the list
 abbrev pub In : {X : Type 0} → X → List X → Type 0

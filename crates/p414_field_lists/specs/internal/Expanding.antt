@@ -1,12 +1,12 @@
 -- The rows of a list whose inner lists are ready.
 use Rattle.std.specs.Prelude.{ℕ, List, [], flat_map, slice_get, Option, Some, None}
 use Rattle.std.specs.Option.{option_map_or}
-use Rattle.p414_ast.specs.declared.calculations.FieldList.{FieldList}
-use Rattle.p414_ast.specs.declared.calculations.Item.{Item}
-use Rattle.p414_ast.specs.declared.parts.Inst.{Inst}
-use Rattle.p414_ast.specs.declared.syntax.Decl.{Decl}
-use Rattle.p414_rules.specs.Names.{Name}
-use Rattle.p414_rules.specs.Expansion.{lists, inner_number, own_items}
+use Rattle.p414_syntax.specs.declared.calculations.FieldList.{FieldList}
+use Rattle.p414_syntax.specs.declared.calculations.Item.{Item}
+use Rattle.p414_syntax.specs.declared.parts.Inst.{Inst}
+use Rattle.p414_syntax.specs.declared.syntax.Decl.{Decl}
+use Rattle.p414_syntax.specs.Names.{Name}
+use Rattle.p414_syntax.specs.Expansion.{lists, inner_number, own_items}
 use Rattle.p414_field_lists.specs.declared.rows.ItemRow.{ItemRow}
 use Rattle.p414_field_lists.specs.Rows.{field_row, rows_of, rows_at}
 

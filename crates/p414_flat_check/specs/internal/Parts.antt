@@ -1,7 +1,7 @@
 -- What the code asks of a part of a declaration or an expression.
 use Rattle.std.specs.Prelude.{Bool, true, false, Option, Some, None}
-use Rattle.p414_ast.specs.Tree.{Expr, valid, truth, field, number, parenthesized, unary, binary}
-use Rattle.p414_rules.specs.Expressions.{is_not, gives_truth}
+use Rattle.p414_syntax.specs.Tree.{Expr, valid, truth, field, number, parenthesized, unary, binary}
+use Rattle.p414_syntax.specs.Expressions.{is_not, gives_truth}
 
 -- what stands in the outer parentheses, where the expression stands in them
 abbrev pub inner_of : Expr → Option Expr

@@ -1,8 +1,8 @@
 -- Expressions that are still to be walked, each with how deep it may be.
 use Rattle.std.specs.Prelude.{ℕ, ◌-◌, Bool, nat_lt, List, [], ◌∷◌, length}
-use Rattle.p414_ast.specs.Tree.{Expr, valid, truth, field, number, parenthesized, unary, binary}
-use Rattle.p414_ast.specs.Subtrees.{subexpressions}
-use Rattle.p414_rules.specs.Nesting.{depth}
+use Rattle.p414_syntax.specs.Tree.{Expr, valid, truth, field, number, parenthesized, unary, binary}
+use Rattle.p414_syntax.specs.Subtrees.{subexpressions}
+use Rattle.p414_syntax.specs.Nesting.{depth}
 use Rattle.p414_flat_check.specs.declared.depths.Room.{Room}
 
 abbrev pub room : ℕ → Expr → Room

@@ -1,13 +1,13 @@
 -- The field lists of a program as a graph, and what is counted of their items.
 use Rattle.std.specs.Prelude.{ℕ, ◌+◌, min, List, [], ◌∷◌, map, flat_map, sum_by, slice_index, Option, Some, None}
 use Rattle.digraph.specs.Graphs.{with_edge}
-use Rattle.p414_ast.specs.declared.calculations.Calc.{Calc}
-use Rattle.p414_ast.specs.declared.calculations.CalculatedField.{CalculatedField}
-use Rattle.p414_ast.specs.declared.calculations.FieldList.{FieldList}
-use Rattle.p414_ast.specs.declared.calculations.Item.{Item}
-use Rattle.p414_ast.specs.declared.syntax.Decl.{Decl}
-use Rattle.p414_rules.specs.Expansion.{lists, list_number, inner_numbers}
-use Rattle.p414_rules.specs.Lists.{calculated_fields, input_of}
+use Rattle.p414_syntax.specs.declared.calculations.Calc.{Calc}
+use Rattle.p414_syntax.specs.declared.calculations.CalculatedField.{CalculatedField}
+use Rattle.p414_syntax.specs.declared.calculations.FieldList.{FieldList}
+use Rattle.p414_syntax.specs.declared.calculations.Item.{Item}
+use Rattle.p414_syntax.specs.declared.syntax.Decl.{Decl}
+use Rattle.p414_syntax.specs.Expansion.{lists, list_number, inner_numbers}
+use Rattle.p414_syntax.specs.Lists.{calculated_fields, input_of}
 
 -- the numbers of the lists that stand in a list, and all lists with these
 abbrev pub list_row : List Decl → FieldList → List ℕ

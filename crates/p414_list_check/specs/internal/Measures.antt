@@ -1,12 +1,12 @@
 -- What is counted of the items of field lists.
 use Rattle.std.specs.Prelude.{ℕ, Bool, false, cond, is_some, nat_lt, List, length, Option, Some, None}
-use Rattle.p414_ast.specs.declared.parts.Inst.{Inst}
-use Rattle.p414_ast.specs.declared.calculations.Item.{Item}
-use Rattle.p414_ast.specs.declared.calculations.Item.TheVariants as item
-use Rattle.p414_ast.specs.declared.syntax.Decl.{Decl}
-use Rattle.p414_rules.specs.Primitives.{is_standard}
-use Rattle.p414_rules.specs.Expansion.{inner_by_name, fields_of}
-use Rattle.p414_rules.specs.Lists.{is_standard_item}
+use Rattle.p414_syntax.specs.declared.parts.Inst.{Inst}
+use Rattle.p414_syntax.specs.declared.calculations.Item.{Item}
+use Rattle.p414_syntax.specs.declared.calculations.Item.TheVariants as item
+use Rattle.p414_syntax.specs.declared.syntax.Decl.{Decl}
+use Rattle.p414_syntax.specs.Primitives.{is_standard}
+use Rattle.p414_syntax.specs.Expansion.{inner_by_name, fields_of}
+use Rattle.p414_syntax.specs.Lists.{is_standard_item}
 use Rattle.p414_list_check.specs.declared.expanded.Measure.{Measure}
 use Rattle.p414_list_check.specs.declared.expanded.Measure.TheVariants.{Items, Standard}
 

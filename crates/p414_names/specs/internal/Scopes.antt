@@ -1,10 +1,10 @@
 -- The names of a sort while they are gathered.
 use Rattle.std.specs.Prelude.{◌≡◌, Bool, true, false, List, [], ◌∷◌, ◌++◌, Option, Some, None}
 use Rattle.std.specs.Option.{option_map_or}
-use Rattle.p414_ast.specs.declared.syntax.Decl.{Decl}
-use Rattle.p414_ast.specs.declared.syntax.Sort.{Sort}
-use Rattle.p414_rules.specs.Names.{Name, name_in, names_in, declared_in, has_name}
-use Rattle.p414_rules.specs.Twice.{is_reserved}
+use Rattle.p414_syntax.specs.declared.syntax.Decl.{Decl}
+use Rattle.p414_syntax.specs.declared.syntax.Sort.{Sort}
+use Rattle.p414_syntax.specs.Names.{Name, name_in, names_in, declared_in, has_name}
+use Rattle.p414_syntax.specs.Twice.{is_reserved}
 use Rattle.p414_names.specs.declared.scope.Gathered.{Gathered}
 
 -- all names and declarations of the sort, in order

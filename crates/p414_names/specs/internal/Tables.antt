@@ -1,11 +1,11 @@
 -- The tables of names.
 use Rattle.std.specs.Prelude.{◌≡◌, ℕ, ◌≤◌, List, length, map, slice_get, Option, option_and_then}
-use Rattle.p414_ast.specs.declared.syntax.Decl.{Decl}
-use Rattle.p414_ast.specs.declared.syntax.Sort.{Sort}
-use Rattle.p414_ast.specs.Views.{HeaderTypeTree}
-use Rattle.p414_rules.specs.Names.{Name}
-use Rattle.p414_rules.specs.Twice.{sorts}
-use Rattle.p414_rules.specs.Fields.{types, instance_of, type_name_in, instance_type, width_in}
+use Rattle.p414_syntax.specs.declared.syntax.Decl.{Decl}
+use Rattle.p414_syntax.specs.declared.syntax.Sort.{Sort}
+use Rattle.p414_syntax.specs.Views.{HeaderTypeTree}
+use Rattle.p414_syntax.specs.Names.{Name}
+use Rattle.p414_syntax.specs.Twice.{sorts}
+use Rattle.p414_syntax.specs.Fields.{types, instance_of, type_name_in, instance_type, width_in}
 
 -- one table for each sort
 abbrev pub scope_in : List Decl → Sort → Sort × List Decl

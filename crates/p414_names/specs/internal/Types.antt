@@ -1,10 +1,10 @@
 -- The header types of a program while they are gathered.
 use Rattle.std.specs.Prelude.{◌≡◌, ℕ, ◌<◌, ◌≤◌, Bool, true, false, List, [], ◌∷◌, ◌++◌, map, Option, Some, None}
-use Rattle.p414_ast.specs.Views.{HeaderTypeTree}
-use Rattle.p414_rules.specs.Names.{Name, field_name}
-use Rattle.p414_rules.specs.Fields.{type_bits}
-use Rattle.p414_rules.specs.Widths.{is_unaligned}
-use Rattle.p414_rules.specs.Twice.{has_field_twice}
+use Rattle.p414_syntax.specs.Views.{HeaderTypeTree}
+use Rattle.p414_syntax.specs.Names.{Name, field_name}
+use Rattle.p414_syntax.specs.Fields.{type_bits}
+use Rattle.p414_syntax.specs.Widths.{is_unaligned}
+use Rattle.p414_syntax.specs.Twice.{has_field_twice}
 
 -- a header type, if there is one, is put behind these, unless two of its fields have one name
 abbrev pub IsTypePut : List HeaderTypeTree → List HeaderTypeTree → Option HeaderTypeTree → Bool → Type 0

@@ -1,11 +1,11 @@
 -- The parameters of an action while its calls are gone through: each with the most bits that were asked of it so far.
 use Rattle.std.specs.Prelude.{ℕ, ◌+◌, max, Bool, ◌&&◌, if◌then◌else◌, List, [], ◌∷◌, length, map, filter_map, fold, replicate, slice_index_or, slice_set, Option, Some, None, codes, unwrap_or}
 use Rattle.std.specs.Str.{bytes_eq}
-use Rattle.p414_ast.specs.declared.actions.Action.{Action}
-use Rattle.p414_ast.specs.declared.syntax.Decl.{Decl}
-use Rattle.p414_rules.specs.declared.place.ArgumentPlace.{ArgumentPlace}
-use Rattle.p414_rules.specs.Names.{Name, has_name}
-use Rattle.p414_rules.specs.Arguments.{Argument, parameter_argument, Invocation, PlacedArgument, placed_argument, placed_in, action_number}
+use Rattle.p414_syntax.specs.declared.actions.Action.{Action}
+use Rattle.p414_syntax.specs.declared.syntax.Decl.{Decl}
+use Rattle.p414_syntax.specs.declared.place.ArgumentPlace.{ArgumentPlace}
+use Rattle.p414_syntax.specs.Names.{Name, has_name}
+use Rattle.p414_syntax.specs.Arguments.{Argument, parameter_argument, Invocation, PlacedArgument, placed_argument, placed_in, action_number}
 use Rattle.p414_sem.specs.Signatures.{indexed, first_of, is_unsigned, register_bits, target_bits}
 
 -- an argument with its place, if it has one

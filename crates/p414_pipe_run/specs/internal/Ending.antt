@@ -8,8 +8,8 @@ use Rattle.fabric.specs.declared.items.EgressNext.TheVariants as after_egress
 use Rattle.fabric.specs.declared.items.IngressEnd.{IngressEnd}
 use Rattle.fabric.specs.declared.items.IngressNext.{IngressNext}
 use Rattle.fabric.specs.declared.items.IngressNext.TheVariants as after_ingress
-use Rattle.p414_ast.specs.declared.syntax.Decl.{Decl}
-use Rattle.p414_ast.specs.Tree.{Stmt}
+use Rattle.p414_syntax.specs.declared.syntax.Decl.{Decl}
+use Rattle.p414_syntax.specs.Tree.{Stmt}
 use Rattle.p414_layout.specs.Shapes.{layout_of}
 use Rattle.p414_sem.specs.CalculatedFields.{fails_verification}
 use Rattle.p414_sem.specs.Controls.{Setting, control_run}

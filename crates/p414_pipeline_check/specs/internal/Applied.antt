@@ -3,15 +3,15 @@ use Rattle.std.specs.Prelude.{◌≡◌, ℕ, ◌+◌, ◌<◌, ◌↔◌, Bool,
 use Rattle.std.specs.Bool.{MatchBool}
 use Rattle.std.specs.List.{cons_option}
 use Rattle.digraph.specs.Graphs.{Reaches}
-use Rattle.p414_ast.specs.declared.tables.Table.{Table}
-use Rattle.p414_ast.specs.declared.syntax.Decl.{Decl}
-use Rattle.p414_ast.specs.Tree.{Stmt, apply, apply_branches, call}
-use Rattle.p414_ast.specs.Subtrees.{subtrees}
-use Rattle.p414_ast.specs.Views.{ControlTree}
-use Rattle.p414_rules.specs.Names.{Name}
-use Rattle.p414_rules.specs.ControlExpansion.{controls, control_number}
-use Rattle.p414_rules.specs.Tables.{tables, table_number}
-use Rattle.p414_rules.specs.Pipelines.{IsApplied}
+use Rattle.p414_syntax.specs.declared.tables.Table.{Table}
+use Rattle.p414_syntax.specs.declared.syntax.Decl.{Decl}
+use Rattle.p414_syntax.specs.Tree.{Stmt, apply, apply_branches, call}
+use Rattle.p414_syntax.specs.Subtrees.{subtrees}
+use Rattle.p414_syntax.specs.Views.{ControlTree}
+use Rattle.p414_syntax.specs.Names.{Name}
+use Rattle.p414_syntax.specs.ControlExpansion.{controls, control_number}
+use Rattle.p414_syntax.specs.Tables.{tables, table_number}
+use Rattle.p414_syntax.specs.Pipelines.{IsApplied}
 
 -- the node of the table with this number: tables stand behind the controls
 abbrev pub table_node : List Decl → ℕ → ℕ

@@ -3,13 +3,13 @@ use Rattle.std.specs.Prelude.{◌≡◌, ℕ, ◌<◌, ◌↔◌, Bool, true, fa
 use Rattle.std.specs.Bool.{MatchBool}
 use Rattle.std.specs.List.{list_any}
 use Rattle.std.specs.Option.{option_map_or}
-use Rattle.p414_ast.specs.declared.tables.Table.{Table}
-use Rattle.p414_ast.specs.declared.syntax.Decl.{Decl}
-use Rattle.p414_rules.specs.Names.{Name}
-use Rattle.p414_rules.specs.Arguments.{Invocation, invocations_of, actions, action_number}
-use Rattle.p414_rules.specs.ActionExpansion.{called_in}
-use Rattle.p414_rules.specs.Tables.{tables, listed_in}
-use Rattle.p414_rules.specs.Pipelines.{ingress_requests, egress_requests, is_call_of, ListsRequest}
+use Rattle.p414_syntax.specs.declared.tables.Table.{Table}
+use Rattle.p414_syntax.specs.declared.syntax.Decl.{Decl}
+use Rattle.p414_syntax.specs.Names.{Name}
+use Rattle.p414_syntax.specs.Arguments.{Invocation, invocations_of, actions, action_number}
+use Rattle.p414_syntax.specs.ActionExpansion.{called_in}
+use Rattle.p414_syntax.specs.Tables.{tables, listed_in}
+use Rattle.p414_syntax.specs.Pipelines.{ingress_requests, egress_requests, is_call_of, ListsRequest}
 use Rattle.p414_pipeline_check.specs.declared.requests.Kind.{Kind}
 use Rattle.p414_pipeline_check.specs.declared.requests.Kind.TheVariants.{OfIngress, OfEgress}
 

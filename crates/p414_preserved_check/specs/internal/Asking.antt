@@ -2,17 +2,17 @@
 use Rattle.std.specs.Prelude.{Bool, true, false, not, ◌||◌, ◌&&◌, nat_lt, List, length, map, slice_get, option_and_then}
 use Rattle.std.specs.List.{list_any}
 use Rattle.std.specs.Option.{option_map_or}
-use Rattle.p414_ast.specs.declared.calculations.Item.{Item}
-use Rattle.p414_ast.specs.declared.calculations.Item.TheVariants as item
-use Rattle.p414_ast.specs.declared.syntax.Decl.{Decl}
-use Rattle.p414_ast.specs.declared.syntax.Sort.TheVariants as sort
-use Rattle.p414_rules.specs.Names.{Name, has_name, number_of, declared_in}
-use Rattle.p414_rules.specs.Primitives.{is_standard}
-use Rattle.p414_rules.specs.Targets.{is_metadata}
-use Rattle.p414_rules.specs.Expansion.{fields_of}
-use Rattle.p414_rules.specs.Distinct.{distinct}
-use Rattle.p414_rules.specs.Preserved.{initialized_in, initialized}
-use Rattle.p414_rules.specs.Payloads.{is_payload}
+use Rattle.p414_syntax.specs.declared.calculations.Item.{Item}
+use Rattle.p414_syntax.specs.declared.calculations.Item.TheVariants as item
+use Rattle.p414_syntax.specs.declared.syntax.Decl.{Decl}
+use Rattle.p414_syntax.specs.declared.syntax.Sort.TheVariants as sort
+use Rattle.p414_syntax.specs.Names.{Name, has_name, number_of, declared_in}
+use Rattle.p414_syntax.specs.Primitives.{is_standard}
+use Rattle.p414_syntax.specs.Targets.{is_metadata}
+use Rattle.p414_syntax.specs.Expansion.{fields_of}
+use Rattle.p414_syntax.specs.Distinct.{distinct}
+use Rattle.p414_syntax.specs.Preserved.{initialized_in, initialized}
+use Rattle.p414_syntax.specs.Payloads.{is_payload}
 use Rattle.p414_preserved_check.specs.declared.asking.Asked.{Asked}
 use Rattle.p414_preserved_check.specs.declared.asking.Asked.TheVariants.{NoMetadata, Initialized, Payload, Anything}
 

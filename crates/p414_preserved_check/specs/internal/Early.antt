@@ -1,12 +1,12 @@
 -- `payload` in front of another item, asked of lists that aren't expanded.
 use Rattle.std.specs.Prelude.{ℕ, Bool, false, not, ◌||◌, ◌&&◌, List, [], ◌∷◌, Option, Some, None}
 use Rattle.std.specs.List.{list_any}
-use Rattle.p414_ast.specs.declared.calculations.FieldList.{FieldList}
-use Rattle.p414_ast.specs.declared.calculations.Item.{Item}
-use Rattle.p414_ast.specs.declared.syntax.Decl.{Decl}
-use Rattle.p414_rules.specs.Names.{Name}
-use Rattle.p414_rules.specs.Expansion.{lists, inner_number}
-use Rattle.p414_rules.specs.Payloads.{is_payload}
+use Rattle.p414_syntax.specs.declared.calculations.FieldList.{FieldList}
+use Rattle.p414_syntax.specs.declared.calculations.Item.{Item}
+use Rattle.p414_syntax.specs.declared.syntax.Decl.{Decl}
+use Rattle.p414_syntax.specs.Names.{Name}
+use Rattle.p414_syntax.specs.Expansion.{lists, inner_number}
+use Rattle.p414_syntax.specs.Payloads.{is_payload}
 use Rattle.p414_preserved_check.specs.internal.Marks.{is_marked, is_marked_name, is_missing}
 use Rattle.p414_preserved_check.specs.internal.Asking.{fills_by}
 

@@ -2,14 +2,14 @@
 use Rattle.std.specs.Prelude.{ℕ, Bool, not, ◌&&◌, if◌then◌else◌, List, [], ◌∷◌, ◌++◌, flat_map}
 use Rattle.std.specs.List.{list_any}
 use Rattle.std.specs.Option.{option_map_or}
-use Rattle.p414_ast.specs.declared.syntax.Decl.{Decl}
-use Rattle.p414_rules.specs.declared.place.ArgumentPlace.{ArgumentPlace}
-use Rattle.p414_rules.specs.declared.place.ArgumentPlace.TheVariants as place
-use Rattle.p414_rules.specs.Names.{Name, has_name}
-use Rattle.p414_rules.specs.Primitives.{primitive_places}
-use Rattle.p414_rules.specs.Arguments.{Argument, name_argument, Invocation, PlacedArgument, placed}
-use Rattle.p414_rules.specs.Lists.{calculation_of, input_names}
-use Rattle.p414_rules.specs.Preserved.{list_at}
+use Rattle.p414_syntax.specs.declared.syntax.Decl.{Decl}
+use Rattle.p414_syntax.specs.declared.place.ArgumentPlace.{ArgumentPlace}
+use Rattle.p414_syntax.specs.declared.place.ArgumentPlace.TheVariants as place
+use Rattle.p414_syntax.specs.Names.{Name, has_name}
+use Rattle.p414_syntax.specs.Primitives.{primitive_places}
+use Rattle.p414_syntax.specs.Arguments.{Argument, name_argument, Invocation, PlacedArgument, placed}
+use Rattle.p414_syntax.specs.Lists.{calculation_of, input_names}
+use Rattle.p414_syntax.specs.Preserved.{list_at}
 use Rattle.p414_preserved_check.specs.declared.named.Wanted.{Wanted}
 use Rattle.p414_preserved_check.specs.declared.named.Wanted.TheVariants.{List as AList, Calculation}
 use Rattle.p414_preserved_check.specs.internal.Marks.{is_missing, is_marked_name}

@@ -2,21 +2,21 @@
 use Rattle.std.proofs.Common.{◌≡◌, ℕ, Bool, true, false, not, cond, List, [], ◌∷◌, ◌++◌, codes, Option, Some, None, refl, sym, ap, subst, append_assoc}
 use Rattle.std.specs.List.{flat_map, list_all}
 use Rattle.std.specs.Str.{bytes_eq}
-use Rattle.p414_lexemes.specs.declared.keyword.Keyword.TheVariants as key
-use Rattle.p414_lexemes.specs.declared.lexeme.Literal.{Literal}
-use Rattle.p414_lexemes.specs.declared.lexeme.Lexeme.{Lexeme}
-use Rattle.p414_lexemes.specs.declared.lexeme.Lexeme.TheVariants as lexeme
-use Rattle.p414_ast.specs.declared.parts.Index.{Index}
-use Rattle.p414_ast.specs.declared.calculations.Item.{Item}
-use Rattle.p414_ast.specs.declared.calculations.Item.TheVariants as item
-use Rattle.p414_ast.specs.declared.calculations.CalcUse.{CalcUse}
-use Rattle.p414_ast.specs.declared.calculations.CalcUse.TheVariants as calc_use
-use Rattle.p414_ast.specs.declared.calculations.CalcCond.{CalcCond}
-use Rattle.p414_ast.specs.declared.calculations.CalcCond.TheVariants as calc_cond
-use Rattle.p414_ast.specs.declared.calculations.Calc.{Calc}
-use Rattle.p414_ast.specs.Words.{name, keyword, bracket_open, bracket_close, paren_open, paren_close, semicolon, dot, equal}
-use Rattle.p414_ast.specs.Written.{written_option, written_index, written_item, written_if, written_cond, written_calc}
-use Rattle.p414_ast.specs.Conditions.{is_bare, is_item}
+use Rattle.p414_syntax.specs.declared.keyword.Keyword.TheVariants as key
+use Rattle.p414_syntax.specs.declared.lexeme.Literal.{Literal}
+use Rattle.p414_syntax.specs.declared.lexeme.Lexeme.{Lexeme}
+use Rattle.p414_syntax.specs.declared.lexeme.Lexeme.TheVariants as lexeme
+use Rattle.p414_syntax.specs.declared.parts.Index.{Index}
+use Rattle.p414_syntax.specs.declared.calculations.Item.{Item}
+use Rattle.p414_syntax.specs.declared.calculations.Item.TheVariants as item
+use Rattle.p414_syntax.specs.declared.calculations.CalcUse.{CalcUse}
+use Rattle.p414_syntax.specs.declared.calculations.CalcUse.TheVariants as calc_use
+use Rattle.p414_syntax.specs.declared.calculations.CalcCond.{CalcCond}
+use Rattle.p414_syntax.specs.declared.calculations.CalcCond.TheVariants as calc_cond
+use Rattle.p414_syntax.specs.declared.calculations.Calc.{Calc}
+use Rattle.p414_syntax.specs.Words.{name, keyword, bracket_open, bracket_close, paren_open, paren_close, semicolon, dot, equal}
+use Rattle.p414_syntax.specs.Written.{written_option, written_index, written_item, written_if, written_cond, written_calc}
+use Rattle.p414_syntax.specs.Conditions.{is_bare, is_item}
 use Rattle.p414_reader.specs.declared.symbols.Class.TheVariants as class
 use Rattle.p414_reader.specs.declared.symbols.Word.TheVariants as word
 use Rattle.p414_reader.specs.declared.symbols.CalculationWord.TheVariants as calculation

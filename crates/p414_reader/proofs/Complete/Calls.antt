@@ -1,16 +1,16 @@
 -- Actions: what is written so is read.
 use Rattle.std.proofs.Common.{ℕ, List, [], ◌∷◌, ◌++◌, Option, Some, None, refl, ap, append_assoc}
 use Rattle.std.specs.List.{flat_map}
-use Rattle.p414_lexemes.specs.declared.lexeme.Literal.{Literal}
-use Rattle.p414_lexemes.specs.declared.lexeme.Lexeme.{Lexeme}
-use Rattle.p414_lexemes.specs.declared.lexeme.Lexeme.TheVariants as lexeme
-use Rattle.p414_ast.specs.declared.parts.Sign.{Sign}
-use Rattle.p414_ast.specs.declared.parts.Sign.TheVariants as sign
-use Rattle.p414_ast.specs.declared.actions.Arg.{Arg}
-use Rattle.p414_ast.specs.declared.actions.Arg.TheVariants as arg
-use Rattle.p414_ast.specs.declared.actions.Call.{Call}
-use Rattle.p414_ast.specs.Words.{name, paren_open, paren_close, semicolon, dot, comma, plus, minus}
-use Rattle.p414_ast.specs.Written.{after_commas, by_commas, written_name, written_ref, written_arg, written_call}
+use Rattle.p414_syntax.specs.declared.lexeme.Literal.{Literal}
+use Rattle.p414_syntax.specs.declared.lexeme.Lexeme.{Lexeme}
+use Rattle.p414_syntax.specs.declared.lexeme.Lexeme.TheVariants as lexeme
+use Rattle.p414_syntax.specs.declared.parts.Sign.{Sign}
+use Rattle.p414_syntax.specs.declared.parts.Sign.TheVariants as sign
+use Rattle.p414_syntax.specs.declared.actions.Arg.{Arg}
+use Rattle.p414_syntax.specs.declared.actions.Arg.TheVariants as arg
+use Rattle.p414_syntax.specs.declared.actions.Call.{Call}
+use Rattle.p414_syntax.specs.Words.{name, paren_open, paren_close, semicolon, dot, comma, plus, minus}
+use Rattle.p414_syntax.specs.Written.{after_commas, by_commas, written_name, written_ref, written_arg, written_call}
 use Rattle.p414_reader.specs.declared.symbols.Word.TheVariants as word
 use Rattle.p414_reader.specs.declared.symbols.PartWord.TheVariants as part
 use Rattle.p414_reader.specs.declared.symbols.CallWord.TheVariants as called

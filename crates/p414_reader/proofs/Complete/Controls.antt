@@ -6,20 +6,20 @@ use Rattle.predictive_parser.specs.Machine.{Takes, Passes, next_of}
 use Rattle.predictive_parser.specs.Grammar.{Plain, move}
 use Rattle.predictive_parser.proofs.Chains.{here, then, reads, put, takes, passes, like_last}
 use Rattle.predictive_parser.proofs.Closings.{pass}
-use Rattle.p414_lexemes.specs.declared.lexeme.Lexeme.{Lexeme}
-use Rattle.p414_lexemes.specs.declared.mark.Mark.TheVariants as mark
-use Rattle.p414_ast.specs.declared.node.Label.{Label}
-use Rattle.p414_ast.specs.declared.node.Label.TheVariants as label
-use Rattle.p414_ast.specs.declared.node.UnaryOperator.{UnaryOperator}
-use Rattle.p414_ast.specs.declared.node.UnaryOperator.TheVariants as unary_operator
-use Rattle.p414_ast.specs.Tree as tree
-use Rattle.p414_ast.specs.Tree.{Expr, valid, truth, field, number, parenthesized, unary, binary, Stmt, no_statements, apply, apply_branches, if_then, call, no_else, else_block, else_if, no_branches, branch}
-use Rattle.p414_ast.specs.Words.{name, keyword, brace_open, brace_close, paren_open, paren_close, semicolon}
-use Rattle.p414_ast.specs.Operators.{unary_token, binary_token}
-use Rattle.p414_ast.specs.Written.{written_expr, written_stmt, label_text}
-use Rattle.p414_ast.specs.Conditions.{is_among, all_different, is_expr, own_labels, is_label, labels_of, is_outcome, is_mixed, are_labels, block, statement, behind_if, branches, is_stmt}
+use Rattle.p414_syntax.specs.declared.lexeme.Lexeme.{Lexeme}
+use Rattle.p414_syntax.specs.declared.mark.Mark.TheVariants as mark
+use Rattle.p414_syntax.specs.declared.node.Label.{Label}
+use Rattle.p414_syntax.specs.declared.node.Label.TheVariants as label
+use Rattle.p414_syntax.specs.declared.node.UnaryOperator.{UnaryOperator}
+use Rattle.p414_syntax.specs.declared.node.UnaryOperator.TheVariants as unary_operator
+use Rattle.p414_syntax.specs.Tree as tree
+use Rattle.p414_syntax.specs.Tree.{Expr, valid, truth, field, number, parenthesized, unary, binary, Stmt, no_statements, apply, apply_branches, if_then, call, no_else, else_block, else_if, no_branches, branch}
+use Rattle.p414_syntax.specs.Words.{name, keyword, brace_open, brace_close, paren_open, paren_close, semicolon}
+use Rattle.p414_syntax.specs.Operators.{unary_token, binary_token}
+use Rattle.p414_syntax.specs.Written.{written_expr, written_stmt, label_text}
+use Rattle.p414_syntax.specs.Conditions.{is_among, all_different, is_expr, own_labels, is_label, labels_of, is_outcome, is_mixed, are_labels, block, statement, behind_if, branches, is_stmt}
 use Rattle.p414_reader.specs.declared.symbols.Class.TheVariants as class
-use Rattle.p414_lexemes.specs.declared.keyword.Keyword.TheVariants as key
+use Rattle.p414_syntax.specs.declared.keyword.Keyword.TheVariants as key
 use Rattle.p414_reader.specs.declared.symbols.Action.TheVariants as action
 use Rattle.p414_reader.specs.declared.symbols.BodyAction.TheVariants as body
 use Rattle.p414_reader.specs.declared.symbols.Word.TheVariants as word

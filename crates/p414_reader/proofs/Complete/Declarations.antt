@@ -3,34 +3,34 @@ use Rattle.std.proofs.Common.{◌≡◌, ℕ, zero, suc, true, false, not, ◌&&
 use Rattle.std.specs.List.{flat_map, list_all}
 use Rattle.predictive_parser.specs.declared.symbol.Symbol.TheVariants.{Token}
 use Rattle.predictive_parser.specs.declared.symbol.Symbol.TheVariants as symbol
-use Rattle.p414_lexemes.specs.declared.keyword.Keyword.TheVariants as key
-use Rattle.p414_lexemes.specs.declared.lexeme.Lexeme.{Lexeme}
-use Rattle.p414_lexemes.specs.declared.lexeme.Lexeme.TheVariants as lexeme
-use Rattle.p414_lexemes.specs.declared.mark.Mark.{Mark}
-use Rattle.p414_lexemes.specs.declared.mark.Mark.TheVariants as mark
-use Rattle.p414_ast.specs.declared.node.BinaryOperator.{BinaryOperator}
-use Rattle.p414_ast.specs.declared.headers.Header.{Header}
-use Rattle.p414_ast.specs.declared.headers.Metadata.{Metadata}
-use Rattle.p414_ast.specs.declared.calculations.FieldList.{FieldList}
-use Rattle.p414_ast.specs.declared.calculations.FieldListCalculation.{FieldListCalculation}
-use Rattle.p414_ast.specs.declared.calculations.CalculatedField.{CalculatedField}
-use Rattle.p414_ast.specs.declared.calculations.Calc.{Calc}
-use Rattle.p414_ast.specs.declared.parsers.Parser.{Parser}
-use Rattle.p414_ast.specs.declared.parsers.Return.{Return}
-use Rattle.p414_ast.specs.declared.parsers.Return.TheVariants as end_of
-use Rattle.p414_ast.specs.declared.actions.Action.{Action}
-use Rattle.p414_ast.specs.declared.tables.Table.{Table}
-use Rattle.p414_ast.specs.declared.objects.StateAttr.{StateAttr}
-use Rattle.p414_ast.specs.declared.objects.Stateful.{Stateful}
-use Rattle.p414_ast.specs.declared.syntax.LeftOutKind.{LeftOutKind}
-use Rattle.p414_ast.specs.declared.syntax.LeftOutKind.TheVariants as left_out
-use Rattle.p414_ast.specs.declared.syntax.LeftOut.{LeftOut}
-use Rattle.p414_ast.specs.declared.syntax.Decl.{Decl}
-use Rattle.p414_ast.specs.declared.syntax.Decl.TheVariants as decl
-use Rattle.p414_ast.specs.Views.{HeaderTypeTree, ControlTree}
-use Rattle.p414_ast.specs.Words.{name, keyword, brace_open, brace_close, paren_open, paren_close, semicolon, colon}
-use Rattle.p414_ast.specs.Written.{attribute, written_literal, written_name, name_line, written_tail, tail_word, written_ref, written_calc, written_call, written_group, written_kind, written_header_type, written_header, written_field_list, written_calculation, written_calculated, written_action, written_control, written_pstmt, written_return, written_parser, in_braces, table_word, written_table_attr, written_table, state_word, written_state_attr, written_stateful, written_decl}
-use Rattle.p414_ast.specs.Conditions.{all_different, is_tail, is_header_type, is_item, is_pstmt, is_return, is_table_attr, are_table_attrs, table_needs, has_word, are_state_attrs, counter_needs, register_needs, is_some_listed, block, is_stmt, is_balanced, is_group, is_decl}
+use Rattle.p414_syntax.specs.declared.keyword.Keyword.TheVariants as key
+use Rattle.p414_syntax.specs.declared.lexeme.Lexeme.{Lexeme}
+use Rattle.p414_syntax.specs.declared.lexeme.Lexeme.TheVariants as lexeme
+use Rattle.p414_syntax.specs.declared.mark.Mark.{Mark}
+use Rattle.p414_syntax.specs.declared.mark.Mark.TheVariants as mark
+use Rattle.p414_syntax.specs.declared.node.BinaryOperator.{BinaryOperator}
+use Rattle.p414_syntax.specs.declared.headers.Header.{Header}
+use Rattle.p414_syntax.specs.declared.headers.Metadata.{Metadata}
+use Rattle.p414_syntax.specs.declared.calculations.FieldList.{FieldList}
+use Rattle.p414_syntax.specs.declared.calculations.FieldListCalculation.{FieldListCalculation}
+use Rattle.p414_syntax.specs.declared.calculations.CalculatedField.{CalculatedField}
+use Rattle.p414_syntax.specs.declared.calculations.Calc.{Calc}
+use Rattle.p414_syntax.specs.declared.parsers.Parser.{Parser}
+use Rattle.p414_syntax.specs.declared.parsers.Return.{Return}
+use Rattle.p414_syntax.specs.declared.parsers.Return.TheVariants as end_of
+use Rattle.p414_syntax.specs.declared.actions.Action.{Action}
+use Rattle.p414_syntax.specs.declared.tables.Table.{Table}
+use Rattle.p414_syntax.specs.declared.objects.StateAttr.{StateAttr}
+use Rattle.p414_syntax.specs.declared.objects.Stateful.{Stateful}
+use Rattle.p414_syntax.specs.declared.syntax.LeftOutKind.{LeftOutKind}
+use Rattle.p414_syntax.specs.declared.syntax.LeftOutKind.TheVariants as left_out
+use Rattle.p414_syntax.specs.declared.syntax.LeftOut.{LeftOut}
+use Rattle.p414_syntax.specs.declared.syntax.Decl.{Decl}
+use Rattle.p414_syntax.specs.declared.syntax.Decl.TheVariants as decl
+use Rattle.p414_syntax.specs.Views.{HeaderTypeTree, ControlTree}
+use Rattle.p414_syntax.specs.Words.{name, keyword, brace_open, brace_close, paren_open, paren_close, semicolon, colon}
+use Rattle.p414_syntax.specs.Written.{attribute, written_literal, written_name, name_line, written_tail, tail_word, written_ref, written_calc, written_call, written_group, written_kind, written_header_type, written_header, written_field_list, written_calculation, written_calculated, written_action, written_control, written_pstmt, written_return, written_parser, in_braces, table_word, written_table_attr, written_table, state_word, written_state_attr, written_stateful, written_decl}
+use Rattle.p414_syntax.specs.Conditions.{all_different, is_tail, is_header_type, is_item, is_pstmt, is_return, is_table_attr, are_table_attrs, table_needs, has_word, are_state_attrs, counter_needs, register_needs, is_some_listed, block, is_stmt, is_balanced, is_group, is_decl}
 use Rattle.p414_reader.specs.declared.symbols.Class.TheVariants as class
 use Rattle.p414_reader.specs.declared.symbols.DeclKind.TheVariants as kind
 use Rattle.p414_reader.specs.declared.symbols.Word.TheVariants as word

@@ -6,23 +6,23 @@ use Rattle.predictive_parser.specs.Machine.{Takes, Passes, next_of}
 use Rattle.predictive_parser.specs.Grammar.{move}
 use Rattle.predictive_parser.proofs.Chains.{Leads, then, reads, put, token, takes, passes}
 use Rattle.predictive_parser.proofs.Closings.{calm, build}
-use Rattle.p414_lexemes.specs.declared.keyword.Keyword.TheVariants as key
-use Rattle.p414_lexemes.specs.declared.lexeme.Literal.{Literal}
-use Rattle.p414_lexemes.specs.declared.lexeme.Lexeme.{Lexeme}
-use Rattle.p414_lexemes.specs.declared.lexeme.Lexeme.TheVariants as lexeme
-use Rattle.p414_ast.specs.declared.parts.Index.{Index}
-use Rattle.p414_ast.specs.declared.parts.Index.TheVariants as index
-use Rattle.p414_ast.specs.declared.parts.Inst.{Inst}
-use Rattle.p414_ast.specs.declared.parts.Ref.{Ref}
-use Rattle.p414_ast.specs.declared.node.UnaryOperator.{UnaryOperator}
-use Rattle.p414_ast.specs.declared.node.UnaryOperator.TheVariants as unary_operator
-use Rattle.p414_ast.specs.declared.node.BinaryOperator.{BinaryOperator}
-use Rattle.p414_ast.specs.declared.node.BinaryOperator.TheVariants as binary_operator
-use Rattle.p414_ast.specs.Tree.{Expr, valid, truth, field, number, parenthesized, unary, binary}
-use Rattle.p414_ast.specs.Words.{name, keyword, paren_open, paren_close, bracket_open, bracket_close, dot}
-use Rattle.p414_ast.specs.Operators.{unary_token, unary_power, binary_token, binary_power}
-use Rattle.p414_ast.specs.Written.{written_option, written_index, written_expr}
-use Rattle.p414_ast.specs.Conditions.{is_among, expression_words, is_expression_name, is_expr}
+use Rattle.p414_syntax.specs.declared.keyword.Keyword.TheVariants as key
+use Rattle.p414_syntax.specs.declared.lexeme.Literal.{Literal}
+use Rattle.p414_syntax.specs.declared.lexeme.Lexeme.{Lexeme}
+use Rattle.p414_syntax.specs.declared.lexeme.Lexeme.TheVariants as lexeme
+use Rattle.p414_syntax.specs.declared.parts.Index.{Index}
+use Rattle.p414_syntax.specs.declared.parts.Index.TheVariants as index
+use Rattle.p414_syntax.specs.declared.parts.Inst.{Inst}
+use Rattle.p414_syntax.specs.declared.parts.Ref.{Ref}
+use Rattle.p414_syntax.specs.declared.node.UnaryOperator.{UnaryOperator}
+use Rattle.p414_syntax.specs.declared.node.UnaryOperator.TheVariants as unary_operator
+use Rattle.p414_syntax.specs.declared.node.BinaryOperator.{BinaryOperator}
+use Rattle.p414_syntax.specs.declared.node.BinaryOperator.TheVariants as binary_operator
+use Rattle.p414_syntax.specs.Tree.{Expr, valid, truth, field, number, parenthesized, unary, binary}
+use Rattle.p414_syntax.specs.Words.{name, keyword, paren_open, paren_close, bracket_open, bracket_close, dot}
+use Rattle.p414_syntax.specs.Operators.{unary_token, unary_power, binary_token, binary_power}
+use Rattle.p414_syntax.specs.Written.{written_option, written_index, written_expr}
+use Rattle.p414_syntax.specs.Conditions.{is_among, expression_words, is_expression_name, is_expr}
 use Rattle.p414_reader.specs.declared.symbols.Class.TheVariants as class
 use Rattle.p414_reader.specs.declared.symbols.Action.TheVariants as action
 use Rattle.p414_reader.specs.declared.symbols.PartAction.TheVariants as part

@@ -1,20 +1,20 @@
 -- Header types, header instances and metadata: what is written so is read.
 use Rattle.std.proofs.Common.{◌≡◌, ℕ, Bool, true, false, not, cond, List, [], ◌∷◌, ◌++◌, codes, map, Option, Some, None, refl, ap, append_assoc}
 use Rattle.std.specs.List.{flat_map, list_all}
-use Rattle.p414_lexemes.specs.declared.lexeme.Literal.{Literal}
-use Rattle.p414_lexemes.specs.declared.lexeme.Lexeme.{Lexeme}
-use Rattle.p414_lexemes.specs.declared.lexeme.Lexeme.TheVariants as lexeme
-use Rattle.p414_ast.specs.declared.headers.FieldWidth.{FieldWidth}
-use Rattle.p414_ast.specs.declared.headers.FieldWidth.TheVariants as width
-use Rattle.p414_ast.specs.declared.headers.Field.{Field}
-use Rattle.p414_ast.specs.declared.headers.Initial.{Initial}
-use Rattle.p414_ast.specs.declared.headers.Initials.{Initials}
-use Rattle.p414_ast.specs.Words.{name, keyword, brace_open, brace_close, bracket_open, bracket_close, paren_open, paren_close, semicolon, colon, star}
-use Rattle.p414_ast.specs.Written.{written_option, after_commas, written_name, written_width, written_field_attributes, written_field, tail_word, written_tail, written_expr, written_size, written_initial, written_initials}
-use Rattle.p414_ast.specs.Tree.{Expr}
-use Rattle.p414_ast.specs.Views.{TailTree, length_is, max_length_is}
-use Rattle.p414_ast.specs.Conditions.{all_different, is_expr, is_tail}
-use Rattle.p414_lexemes.specs.declared.keyword.Keyword.TheVariants as key
+use Rattle.p414_syntax.specs.declared.lexeme.Literal.{Literal}
+use Rattle.p414_syntax.specs.declared.lexeme.Lexeme.{Lexeme}
+use Rattle.p414_syntax.specs.declared.lexeme.Lexeme.TheVariants as lexeme
+use Rattle.p414_syntax.specs.declared.headers.FieldWidth.{FieldWidth}
+use Rattle.p414_syntax.specs.declared.headers.FieldWidth.TheVariants as width
+use Rattle.p414_syntax.specs.declared.headers.Field.{Field}
+use Rattle.p414_syntax.specs.declared.headers.Initial.{Initial}
+use Rattle.p414_syntax.specs.declared.headers.Initials.{Initials}
+use Rattle.p414_syntax.specs.Words.{name, keyword, brace_open, brace_close, bracket_open, bracket_close, paren_open, paren_close, semicolon, colon, star}
+use Rattle.p414_syntax.specs.Written.{written_option, after_commas, written_name, written_width, written_field_attributes, written_field, tail_word, written_tail, written_expr, written_size, written_initial, written_initials}
+use Rattle.p414_syntax.specs.Tree.{Expr}
+use Rattle.p414_syntax.specs.Views.{TailTree, length_is, max_length_is}
+use Rattle.p414_syntax.specs.Conditions.{all_different, is_expr, is_tail}
+use Rattle.p414_syntax.specs.declared.keyword.Keyword.TheVariants as key
 use Rattle.p414_reader.specs.declared.symbols.Class.TheVariants as class
 use Rattle.p414_reader.specs.declared.symbols.Word.TheVariants as word
 use Rattle.p414_reader.specs.declared.symbols.HeaderWord.TheVariants as header

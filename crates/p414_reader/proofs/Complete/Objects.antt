@@ -2,16 +2,16 @@
 use Rattle.std.proofs.Common.{◌≡◌, true, false, not, List, [], ◌∷◌, ◌++◌, map, refl, sym, ap, append_assoc}
 use Rattle.std.specs.List.{flat_map}
 use Rattle.predictive_parser.specs.Grammar.{◌⇒◌}
-use Rattle.p414_lexemes.specs.declared.lexeme.Lexeme.{Lexeme}
-use Rattle.p414_lexemes.specs.declared.lexeme.Lexeme.TheVariants as lexeme
-use Rattle.p414_ast.specs.declared.objects.CounterType.{CounterType}
-use Rattle.p414_ast.specs.declared.objects.CounterType.TheVariants as counter_type
-use Rattle.p414_ast.specs.declared.objects.StateAttr.{StateAttr}
-use Rattle.p414_ast.specs.declared.objects.StateAttr.TheVariants as attr
-use Rattle.p414_ast.specs.Words.{name, keyword, semicolon, colon}
-use Rattle.p414_ast.specs.Written.{written_ref, written_counter_type, state_word, written_state_attr}
-use Rattle.p414_ast.specs.Conditions.{is_among, all_different, has_word, counter_needs, register_needs}
-use Rattle.p414_lexemes.specs.declared.keyword.Keyword.TheVariants as key
+use Rattle.p414_syntax.specs.declared.lexeme.Lexeme.{Lexeme}
+use Rattle.p414_syntax.specs.declared.lexeme.Lexeme.TheVariants as lexeme
+use Rattle.p414_syntax.specs.declared.objects.CounterType.{CounterType}
+use Rattle.p414_syntax.specs.declared.objects.CounterType.TheVariants as counter_type
+use Rattle.p414_syntax.specs.declared.objects.StateAttr.{StateAttr}
+use Rattle.p414_syntax.specs.declared.objects.StateAttr.TheVariants as attr
+use Rattle.p414_syntax.specs.Words.{name, keyword, semicolon, colon}
+use Rattle.p414_syntax.specs.Written.{written_ref, written_counter_type, state_word, written_state_attr}
+use Rattle.p414_syntax.specs.Conditions.{is_among, all_different, has_word, counter_needs, register_needs}
+use Rattle.p414_syntax.specs.declared.keyword.Keyword.TheVariants as key
 use Rattle.p414_reader.specs.declared.symbols.Class.TheVariants as class
 use Rattle.p414_reader.specs.declared.symbols.Word.TheVariants as word
 use Rattle.p414_reader.specs.declared.symbols.ObjectWord.TheVariants as object

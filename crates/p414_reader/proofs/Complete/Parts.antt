@@ -1,19 +1,19 @@
 -- Names, numbers, instances and fields: what is written so is read.
 use Rattle.std.proofs.Common.{◌≡◌, ℕ, List, [], ◌∷◌, ◌++◌, Option, Some, None, refl, sym, ap, ◌∙◌, append_assoc, append-nil}
 use Rattle.predictive_parser.specs.declared.symbol.Symbol.TheVariants.{Put}
-use Rattle.p414_lexemes.specs.declared.keyword.Keyword.TheVariants as key
-use Rattle.p414_lexemes.specs.declared.lexeme.Literal.{Literal}
-use Rattle.p414_lexemes.specs.declared.lexeme.Lexeme.{Lexeme}
-use Rattle.p414_lexemes.specs.declared.lexeme.Lexeme.TheVariants as lexeme
-use Rattle.p414_ast.specs.declared.parts.Sign.{Sign}
-use Rattle.p414_ast.specs.declared.parts.Sign.TheVariants as sign
-use Rattle.p414_ast.specs.declared.parts.Number.{Number}
-use Rattle.p414_ast.specs.declared.parts.Index.{Index}
-use Rattle.p414_ast.specs.declared.parts.Index.TheVariants as index
-use Rattle.p414_ast.specs.declared.parts.Inst.{Inst}
-use Rattle.p414_ast.specs.declared.parts.Ref.{Ref}
-use Rattle.p414_ast.specs.Words.{name, keyword, bracket_open, bracket_close, paren_open, paren_close, semicolon, dot, comma, plus, minus}
-use Rattle.p414_ast.specs.Written.{written_option, after_commas, by_commas, written_name, name_line, written_number, index_token, written_index, written_inst, written_ref, written_mask, written_arguments}
+use Rattle.p414_syntax.specs.declared.keyword.Keyword.TheVariants as key
+use Rattle.p414_syntax.specs.declared.lexeme.Literal.{Literal}
+use Rattle.p414_syntax.specs.declared.lexeme.Lexeme.{Lexeme}
+use Rattle.p414_syntax.specs.declared.lexeme.Lexeme.TheVariants as lexeme
+use Rattle.p414_syntax.specs.declared.parts.Sign.{Sign}
+use Rattle.p414_syntax.specs.declared.parts.Sign.TheVariants as sign
+use Rattle.p414_syntax.specs.declared.parts.Number.{Number}
+use Rattle.p414_syntax.specs.declared.parts.Index.{Index}
+use Rattle.p414_syntax.specs.declared.parts.Index.TheVariants as index
+use Rattle.p414_syntax.specs.declared.parts.Inst.{Inst}
+use Rattle.p414_syntax.specs.declared.parts.Ref.{Ref}
+use Rattle.p414_syntax.specs.Words.{name, keyword, bracket_open, bracket_close, paren_open, paren_close, semicolon, dot, comma, plus, minus}
+use Rattle.p414_syntax.specs.Written.{written_option, after_commas, by_commas, written_name, name_line, written_number, index_token, written_index, written_inst, written_ref, written_mask, written_arguments}
 use Rattle.p414_reader.specs.declared.symbols.Action.TheVariants as action
 use Rattle.p414_reader.specs.declared.symbols.PartAction.TheVariants as part_action
 use Rattle.p414_reader.specs.declared.symbols.Word.TheVariants as word

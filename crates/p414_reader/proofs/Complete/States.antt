@@ -4,28 +4,28 @@ use Rattle.std.specs.List.{flat_map, list_all}
 use Rattle.std.specs.Str.{bytes_eq}
 use Rattle.predictive_parser.specs.declared.symbol.Symbol.TheVariants.{Put}
 use Rattle.predictive_parser.specs.Grammar.{Like}
-use Rattle.p414_lexemes.specs.declared.keyword.Keyword.TheVariants as key
-use Rattle.p414_lexemes.specs.declared.lexeme.Literal.{Literal}
-use Rattle.p414_lexemes.specs.declared.lexeme.Lexeme.{Lexeme}
-use Rattle.p414_lexemes.specs.declared.lexeme.Lexeme.TheVariants as lexeme
-use Rattle.p414_ast.specs.declared.parts.Sign.{Sign}
-use Rattle.p414_ast.specs.declared.parts.Sign.TheVariants as sign
-use Rattle.p414_ast.specs.declared.parts.Index.{Index}
-use Rattle.p414_ast.specs.declared.parsers.PValue.{PValue}
-use Rattle.p414_ast.specs.declared.parsers.PValue.TheVariants as pvalue
-use Rattle.p414_ast.specs.declared.parsers.PStmt.{PStmt}
-use Rattle.p414_ast.specs.declared.parsers.PStmt.TheVariants as pstmt
-use Rattle.p414_ast.specs.declared.parsers.Masked.{Masked}
-use Rattle.p414_ast.specs.declared.parsers.CaseValues.{CaseValues}
-use Rattle.p414_ast.specs.declared.parsers.CaseValues.TheVariants as case_values
-use Rattle.p414_ast.specs.declared.parsers.CaseTarget.{CaseTarget}
-use Rattle.p414_ast.specs.declared.parsers.CaseTarget.TheVariants as target
-use Rattle.p414_ast.specs.declared.parsers.Case.{Case}
-use Rattle.p414_ast.specs.declared.parsers.Return.{Return}
-use Rattle.p414_ast.specs.declared.parsers.Return.TheVariants as end_of
-use Rattle.p414_ast.specs.Words.{name, keyword, brace_open, brace_close, bracket_open, bracket_close, paren_open, paren_close, semicolon, colon, comma, dot, plus, minus}
-use Rattle.p414_ast.specs.Written.{written_option, after_commas, written_index, written_pvalue, written_pstmt, written_masked, written_target, written_case, written_return}
-use Rattle.p414_ast.specs.Conditions.{is_bare, is_pvalue, is_select_value, is_pstmt, is_case_values, is_case, is_return}
+use Rattle.p414_syntax.specs.declared.keyword.Keyword.TheVariants as key
+use Rattle.p414_syntax.specs.declared.lexeme.Literal.{Literal}
+use Rattle.p414_syntax.specs.declared.lexeme.Lexeme.{Lexeme}
+use Rattle.p414_syntax.specs.declared.lexeme.Lexeme.TheVariants as lexeme
+use Rattle.p414_syntax.specs.declared.parts.Sign.{Sign}
+use Rattle.p414_syntax.specs.declared.parts.Sign.TheVariants as sign
+use Rattle.p414_syntax.specs.declared.parts.Index.{Index}
+use Rattle.p414_syntax.specs.declared.parsers.PValue.{PValue}
+use Rattle.p414_syntax.specs.declared.parsers.PValue.TheVariants as pvalue
+use Rattle.p414_syntax.specs.declared.parsers.PStmt.{PStmt}
+use Rattle.p414_syntax.specs.declared.parsers.PStmt.TheVariants as pstmt
+use Rattle.p414_syntax.specs.declared.parsers.Masked.{Masked}
+use Rattle.p414_syntax.specs.declared.parsers.CaseValues.{CaseValues}
+use Rattle.p414_syntax.specs.declared.parsers.CaseValues.TheVariants as case_values
+use Rattle.p414_syntax.specs.declared.parsers.CaseTarget.{CaseTarget}
+use Rattle.p414_syntax.specs.declared.parsers.CaseTarget.TheVariants as target
+use Rattle.p414_syntax.specs.declared.parsers.Case.{Case}
+use Rattle.p414_syntax.specs.declared.parsers.Return.{Return}
+use Rattle.p414_syntax.specs.declared.parsers.Return.TheVariants as end_of
+use Rattle.p414_syntax.specs.Words.{name, keyword, brace_open, brace_close, bracket_open, bracket_close, paren_open, paren_close, semicolon, colon, comma, dot, plus, minus}
+use Rattle.p414_syntax.specs.Written.{written_option, after_commas, written_index, written_pvalue, written_pstmt, written_masked, written_target, written_case, written_return}
+use Rattle.p414_syntax.specs.Conditions.{is_bare, is_pvalue, is_select_value, is_pstmt, is_case_values, is_case, is_return}
 use Rattle.p414_reader.specs.declared.symbols.Class.TheVariants as class
 use Rattle.p414_reader.specs.declared.symbols.Action.TheVariants as action
 use Rattle.p414_reader.specs.declared.symbols.StateAction.TheVariants as state_action

@@ -2,18 +2,18 @@
 use Rattle.std.proofs.Common.{◌≡◌, ℕ, Bool, true, false, not, List, [], ◌∷◌, ◌++◌, map, Option, Some, None, refl, ap, ◌∙◌, append_assoc}
 use Rattle.std.specs.List.{flat_map, list_all}
 use Rattle.predictive_parser.specs.Grammar.{◌⇒◌}
-use Rattle.p414_lexemes.specs.declared.lexeme.Literal.{Literal}
-use Rattle.p414_lexemes.specs.declared.lexeme.Lexeme.{Lexeme}
-use Rattle.p414_lexemes.specs.declared.lexeme.Lexeme.TheVariants as lexeme
-use Rattle.p414_ast.specs.declared.tables.ReadKey.{ReadKey}
-use Rattle.p414_ast.specs.declared.tables.ReadKey.TheVariants as read_key
-use Rattle.p414_ast.specs.declared.tables.Read.{Read}
-use Rattle.p414_ast.specs.declared.tables.TableAttr.{TableAttr}
-use Rattle.p414_ast.specs.declared.tables.TableAttr.TheVariants as attr
-use Rattle.p414_ast.specs.Words.{name, keyword, brace_open, brace_close, semicolon, colon, dot}
-use Rattle.p414_ast.specs.Written.{written_option, written_ref, written_arguments, written_truth, written_mask, written_read, table_word, written_table_value, written_table_attr}
-use Rattle.p414_ast.specs.Conditions.{is_among, all_different, is_table_attr, has_word, table_needs}
-use Rattle.p414_lexemes.specs.declared.keyword.Keyword.TheVariants as key
+use Rattle.p414_syntax.specs.declared.lexeme.Literal.{Literal}
+use Rattle.p414_syntax.specs.declared.lexeme.Lexeme.{Lexeme}
+use Rattle.p414_syntax.specs.declared.lexeme.Lexeme.TheVariants as lexeme
+use Rattle.p414_syntax.specs.declared.tables.ReadKey.{ReadKey}
+use Rattle.p414_syntax.specs.declared.tables.ReadKey.TheVariants as read_key
+use Rattle.p414_syntax.specs.declared.tables.Read.{Read}
+use Rattle.p414_syntax.specs.declared.tables.TableAttr.{TableAttr}
+use Rattle.p414_syntax.specs.declared.tables.TableAttr.TheVariants as attr
+use Rattle.p414_syntax.specs.Words.{name, keyword, brace_open, brace_close, semicolon, colon, dot}
+use Rattle.p414_syntax.specs.Written.{written_option, written_ref, written_arguments, written_truth, written_mask, written_read, table_word, written_table_value, written_table_attr}
+use Rattle.p414_syntax.specs.Conditions.{is_among, all_different, is_table_attr, has_word, table_needs}
+use Rattle.p414_syntax.specs.declared.keyword.Keyword.TheVariants as key
 use Rattle.p414_reader.specs.declared.symbols.Class.TheVariants as class
 use Rattle.p414_reader.specs.declared.symbols.Word.{Word}
 use Rattle.p414_reader.specs.declared.symbols.Word.TheVariants as word

@@ -2,16 +2,16 @@
 use Rattle.std.proofs.Common.{◌≡◌, ℕ, Bool, true, false, cond, List, [], ◌∷◌, ◌++◌, codes, Option, Some, None, refl, sym, ap, ◌∙◌, append_assoc}
 use Rattle.std.specs.List.{flat_map, list_all}
 use Rattle.predictive_parser.proofs.Meanings.{RowsShow, NoneShows}
-use Rattle.p414_lexemes.specs.declared.lexeme.Literal.{Literal}
-use Rattle.p414_lexemes.specs.declared.lexeme.Lexeme.TheVariants.{Number}
-use Rattle.p414_ast.specs.declared.parts.Index.{Index}
-use Rattle.p414_ast.specs.declared.parts.Inst.{Inst}
-use Rattle.p414_ast.specs.declared.calculations.Item.TheVariants as item
-use Rattle.p414_ast.specs.declared.calculations.CalcUse.TheVariants as calc_use
-use Rattle.p414_ast.specs.declared.calculations.CalcCond.TheVariants as condition
-use Rattle.p414_ast.specs.Words.{name, semicolon, dot, equal}
-use Rattle.p414_ast.specs.Written.{written_option, written_index, written_item, written_cond}
-use Rattle.p414_ast.specs.Conditions.{is_bare, is_item}
+use Rattle.p414_syntax.specs.declared.lexeme.Literal.{Literal}
+use Rattle.p414_syntax.specs.declared.lexeme.Lexeme.TheVariants.{Number}
+use Rattle.p414_syntax.specs.declared.parts.Index.{Index}
+use Rattle.p414_syntax.specs.declared.parts.Inst.{Inst}
+use Rattle.p414_syntax.specs.declared.calculations.Item.TheVariants as item
+use Rattle.p414_syntax.specs.declared.calculations.CalcUse.TheVariants as calc_use
+use Rattle.p414_syntax.specs.declared.calculations.CalcCond.TheVariants as condition
+use Rattle.p414_syntax.specs.Words.{name, semicolon, dot, equal}
+use Rattle.p414_syntax.specs.Written.{written_option, written_index, written_item, written_cond}
+use Rattle.p414_syntax.specs.Conditions.{is_bare, is_item}
 use Rattle.p414_reader.specs.declared.symbols.Word.TheVariants as word
 use Rattle.p414_reader.specs.declared.symbols.CalculationWord.{CalculationWord}
 use Rattle.p414_reader.specs.declared.symbols.CalculationWord.TheVariants as calculation

@@ -4,12 +4,12 @@ use Rattle.std.specs.List.{flat_map, list_all}
 use Rattle.std.proofs.lemmas.List.Concat.{flat_map-append}
 use Rattle.std.proofs.lemmas.List.Folds.{list_all-append}
 use Rattle.predictive_parser.proofs.Meanings.{RowsShow, NoneShows}
-use Rattle.p414_lexemes.specs.declared.keyword.Keyword.TheVariants as key
-use Rattle.p414_lexemes.specs.declared.lexeme.Lexeme.{Lexeme}
-use Rattle.p414_ast.specs.Tree.{Stmt, no_statements, apply, apply_branches, if_then, call, no_else, else_block, else_if, no_branches}
-use Rattle.p414_ast.specs.Words.{keyword, brace_open, brace_close, paren_open, paren_close}
-use Rattle.p414_ast.specs.Written.{in_parens, in_braces, written_expr, written_stmt}
-use Rattle.p414_ast.specs.Conditions.{is_expr, is_label, are_labels, labels_of, statement, behind_if, block, branches, is_stmt}
+use Rattle.p414_syntax.specs.declared.keyword.Keyword.TheVariants as key
+use Rattle.p414_syntax.specs.declared.lexeme.Lexeme.{Lexeme}
+use Rattle.p414_syntax.specs.Tree.{Stmt, no_statements, apply, apply_branches, if_then, call, no_else, else_block, else_if, no_branches}
+use Rattle.p414_syntax.specs.Words.{keyword, brace_open, brace_close, paren_open, paren_close}
+use Rattle.p414_syntax.specs.Written.{in_parens, in_braces, written_expr, written_stmt}
+use Rattle.p414_syntax.specs.Conditions.{is_expr, is_label, are_labels, labels_of, statement, behind_if, block, branches, is_stmt}
 use Rattle.p414_reader.specs.declared.symbols.Word.TheVariants as word
 use Rattle.p414_reader.specs.declared.symbols.BodyWord.{BodyWord}
 use Rattle.p414_reader.specs.declared.symbols.BodyWord.TheVariants as body

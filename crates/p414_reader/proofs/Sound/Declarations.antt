@@ -3,14 +3,14 @@ use Rattle.std.proofs.Common.{◌≡◌, ℕ, suc, true, ◌&&◌, List, [], ◌
 use Rattle.std.specs.List.{flat_map, list_all}
 use Rattle.predictive_parser.specs.Values.{extended_option}
 use Rattle.predictive_parser.proofs.Meanings.{RowsShow, NoneShows}
-use Rattle.p414_lexemes.specs.declared.keyword.Keyword.TheVariants as key
-use Rattle.p414_lexemes.specs.declared.lexeme.Lexeme.{Lexeme}
-use Rattle.p414_ast.specs.declared.syntax.LeftOutKind.TheVariants as left_out
-use Rattle.p414_ast.specs.declared.syntax.Decl.TheVariants as decl
-use Rattle.p414_ast.specs.Tree.{no_statements}
-use Rattle.p414_ast.specs.Words.{name, keyword, brace_open, brace_close, paren_open, paren_close, semicolon}
-use Rattle.p414_ast.specs.Written.{written_option, in_braces, attribute, written_literal, name_line, by_commas, written_name, written_field, tail_word, written_tail, written_size, written_item, written_ref, written_calc, written_pstmt, written_return, written_call, table_word, written_table_attr, state_word, written_state_attr, written_stmt, written_decl}
-use Rattle.p414_ast.specs.Conditions.{Brace, opens, closes, neither, brace_of, behind_brace, is_balanced, all_different, is_tail, is_pstmt, is_return, is_table_attr, has_word, table_needs, counter_needs, register_needs, is_decl}
+use Rattle.p414_syntax.specs.declared.keyword.Keyword.TheVariants as key
+use Rattle.p414_syntax.specs.declared.lexeme.Lexeme.{Lexeme}
+use Rattle.p414_syntax.specs.declared.syntax.LeftOutKind.TheVariants as left_out
+use Rattle.p414_syntax.specs.declared.syntax.Decl.TheVariants as decl
+use Rattle.p414_syntax.specs.Tree.{no_statements}
+use Rattle.p414_syntax.specs.Words.{name, keyword, brace_open, brace_close, paren_open, paren_close, semicolon}
+use Rattle.p414_syntax.specs.Written.{written_option, in_braces, attribute, written_literal, name_line, by_commas, written_name, written_field, tail_word, written_tail, written_size, written_item, written_ref, written_calc, written_pstmt, written_return, written_call, table_word, written_table_attr, state_word, written_state_attr, written_stmt, written_decl}
+use Rattle.p414_syntax.specs.Conditions.{Brace, opens, closes, neither, brace_of, behind_brace, is_balanced, all_different, is_tail, is_pstmt, is_return, is_table_attr, has_word, table_needs, counter_needs, register_needs, is_decl}
 use Rattle.p414_reader.specs.declared.symbols.Word.TheVariants as word
 use Rattle.p414_reader.specs.declared.built.Built.{Built}
 use Rattle.p414_reader.specs.internal.Classes.{is_neither}

@@ -2,19 +2,19 @@
 use Rattle.std.proofs.Common.{◌≡◌, ℕ, suc, Bool, true, false, ◌&&◌, nat_le, if◌then◌else◌, List, [], ◌∷◌, codes, Option, Some, None, refl, sym, ap, subst, ◌∙◌, append_assoc, append-nil, bytes_eq, le_trans, le_refl, leb-true, le-leb}
 use Rattle.std.specs.Option.{unwrap_or}
 use Rattle.predictive_parser.proofs.Meanings.{Shows, MeansWord, RowsShow, NoneShows}
-use Rattle.p414_lexemes.specs.declared.keyword.Keyword.TheVariants as key
-use Rattle.p414_lexemes.specs.declared.lexeme.Lexeme.{Lexeme}
-use Rattle.p414_lexemes.specs.declared.lexeme.Lexeme.TheVariants as lexeme
-use Rattle.p414_lexemes.specs.declared.mark.Mark.TheVariants as mark
-use Rattle.p414_ast.specs.declared.node.UnaryOperator.{UnaryOperator}
-use Rattle.p414_ast.specs.declared.node.UnaryOperator.TheVariants as unary_of
-use Rattle.p414_ast.specs.declared.node.BinaryOperator.{BinaryOperator}
-use Rattle.p414_ast.specs.declared.node.BinaryOperator.TheVariants as binary_of
-use Rattle.p414_ast.specs.Tree.{Expr, valid, truth, field, number, parenthesized, unary, binary}
-use Rattle.p414_ast.specs.Words.{name, keyword, paren_open, paren_close, dot}
-use Rattle.p414_ast.specs.Operators.{unary_token, unary_power, binary_token, binary_power}
-use Rattle.p414_ast.specs.Written.{written_option, written_index, written_inst, written_expr}
-use Rattle.p414_ast.specs.Conditions.{is_expression_name, is_expr}
+use Rattle.p414_syntax.specs.declared.keyword.Keyword.TheVariants as key
+use Rattle.p414_syntax.specs.declared.lexeme.Lexeme.{Lexeme}
+use Rattle.p414_syntax.specs.declared.lexeme.Lexeme.TheVariants as lexeme
+use Rattle.p414_syntax.specs.declared.mark.Mark.TheVariants as mark
+use Rattle.p414_syntax.specs.declared.node.UnaryOperator.{UnaryOperator}
+use Rattle.p414_syntax.specs.declared.node.UnaryOperator.TheVariants as unary_of
+use Rattle.p414_syntax.specs.declared.node.BinaryOperator.{BinaryOperator}
+use Rattle.p414_syntax.specs.declared.node.BinaryOperator.TheVariants as binary_of
+use Rattle.p414_syntax.specs.Tree.{Expr, valid, truth, field, number, parenthesized, unary, binary}
+use Rattle.p414_syntax.specs.Words.{name, keyword, paren_open, paren_close, dot}
+use Rattle.p414_syntax.specs.Operators.{unary_token, unary_power, binary_token, binary_power}
+use Rattle.p414_syntax.specs.Written.{written_option, written_index, written_inst, written_expr}
+use Rattle.p414_syntax.specs.Conditions.{is_expression_name, is_expr}
 use Rattle.p414_reader.specs.declared.symbols.Word.TheVariants as word
 use Rattle.p414_reader.specs.declared.symbols.BodyWord.TheVariants as body
 use Rattle.predictive_parser.specs.Values.{older}

@@ -2,9 +2,9 @@
 use Rattle.std.proofs.Common.{◌≡◌, List, Ok, sym}
 use Rattle.predictive_parser.specs.Grammar.{parse}
 use Rattle.predictive_parser.proofs.Meanings.{RowsShow, NoneShows, IsRight, sound_word}
-use Rattle.p414_lexemes.specs.declared.lexeme.Lexeme.{Lexeme}
-use Rattle.p414_ast.specs.declared.syntax.Syntax14.{Syntax14}
-use Rattle.p414_ast.specs.Spells.{Spells}
+use Rattle.p414_syntax.specs.declared.lexeme.Lexeme.{Lexeme}
+use Rattle.p414_syntax.specs.declared.syntax.Syntax14.{Syntax14}
+use Rattle.p414_syntax.specs.Spells.{Spells}
 use Rattle.p414_reader.specs.declared.symbols.Word.{Word}
 use Rattle.p414_reader.specs.declared.symbols.Word.TheVariants as word
 use Rattle.p414_reader.specs.declared.built.Built.{Built}

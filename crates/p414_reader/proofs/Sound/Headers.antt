@@ -2,13 +2,13 @@
 use Rattle.std.proofs.Common.{ℕ, Bool, true, false, List, [], ◌∷◌, map, Some, None, refl, sym, ap}
 use Rattle.std.specs.List.{flat_map, list_all}
 use Rattle.predictive_parser.proofs.Meanings.{RowsShow, NoneShows}
-use Rattle.p414_ast.specs.declared.headers.FieldWidth.TheVariants as width
-use Rattle.p414_ast.specs.declared.headers.Initial.{Initial}
-use Rattle.p414_ast.specs.Words.{name, keyword, brace_open, brace_close, semicolon, colon}
-use Rattle.p414_ast.specs.Views.{length_is, max_length_is}
-use Rattle.p414_ast.specs.Written.{written_expr, written_width, written_field_attributes, written_field, tail_word, written_tail, written_number, written_initial}
-use Rattle.p414_ast.specs.Conditions.{is_expr, is_tail}
-use Rattle.p414_lexemes.specs.declared.keyword.Keyword.TheVariants as key
+use Rattle.p414_syntax.specs.declared.headers.FieldWidth.TheVariants as width
+use Rattle.p414_syntax.specs.declared.headers.Initial.{Initial}
+use Rattle.p414_syntax.specs.Words.{name, keyword, brace_open, brace_close, semicolon, colon}
+use Rattle.p414_syntax.specs.Views.{length_is, max_length_is}
+use Rattle.p414_syntax.specs.Written.{written_expr, written_width, written_field_attributes, written_field, tail_word, written_tail, written_number, written_initial}
+use Rattle.p414_syntax.specs.Conditions.{is_expr, is_tail}
+use Rattle.p414_syntax.specs.declared.keyword.Keyword.TheVariants as key
 use Rattle.p414_reader.specs.declared.symbols.Word.TheVariants as word
 use Rattle.p414_reader.specs.declared.symbols.HeaderWord.{HeaderWord}
 use Rattle.p414_reader.specs.declared.symbols.HeaderWord.TheVariants as header

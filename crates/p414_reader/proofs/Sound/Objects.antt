@@ -2,11 +2,11 @@
 use Rattle.std.proofs.Common.{◌≡◌, ℕ, false, List, [], ◌∷◌, map, codes, bytes_eq, refl}
 use Rattle.std.proofs.lemmas.Bool.{or_right}
 use Rattle.predictive_parser.proofs.Meanings.{RowsShow, NoneShows}
-use Rattle.p414_lexemes.specs.declared.keyword.Keyword.TheVariants as key
-use Rattle.p414_ast.specs.declared.objects.CounterType.TheVariants as counter_type
-use Rattle.p414_ast.specs.declared.objects.StateAttr.TheVariants as attr
-use Rattle.p414_ast.specs.Written.{state_word}
-use Rattle.p414_ast.specs.Conditions.{is_among, has_word, counter_needs, register_needs}
+use Rattle.p414_syntax.specs.declared.keyword.Keyword.TheVariants as key
+use Rattle.p414_syntax.specs.declared.objects.CounterType.TheVariants as counter_type
+use Rattle.p414_syntax.specs.declared.objects.StateAttr.TheVariants as attr
+use Rattle.p414_syntax.specs.Written.{state_word}
+use Rattle.p414_syntax.specs.Conditions.{is_among, has_word, counter_needs, register_needs}
 use Rattle.p414_reader.specs.declared.symbols.Word.TheVariants as word
 use Rattle.p414_reader.specs.declared.symbols.ObjectWord.{ObjectWord}
 use Rattle.p414_reader.specs.declared.symbols.ObjectWord.TheVariants as object

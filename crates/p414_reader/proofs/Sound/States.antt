@@ -2,22 +2,22 @@
 use Rattle.std.proofs.Common.{◌≡◌, ℕ, Bool, true, false, cond, List, [], ◌∷◌, ◌++◌, codes, Option, Some, None, refl, sym, ap, ap₂, ◌∙◌, append_assoc}
 use Rattle.std.specs.List.{flat_map, list_all}
 use Rattle.predictive_parser.proofs.Meanings.{RowsShow, NoneShows}
-use Rattle.p414_lexemes.specs.declared.keyword.Keyword.TheVariants as key
-use Rattle.p414_lexemes.specs.declared.lexeme.Lexeme.TheVariants.{Number}
-use Rattle.p414_ast.specs.declared.parts.Index.{Index}
-use Rattle.p414_ast.specs.declared.parts.Ref.{Ref}
-use Rattle.p414_ast.specs.declared.parsers.PValue.{PValue}
-use Rattle.p414_ast.specs.declared.parsers.PValue.TheVariants as value
-use Rattle.p414_ast.specs.declared.parsers.PStmt.TheVariants as pstmt
-use Rattle.p414_ast.specs.declared.parsers.Masked.{Masked}
-use Rattle.p414_ast.specs.declared.parsers.CaseValues.TheVariants as case_values
-use Rattle.p414_ast.specs.declared.parsers.CaseTarget.{CaseTarget}
-use Rattle.p414_ast.specs.declared.parsers.CaseTarget.TheVariants as target
-use Rattle.p414_ast.specs.declared.parsers.Case.{Case}
-use Rattle.p414_ast.specs.declared.parsers.Return.TheVariants as end_of
-use Rattle.p414_ast.specs.Words.{name, keyword, paren_open, paren_close, brace_open, brace_close, semicolon, colon, comma, dot}
-use Rattle.p414_ast.specs.Written.{written_option, after_commas, written_index, written_inst, written_ref, written_pvalue, written_pstmt, written_mask, written_masked, written_target, written_case}
-use Rattle.p414_ast.specs.Conditions.{is_bare, is_pvalue, is_select_value, is_pstmt, is_case}
+use Rattle.p414_syntax.specs.declared.keyword.Keyword.TheVariants as key
+use Rattle.p414_syntax.specs.declared.lexeme.Lexeme.TheVariants.{Number}
+use Rattle.p414_syntax.specs.declared.parts.Index.{Index}
+use Rattle.p414_syntax.specs.declared.parts.Ref.{Ref}
+use Rattle.p414_syntax.specs.declared.parsers.PValue.{PValue}
+use Rattle.p414_syntax.specs.declared.parsers.PValue.TheVariants as value
+use Rattle.p414_syntax.specs.declared.parsers.PStmt.TheVariants as pstmt
+use Rattle.p414_syntax.specs.declared.parsers.Masked.{Masked}
+use Rattle.p414_syntax.specs.declared.parsers.CaseValues.TheVariants as case_values
+use Rattle.p414_syntax.specs.declared.parsers.CaseTarget.{CaseTarget}
+use Rattle.p414_syntax.specs.declared.parsers.CaseTarget.TheVariants as target
+use Rattle.p414_syntax.specs.declared.parsers.Case.{Case}
+use Rattle.p414_syntax.specs.declared.parsers.Return.TheVariants as end_of
+use Rattle.p414_syntax.specs.Words.{name, keyword, paren_open, paren_close, brace_open, brace_close, semicolon, colon, comma, dot}
+use Rattle.p414_syntax.specs.Written.{written_option, after_commas, written_index, written_inst, written_ref, written_pvalue, written_pstmt, written_mask, written_masked, written_target, written_case}
+use Rattle.p414_syntax.specs.Conditions.{is_bare, is_pvalue, is_select_value, is_pstmt, is_case}
 use Rattle.p414_reader.specs.declared.symbols.Word.TheVariants as word
 use Rattle.p414_reader.specs.declared.symbols.StateWord.{StateWord}
 use Rattle.p414_reader.specs.declared.symbols.StateWord.TheVariants as state

@@ -3,14 +3,14 @@ use Rattle.std.proofs.Common.{◌≡◌, ℕ, true, false, List, [], ◌∷◌, 
 use Rattle.std.specs.List.{flat_map, list_all}
 use Rattle.std.proofs.lemmas.Bool.{or_right}
 use Rattle.predictive_parser.proofs.Meanings.{RowsShow, NoneShows}
-use Rattle.p414_lexemes.specs.declared.keyword.Keyword.TheVariants as key
-use Rattle.p414_lexemes.specs.declared.lexeme.Lexeme.{Lexeme}
-use Rattle.p414_lexemes.specs.declared.lexeme.Literal.{Literal}
-use Rattle.p414_ast.specs.declared.parts.Index.{Index}
-use Rattle.p414_ast.specs.declared.tables.TableAttr.TheVariants as attr
-use Rattle.p414_ast.specs.Written.{written_option, written_index, written_mask, written_read, table_word}
-use Rattle.p414_ast.specs.Words.{name, semicolon, colon, dot}
-use Rattle.p414_ast.specs.Conditions.{is_among, is_table_attr, has_word, table_needs}
+use Rattle.p414_syntax.specs.declared.keyword.Keyword.TheVariants as key
+use Rattle.p414_syntax.specs.declared.lexeme.Lexeme.{Lexeme}
+use Rattle.p414_syntax.specs.declared.lexeme.Literal.{Literal}
+use Rattle.p414_syntax.specs.declared.parts.Index.{Index}
+use Rattle.p414_syntax.specs.declared.tables.TableAttr.TheVariants as attr
+use Rattle.p414_syntax.specs.Written.{written_option, written_index, written_mask, written_read, table_word}
+use Rattle.p414_syntax.specs.Words.{name, semicolon, colon, dot}
+use Rattle.p414_syntax.specs.Conditions.{is_among, is_table_attr, has_word, table_needs}
 use Rattle.p414_reader.specs.declared.symbols.Word.TheVariants as word
 use Rattle.p414_reader.specs.declared.symbols.TableWord.{TableWord}
 use Rattle.p414_reader.specs.declared.symbols.TableWord.TheVariants as table

@@ -1,40 +1,40 @@
 -- What each action of the grammar builds: it takes the newest parts of some sorts and puts one in their place.
 use Rattle.std.specs.Prelude.{ℕ, Bool, true, false, if◌then◌else◌, List, [], ◌∷◌, ◌++◌, Option, Some, None}
 use Rattle.std.specs.Str.{bytes_eq}
-use Rattle.p414_lexemes.specs.declared.lexeme.Literal.{Literal}
-use Rattle.p414_ast.specs.declared.parts.Number.{Number}
-use Rattle.p414_ast.specs.declared.parts.Index.TheVariants as index
-use Rattle.p414_ast.specs.declared.parts.Inst.{Inst}
-use Rattle.p414_ast.specs.declared.parts.Ref.{Ref}
-use Rattle.p414_ast.specs.declared.headers.FieldWidth.TheVariants as width
-use Rattle.p414_ast.specs.declared.calculations.Item.{Item}
-use Rattle.p414_ast.specs.declared.calculations.Item.TheVariants as item
-use Rattle.p414_ast.specs.declared.calculations.CalcCond.TheVariants as condition
-use Rattle.p414_ast.specs.declared.parsers.PValue.{PValue}
-use Rattle.p414_ast.specs.declared.parsers.PValue.TheVariants as value
-use Rattle.p414_ast.specs.declared.parsers.PStmt.TheVariants as pstmt
-use Rattle.p414_ast.specs.declared.parsers.CaseValues.TheVariants as case_values
-use Rattle.p414_ast.specs.declared.parsers.CaseTarget.{CaseTarget}
-use Rattle.p414_ast.specs.declared.parsers.CaseTarget.TheVariants as target
-use Rattle.p414_ast.specs.declared.parsers.Return.{Return}
-use Rattle.p414_ast.specs.declared.parsers.Return.TheVariants as end_of
-use Rattle.p414_ast.specs.declared.actions.Arg.{Arg}
-use Rattle.p414_ast.specs.declared.actions.Arg.TheVariants as arg
-use Rattle.p414_ast.specs.declared.tables.ReadKey.{ReadKey}
-use Rattle.p414_ast.specs.declared.tables.ReadKey.TheVariants as read_key
-use Rattle.p414_ast.specs.declared.tables.TableAttr.{TableAttr}
-use Rattle.p414_ast.specs.declared.tables.TableAttr.TheVariants as table_attr
-use Rattle.p414_ast.specs.declared.objects.StateAttr.{StateAttr}
-use Rattle.p414_ast.specs.declared.objects.StateAttr.TheVariants as state_attr
-use Rattle.p414_ast.specs.declared.objects.Stateful.{Stateful}
-use Rattle.p414_ast.specs.declared.node.Label.{Label}
-use Rattle.p414_ast.specs.declared.node.Label.TheVariants as label
-use Rattle.p414_ast.specs.declared.syntax.Decl.{Decl}
-use Rattle.p414_ast.specs.declared.syntax.Decl.TheVariants as decl
-use Rattle.p414_ast.specs.Tree as tree
-use Rattle.p414_ast.specs.Tree.{Expr, valid, truth, field, number, parenthesized, unary, binary, Stmt, no_statements, apply, apply_branches, if_then, call, no_else, else_block, else_if, no_branches, branch}
-use Rattle.p414_ast.specs.Views.{TailTree, length_is, max_length_is}
-use Rattle.p414_ast.specs.Conditions.{is_bare}
+use Rattle.p414_syntax.specs.declared.lexeme.Literal.{Literal}
+use Rattle.p414_syntax.specs.declared.parts.Number.{Number}
+use Rattle.p414_syntax.specs.declared.parts.Index.TheVariants as index
+use Rattle.p414_syntax.specs.declared.parts.Inst.{Inst}
+use Rattle.p414_syntax.specs.declared.parts.Ref.{Ref}
+use Rattle.p414_syntax.specs.declared.headers.FieldWidth.TheVariants as width
+use Rattle.p414_syntax.specs.declared.calculations.Item.{Item}
+use Rattle.p414_syntax.specs.declared.calculations.Item.TheVariants as item
+use Rattle.p414_syntax.specs.declared.calculations.CalcCond.TheVariants as condition
+use Rattle.p414_syntax.specs.declared.parsers.PValue.{PValue}
+use Rattle.p414_syntax.specs.declared.parsers.PValue.TheVariants as value
+use Rattle.p414_syntax.specs.declared.parsers.PStmt.TheVariants as pstmt
+use Rattle.p414_syntax.specs.declared.parsers.CaseValues.TheVariants as case_values
+use Rattle.p414_syntax.specs.declared.parsers.CaseTarget.{CaseTarget}
+use Rattle.p414_syntax.specs.declared.parsers.CaseTarget.TheVariants as target
+use Rattle.p414_syntax.specs.declared.parsers.Return.{Return}
+use Rattle.p414_syntax.specs.declared.parsers.Return.TheVariants as end_of
+use Rattle.p414_syntax.specs.declared.actions.Arg.{Arg}
+use Rattle.p414_syntax.specs.declared.actions.Arg.TheVariants as arg
+use Rattle.p414_syntax.specs.declared.tables.ReadKey.{ReadKey}
+use Rattle.p414_syntax.specs.declared.tables.ReadKey.TheVariants as read_key
+use Rattle.p414_syntax.specs.declared.tables.TableAttr.{TableAttr}
+use Rattle.p414_syntax.specs.declared.tables.TableAttr.TheVariants as table_attr
+use Rattle.p414_syntax.specs.declared.objects.StateAttr.{StateAttr}
+use Rattle.p414_syntax.specs.declared.objects.StateAttr.TheVariants as state_attr
+use Rattle.p414_syntax.specs.declared.objects.Stateful.{Stateful}
+use Rattle.p414_syntax.specs.declared.node.Label.{Label}
+use Rattle.p414_syntax.specs.declared.node.Label.TheVariants as label
+use Rattle.p414_syntax.specs.declared.syntax.Decl.{Decl}
+use Rattle.p414_syntax.specs.declared.syntax.Decl.TheVariants as decl
+use Rattle.p414_syntax.specs.Tree as tree
+use Rattle.p414_syntax.specs.Tree.{Expr, valid, truth, field, number, parenthesized, unary, binary, Stmt, no_statements, apply, apply_branches, if_then, call, no_else, else_block, else_if, no_branches, branch}
+use Rattle.p414_syntax.specs.Views.{TailTree, length_is, max_length_is}
+use Rattle.p414_syntax.specs.Conditions.{is_bare}
 use Rattle.p414_reader.specs.declared.symbols.PartAction.{PartAction}
 use Rattle.p414_reader.specs.declared.symbols.PartAction.TheVariants as part
 use Rattle.p414_reader.specs.declared.symbols.HeaderAction.{HeaderAction}
@@ -65,8 +65,8 @@ use Rattle.p414_reader.specs.declared.calculations.Calculations.{Calculations}
 use Rattle.p414_reader.specs.declared.states.States.{States}
 use Rattle.p414_reader.specs.declared.calls.Calls.{Calls}
 use Rattle.p414_reader.specs.declared.tables.Tables.{Tables}
-use Rattle.p414_lexemes.specs.declared.keyword.Keyword.TheVariants as key
-use Rattle.p414_lexemes.specs.Keywords.{keyword_text}
+use Rattle.p414_syntax.specs.declared.keyword.Keyword.TheVariants as key
+use Rattle.p414_syntax.specs.Keywords.{keyword_text}
 
 -- what stands in an empty place
 

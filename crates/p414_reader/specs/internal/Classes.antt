@@ -1,24 +1,24 @@
 -- Which tokens are of a class, and what is kept of one that is taken.
 use Rattle.std.specs.Prelude.{ℕ, Bool, true, false, not, ◌&&◌, nat_eq, nat_le, if◌then◌else◌, List, [], ◌∷◌, ◌++◌, map, Option, Some, None}
 use Rattle.std.specs.Str.{bytes_eq}
-use Rattle.p414_lexemes.specs.declared.lexeme.Literal.{Literal}
-use Rattle.p414_lexemes.specs.declared.lexeme.Lexeme.{Lexeme}
-use Rattle.p414_lexemes.specs.declared.lexeme.Lexeme.TheVariants as lexeme
-use Rattle.p414_lexemes.specs.declared.mark.Mark.{Mark}
-use Rattle.p414_lexemes.specs.declared.mark.Mark.TheVariants as mark
-use Rattle.p414_ast.specs.declared.node.UnaryOperator.{UnaryOperator}
-use Rattle.p414_ast.specs.declared.node.UnaryOperator.TheVariants as unary
-use Rattle.p414_ast.specs.declared.node.BinaryOperator.{BinaryOperator}
-use Rattle.p414_ast.specs.declared.node.BinaryOperator.TheVariants as binary
-use Rattle.p414_ast.specs.Operators.{unary_power, binary_power}
+use Rattle.p414_syntax.specs.declared.lexeme.Literal.{Literal}
+use Rattle.p414_syntax.specs.declared.lexeme.Lexeme.{Lexeme}
+use Rattle.p414_syntax.specs.declared.lexeme.Lexeme.TheVariants as lexeme
+use Rattle.p414_syntax.specs.declared.mark.Mark.{Mark}
+use Rattle.p414_syntax.specs.declared.mark.Mark.TheVariants as mark
+use Rattle.p414_syntax.specs.declared.node.UnaryOperator.{UnaryOperator}
+use Rattle.p414_syntax.specs.declared.node.UnaryOperator.TheVariants as unary
+use Rattle.p414_syntax.specs.declared.node.BinaryOperator.{BinaryOperator}
+use Rattle.p414_syntax.specs.declared.node.BinaryOperator.TheVariants as binary
+use Rattle.p414_syntax.specs.Operators.{unary_power, binary_power}
 use Rattle.predictive_parser.specs.Operators as operators
-use Rattle.p414_ast.specs.Written.{tail_word, table_word, state_word}
-use Rattle.p414_ast.specs.Conditions.{is_among, is_expression_name, is_mixed, Brace, opens, closes, neither, brace_of}
+use Rattle.p414_syntax.specs.Written.{tail_word, table_word, state_word}
+use Rattle.p414_syntax.specs.Conditions.{is_among, is_expression_name, is_mixed, Brace, opens, closes, neither, brace_of}
 use Rattle.p414_reader.specs.declared.symbols.Class.{Class}
 use Rattle.p414_reader.specs.declared.symbols.Class.TheVariants as class
 use Rattle.predictive_parser.specs.Values.{newest, extended, extended_option}
-use Rattle.p414_lexemes.specs.declared.keyword.Keyword.TheVariants as key
-use Rattle.p414_lexemes.specs.Keywords.{keyword_text}
+use Rattle.p414_syntax.specs.declared.keyword.Keyword.TheVariants as key
+use Rattle.p414_syntax.specs.Keywords.{keyword_text}
 use Rattle.p414_reader.specs.declared.built.Built.{Built}
 
 abbrev pub mark_number : Mark → ℕ

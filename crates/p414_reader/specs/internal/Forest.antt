@@ -1,11 +1,11 @@
 -- Trees by the places of their nodes: expressions, attributes of header types, and statements that aren't part of another yet.
 use Rattle.std.specs.Prelude.{◌≡◌, ℕ, ◌<◌, false, List, [], ◌∷◌, length, map}
-use Rattle.p414_lexemes.specs.declared.keyword.Keyword.TheVariants as key
-use Rattle.p414_lexemes.specs.Keywords.{keyword_text}
-use Rattle.p414_ast.specs.declared.headers.TypeTail.{TypeTail}
-use Rattle.p414_ast.specs.declared.headers.TypeTail.TheVariants as tail
-use Rattle.p414_ast.specs.Tree.{Expr, truth, Stmt, no_statements, if_then, Trees, expr_at, stmt_at, Keeps}
-use Rattle.p414_ast.specs.Views.{TailTree, tail_tree, TailsWithin}
+use Rattle.p414_syntax.specs.declared.keyword.Keyword.TheVariants as key
+use Rattle.p414_syntax.specs.Keywords.{keyword_text}
+use Rattle.p414_syntax.specs.declared.headers.TypeTail.{TypeTail}
+use Rattle.p414_syntax.specs.declared.headers.TypeTail.TheVariants as tail
+use Rattle.p414_syntax.specs.Tree.{Expr, truth, Stmt, no_statements, if_then, Trees, expr_at, stmt_at, Keeps}
+use Rattle.p414_syntax.specs.Views.{TailTree, tail_tree, TailsWithin}
 use Rattle.predictive_parser.specs.Values.{newest, older, extended}
 
 -- the trees, the newest first

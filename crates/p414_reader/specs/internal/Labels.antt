@@ -5,7 +5,7 @@ use Rattle.std.specs.BTreeSet.{BTreeSet, contains_by}
 use Rattle.std.specs.Cmp.Lexicographic.{slice_cmp}
 use Rattle.std.specs.Ordering.{nat_cmp}
 use Rattle.std.specs.declared.alloc.Global.{Global}
-use Rattle.p414_ast.specs.Conditions.{is_among, is_outcome}
+use Rattle.p414_syntax.specs.Conditions.{is_among, is_outcome}
 
 -- a set has these texts, and it is known whether one of them is `hit` or `miss`, and whether one is neither
 pub record IsRecord (texts : List (List ℕ)) (seen : BTreeSet (Vec ℕ Global)) (has_outcome has_other : Bool) : Type 0 where

@@ -1,5 +1,5 @@
 -- The tokens of a text without their places, as the parser sees them.
-use Rattle.p414_lexemes.specs.declared.lexeme.Lexeme.{Lexeme}
+use Rattle.p414_syntax.specs.declared.lexeme.Lexeme.{Lexeme}
 use Rattle.p414_tok.specs.Lexemes.{lexeme_as}
 use Rattle.p414_reader.specs.declared.token.TokenView.{TokenView}
 

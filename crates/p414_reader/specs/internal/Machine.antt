@@ -6,7 +6,7 @@ use Rattle.text_reading.specs.declared.error.ReadError.{ReadError}
 use Rattle.text_reading.specs.internal.Machine.{IsRead}
 use Rattle.p414_tok.specs.declared.kind.TokenKind14.{TokenKind14}
 use Rattle.p414_tok.specs.Front.{front}
-use Rattle.p414_ast.specs.declared.syntax.Syntax14.{Syntax14}
+use Rattle.p414_syntax.specs.declared.syntax.Syntax14.{Syntax14}
 use Rattle.p414_reader.specs.declared.symbols.Word.TheVariants as word
 use Rattle.p414_tok.specs.Lexemes.{lexemes}
 use Rattle.p414_reader.specs.declared.built.Built.{Built}

@@ -8,19 +8,19 @@ use Rattle.predictive_parser.specs.declared.symbol.Symbol.TheVariants as symbol
 use Rattle.predictive_parser.specs.declared.symbol.Otherwise.{Otherwise}
 use Rattle.predictive_parser.specs.declared.symbol.Otherwise.TheVariants.{Refuse, Pass, Build}
 use Rattle.predictive_parser.specs.Grammar.{Row, Plain, Like, ◌⇒◌, Grammar}
-use Rattle.p414_lexemes.specs.declared.lexeme.Lexeme.{Lexeme}
-use Rattle.p414_lexemes.specs.declared.mark.Mark.TheVariants.{BraceOpen, BraceClose, ParenOpen, ParenClose, BracketOpen, BracketClose, Semicolon, Colon, Comma, Dot, Equal, Plus, Minus, Star}
-use Rattle.p414_ast.specs.declared.parts.Sign.TheVariants as sign
-use Rattle.p414_ast.specs.declared.calculations.CalcUse.TheVariants as calc_use
-use Rattle.p414_ast.specs.declared.objects.CounterType.TheVariants as counter_type
-use Rattle.p414_ast.specs.declared.node.UnaryOperator.{UnaryOperator}
-use Rattle.p414_ast.specs.declared.node.BinaryOperator.{BinaryOperator}
-use Rattle.p414_ast.specs.declared.syntax.LeftOutKind.{LeftOutKind}
-use Rattle.p414_ast.specs.declared.syntax.LeftOutKind.TheVariants as left_out
-use Rattle.p414_ast.specs.Operators.{unary_power, binary_power}
+use Rattle.p414_syntax.specs.declared.lexeme.Lexeme.{Lexeme}
+use Rattle.p414_syntax.specs.declared.mark.Mark.TheVariants.{BraceOpen, BraceClose, ParenOpen, ParenClose, BracketOpen, BracketClose, Semicolon, Colon, Comma, Dot, Equal, Plus, Minus, Star}
+use Rattle.p414_syntax.specs.declared.parts.Sign.TheVariants as sign
+use Rattle.p414_syntax.specs.declared.calculations.CalcUse.TheVariants as calc_use
+use Rattle.p414_syntax.specs.declared.objects.CounterType.TheVariants as counter_type
+use Rattle.p414_syntax.specs.declared.node.UnaryOperator.{UnaryOperator}
+use Rattle.p414_syntax.specs.declared.node.BinaryOperator.{BinaryOperator}
+use Rattle.p414_syntax.specs.declared.syntax.LeftOutKind.{LeftOutKind}
+use Rattle.p414_syntax.specs.declared.syntax.LeftOutKind.TheVariants as left_out
+use Rattle.p414_syntax.specs.Operators.{unary_power, binary_power}
 use Rattle.predictive_parser.specs.Operators.{behind_prefix, behind_infix}
-use Rattle.p414_lexemes.specs.declared.keyword.Keyword.{Keyword}
-use Rattle.p414_lexemes.specs.declared.keyword.Keyword.TheVariants as key
+use Rattle.p414_syntax.specs.declared.keyword.Keyword.{Keyword}
+use Rattle.p414_syntax.specs.declared.keyword.Keyword.TheVariants as key
 use Rattle.p414_reader.specs.declared.symbols.Class.{Class}
 use Rattle.p414_reader.specs.declared.symbols.Class.TheVariants.{Name, Number, ExpressionName, NewTail, NewTableAttr, NewStateAttr, NewLabel, Infix, Prefix, GroupToken, GroupOpen, GroupClose}
 use Rattle.p414_reader.specs.declared.symbols.Class.TheVariants as class

@@ -6,8 +6,7 @@ ghost use Rattle.p414_reader.specs.internal.Coded.{body_coded};
 
 use crate::rows::{BRACE_CLOSE, BRACE_OPEN, PAREN_CLOSE, PAREN_OPEN, Rows, SEMICOLON, Told};
 use crate::symbols::{Action, BodyAction, BodyWord, Class, PartAction, PartWord, Word};
-use p414_ast::Mark;
-use p414_lexemes::Keyword;
+use p414_syntax::{Keyword, Mark};
 use predictive_parser::{Otherwise, Row, Symbol, WordRows};
 
 const CODED: Rows = &[Row::Coded];

@@ -9,8 +9,7 @@ use crate::rows::{
 use crate::symbols::{
     Action, CalculationAction, CalculationWord, Class, PartAction, PartWord, Word,
 };
-use p414_ast::{CalcUse, Mark};
-use p414_lexemes::Keyword;
+use p414_syntax::{CalcUse, Keyword, Mark};
 use predictive_parser::{Otherwise, Row, Symbol, WordRows};
 
 const ITEMS: Rows = &[

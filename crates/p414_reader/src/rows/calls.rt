@@ -5,7 +5,7 @@ ghost use Rattle.p414_reader.specs.internal.Rows.{call_rows, call_otherwise};
 
 use crate::rows::{A_NUMBER, PAREN_CLOSE, PAREN_OPEN, Rows, SEMICOLON, Told};
 use crate::symbols::{Action, CallAction, CallWord, Class, PartAction, PartWord, Word};
-use p414_ast::{Mark, Sign};
+use p414_syntax::{Mark, Sign};
 use predictive_parser::{Otherwise, Row, Symbol, WordRows};
 
 const PARAMS: Rows = &[row!(Class::Name => put_part!(AddName), part!(MoreNames))];

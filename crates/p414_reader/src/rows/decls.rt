@@ -7,8 +7,7 @@ use crate::symbols::{
     DeclKind, HeaderAction, HeaderWord, ObjectAction, ObjectWord, PartAction, PartWord,
     StateAction, StateWord, TableAction, TableWord, Word,
 };
-use p414_ast::{LeftOutKind, Mark};
-use p414_lexemes::Keyword;
+use p414_syntax::{Keyword, LeftOutKind, Mark};
 use predictive_parser::{Row, Symbol};
 
 /// Further declarations.

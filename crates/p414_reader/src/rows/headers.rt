@@ -9,8 +9,7 @@ use crate::rows::{
 use crate::symbols::{
     Action, BodyAction, BodyWord, Class, HeaderAction, HeaderWord, PartAction, PartWord, Word,
 };
-use p414_ast::Mark;
-use p414_lexemes::Keyword;
+use p414_syntax::{Keyword, Mark};
 use predictive_parser::{Otherwise, Row, Symbol, WordRows};
 
 const FIELDS: Rows = &[

@@ -5,8 +5,7 @@ ghost use Rattle.p414_reader.specs.internal.Rows.{object_rows, object_otherwise}
 
 use crate::rows::{A_NAME, A_NUMBER, COLON, Rows, SEMICOLON, Told};
 use crate::symbols::{Action, Class, ObjectAction, ObjectWord, PartWord, Word};
-use p414_ast::CounterType;
-use p414_lexemes::Keyword;
+use p414_syntax::{CounterType, Keyword};
 use predictive_parser::{Otherwise, Row, Symbol, WordRows};
 
 const ATTR: Rows = &[

@@ -5,8 +5,7 @@ ghost use Rattle.p414_reader.specs.internal.Rows.{part_rows, part_otherwise};
 
 use crate::rows::{A_NAME, A_NUMBER, BRACKET_CLOSE, DOT, PAREN_CLOSE, Rows, SEMICOLON, Told};
 use crate::symbols::{Action, Class, PartAction, PartWord, Word};
-use p414_ast::{Mark, Sign};
-use p414_lexemes::Keyword;
+use p414_syntax::{Keyword, Mark, Sign};
 use predictive_parser::{Otherwise, Row, Symbol, WordRows};
 
 const MORE_NAMES: Rows = &[row!(mark!(Comma) => A_NAME, put_part!(AddName), part!(MoreNames))];

@@ -8,8 +8,7 @@ use crate::rows::{
     PAREN_OPEN, Rows, SEMICOLON, Told,
 };
 use crate::symbols::{Action, Class, PartAction, PartWord, StateAction, StateWord, Word};
-use p414_ast::Mark;
-use p414_lexemes::Keyword;
+use p414_syntax::{Keyword, Mark};
 use predictive_parser::{Otherwise, Row, Symbol, WordRows};
 
 const STATEMENTS: Rows = &[

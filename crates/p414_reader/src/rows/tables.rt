@@ -5,7 +5,7 @@ ghost use Rattle.p414_reader.specs.internal.Rows.{table_rows, table_otherwise};
 
 use crate::rows::{A_NAME, A_NUMBER, BRACE_CLOSE, BRACE_OPEN, COLON, Rows, SEMICOLON, Told};
 use crate::symbols::{Action, Class, PartAction, PartWord, TableAction, TableWord, Word};
-use p414_lexemes::Keyword;
+use p414_syntax::Keyword;
 use predictive_parser::{Otherwise, Row, Symbol, WordRows};
 
 const ATTR: Rows = &[

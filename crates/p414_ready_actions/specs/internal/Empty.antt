@@ -1,10 +1,10 @@
 -- Actions that come to no primitive.
 use Rattle.std.specs.Prelude.{◌≡◌, ℕ, Bool, true, false, List, [], slice_index_or, slice_get, Some}
 use Rattle.std.specs.Option.{option_map_or}
-use Rattle.p414_ast.specs.declared.actions.Action.{Action}
-use Rattle.p414_ast.specs.declared.syntax.Decl.{Decl}
-use Rattle.p414_rules.specs.Arguments.{Argument, Invocation, actions, action_number}
-use Rattle.p414_rules.specs.ActionExpansion.{CallsExpand, body_with}
+use Rattle.p414_syntax.specs.declared.actions.Action.{Action}
+use Rattle.p414_syntax.specs.declared.syntax.Decl.{Decl}
+use Rattle.p414_syntax.specs.Arguments.{Argument, Invocation, actions, action_number}
+use Rattle.p414_syntax.specs.ActionExpansion.{CallsExpand, body_with}
 
 abbrev pub is_marked : List Bool → ℕ → Bool
 is_marked marks n = slice_index_or marks n false

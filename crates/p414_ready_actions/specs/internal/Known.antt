@@ -1,9 +1,9 @@
 -- What is known of a program's actions.
 use Rattle.std.specs.Prelude.{◌≡◌, Bool, List, map}
-use Rattle.p414_ast.specs.declared.syntax.Decl.{Decl}
-use Rattle.p414_ast.specs.declared.syntax.Sort.TheVariants as sort
-use Rattle.p414_rules.specs.Names.{Name, names_in}
-use Rattle.p414_rules.specs.Arguments.{Invocation, invocations_of, actions}
+use Rattle.p414_syntax.specs.declared.syntax.Decl.{Decl}
+use Rattle.p414_syntax.specs.declared.syntax.Sort.TheVariants as sort
+use Rattle.p414_syntax.specs.Names.{Name, names_in}
+use Rattle.p414_syntax.specs.Arguments.{Invocation, invocations_of, actions}
 use Rattle.p414_sem.specs.Operations.{in_order}
 use Rattle.p414_ready_actions.specs.internal.Empty.{AreEmpty}
 

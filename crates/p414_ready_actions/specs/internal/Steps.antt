@@ -1,8 +1,8 @@
 -- How calls are expanded step by step: rows that are made, and calls that wait.
 use Rattle.std.specs.Prelude.{◌≡◌, List, [], ◌∷◌, ◌++◌, map}
-use Rattle.p414_ast.specs.declared.syntax.Decl.{Decl}
-use Rattle.p414_rules.specs.Arguments.{Invocation}
-use Rattle.p414_rules.specs.ActionExpansion.{CallsExpand}
+use Rattle.p414_syntax.specs.declared.syntax.Decl.{Decl}
+use Rattle.p414_syntax.specs.Arguments.{Invocation}
+use Rattle.p414_syntax.specs.ActionExpansion.{CallsExpand}
 use Rattle.p414_ready_actions.specs.declared.rows.ReadyPrimitive.{ReadyPrimitive}
 use Rattle.p414_ready_actions.specs.Words.{row_of}
 

@@ -1,7 +1,7 @@
 -- The width of an expression, operand by operand.
 use Rattle.std.specs.Prelude.{ℕ, max, List, fold}
-use Rattle.p414_ast.specs.declared.syntax.Decl.{Decl}
-use Rattle.p414_ast.specs.Tree.{Expr, valid, truth, field, number, parenthesized, unary, binary}
+use Rattle.p414_syntax.specs.declared.syntax.Decl.{Decl}
+use Rattle.p414_syntax.specs.Tree.{Expr, valid, truth, field, number, parenthesized, unary, binary}
 use Rattle.p414_sem.specs.Slots.{bits_of_ref}
 use Rattle.p414_sem.specs.Conditions.{literal_width}
 

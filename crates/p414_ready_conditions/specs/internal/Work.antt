@@ -1,10 +1,10 @@
 -- What is still to be done to make a condition ready.
 use Rattle.std.specs.Prelude.{ℕ, ◌+◌, ◌*◌, false, if◌then◌else◌, List, [], ◌∷◌, length, flat_map}
-use Rattle.p414_ast.specs.declared.node.BinaryOperator.{BinaryOperator}
-use Rattle.p414_ast.specs.declared.syntax.Decl.{Decl}
-use Rattle.p414_ast.specs.Tree.{Expr, valid, truth, field, number, parenthesized, unary, binary}
-use Rattle.p414_ast.specs.Subtrees.{subexpressions}
-use Rattle.p414_rules.specs.Expressions.{takes_truth}
+use Rattle.p414_syntax.specs.declared.node.BinaryOperator.{BinaryOperator}
+use Rattle.p414_syntax.specs.declared.syntax.Decl.{Decl}
+use Rattle.p414_syntax.specs.Tree.{Expr, valid, truth, field, number, parenthesized, unary, binary}
+use Rattle.p414_syntax.specs.Subtrees.{subexpressions}
+use Rattle.p414_syntax.specs.Expressions.{takes_truth}
 use Rattle.p414_sem.specs.Slots.{slot_of}
 use Rattle.p414_slots.specs.Shown.{kept_slot}
 use Rattle.p414_ready_conditions.specs.declared.making.Work.{Work}

@@ -1,9 +1,9 @@
 -- Nodes are made from the last statement of a control to the first: then all that stands within a statement is there before it.
 use Rattle.std.specs.Prelude.{ℕ, ◌+◌, List, [], ◌∷◌, Option, Some, None}
-use Rattle.p414_ast.specs.declared.syntax.Decl.{Decl}
-use Rattle.p414_ast.specs.Tree.{Stmt, no_statements, then, apply, apply_branches, if_then, call, no_else, else_block, else_if, no_branches, branch}
+use Rattle.p414_syntax.specs.declared.syntax.Decl.{Decl}
+use Rattle.p414_syntax.specs.Tree.{Stmt, no_statements, then, apply, apply_branches, if_then, call, no_else, else_block, else_if, no_branches, branch}
 use Rattle.p414_ready_conditions.specs.Rows.{truth_rows}
-use Rattle.p414_rules.specs.ControlExpansion.{control_number}
+use Rattle.p414_syntax.specs.ControlExpansion.{control_number}
 use Rattle.p414_ready_controls.specs.declared.building.Part.{Part}
 use Rattle.p414_ready_controls.specs.declared.nodes.ControlNode.{ControlNode}
 use Rattle.p414_ready_controls.specs.declared.nodes.ControlNode.TheVariants as node

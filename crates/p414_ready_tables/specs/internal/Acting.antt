@@ -1,7 +1,7 @@
 -- The actions of a program, ready to run under a rule.
 use Rattle.std.specs.Prelude.{◌≡◌, ℕ, ◌<◌, List, [], length, slice_index_or, All}
 use Rattle.state_store.specs.declared.shapes.Shape as objects
-use Rattle.p414_ast.specs.declared.syntax.Decl.{Decl}
+use Rattle.p414_syntax.specs.declared.syntax.Decl.{Decl}
 use Rattle.p414_sem.specs.Expanded.{Expanded, IsExpanded}
 use Rattle.p414_sem.specs.Effects.{Moment}
 use Rattle.p414_layout.specs.declared.shape.Shape.{Shape}

@@ -6,14 +6,14 @@ use Rattle.std.specs.Option.{option_map_or}
 use Rattle.std.specs.Ordering.{nat_cmp}
 use Rattle.state_store.specs.declared.shapes.Shape.{Shape}
 use Rattle.state_store.specs.declared.shapes.Shape.TheVariants as shape
-use Rattle.p414_ast.specs.declared.syntax.Decl.{Decl}
-use Rattle.p414_ast.specs.declared.syntax.Decl.TheVariants as decl
-use Rattle.p414_ast.specs.declared.syntax.Sort.TheVariants as sort
-use Rattle.p414_ast.specs.declared.tables.Table.{Table}
-use Rattle.p414_ast.specs.Attributes.{direct_table_of}
-use Rattle.p414_ast.specs.References.{referred}
-use Rattle.p414_rules.specs.Names.{Name, declaration_of, find_name, names_in}
-use Rattle.p414_rules.specs.Tables.{table_in}
+use Rattle.p414_syntax.specs.declared.syntax.Decl.{Decl}
+use Rattle.p414_syntax.specs.declared.syntax.Decl.TheVariants as decl
+use Rattle.p414_syntax.specs.declared.syntax.Sort.TheVariants as sort
+use Rattle.p414_syntax.specs.declared.tables.Table.{Table}
+use Rattle.p414_syntax.specs.Attributes.{direct_table_of}
+use Rattle.p414_syntax.specs.References.{referred}
+use Rattle.p414_syntax.specs.Names.{Name, declaration_of, find_name, names_in}
+use Rattle.p414_syntax.specs.Tables.{table_in}
 use Rattle.p414_sem.specs.Operations.{in_order}
 use Rattle.p414_sem.specs.Signatures.{shape_in}
 use Rattle.p414_signature.specs.declared.directs.Objects.{Objects}

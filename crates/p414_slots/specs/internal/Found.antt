@@ -1,15 +1,15 @@
 -- Where the fields of an instance are found.
 use Rattle.std.specs.Prelude.{◌≡◌, ℕ, List, length, map, slice_get, slice_index, sum, Option, Some, None, option_and_then, unwrap_or, if◌then◌else◌}
 use Rattle.std.specs.Option.{option_map_or}
-use Rattle.p414_ast.specs.declared.parts.Index.{Index}
-use Rattle.p414_ast.specs.declared.parts.Ref.{Ref}
-use Rattle.p414_ast.specs.declared.syntax.Decl.{Decl}
-use Rattle.p414_ast.specs.declared.syntax.Sort.TheVariants as sort
-use Rattle.p414_ast.specs.Views.{HeaderTypeTree}
-use Rattle.p414_rules.specs.Primitives.{is_standard}
-use Rattle.p414_rules.specs.Names.{Name, find_name, names_in, number_of}
-use Rattle.p414_rules.specs.Expansion.{type_fields}
-use Rattle.p414_rules.specs.Fields.{instance_of, type_name_in, types}
+use Rattle.p414_syntax.specs.declared.parts.Index.{Index}
+use Rattle.p414_syntax.specs.declared.parts.Ref.{Ref}
+use Rattle.p414_syntax.specs.declared.syntax.Decl.{Decl}
+use Rattle.p414_syntax.specs.declared.syntax.Sort.TheVariants as sort
+use Rattle.p414_syntax.specs.Views.{HeaderTypeTree}
+use Rattle.p414_syntax.specs.Primitives.{is_standard}
+use Rattle.p414_syntax.specs.Names.{Name, find_name, names_in, number_of}
+use Rattle.p414_syntax.specs.Expansion.{type_fields}
+use Rattle.p414_syntax.specs.Fields.{instance_of, type_name_in, types}
 use Rattle.p414_sem.specs.declared.standard.Standard.{Standard}
 use Rattle.p414_sem.specs.Packing.{type_widths}
 use Rattle.p414_sem.specs.Slots.{Slot, standard, declared_slot, standard_field}

@@ -1,7 +1,7 @@
 -- Uses that are collected.
 use Rattle.std.specs.Prelude.{◌≡◌, List, ◌++◌, map}
-use Rattle.p414_ast.specs.declared.syntax.Decl.{Decl}
-use Rattle.p414_rules.specs.Uses as uses
+use Rattle.p414_syntax.specs.declared.syntax.Decl.{Decl}
+use Rattle.p414_syntax.specs.Uses as uses
 use Rattle.p414_uses.specs.declared.uses.Use.{Use}
 use Rattle.p414_uses.specs.Shown.{shown_use}
 

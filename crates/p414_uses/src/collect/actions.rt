@@ -1,17 +1,16 @@
 // The uses in actions.
 ghost use Rattle.std.specs.Prelude.{◌≡◌, [], ◌∷◌, ◌++◌, map, option_copied, option_to_list, OnOk, IfOk, None, Some};
 ghost use Rattle.std.specs.List.{flat_map};
-ghost use Rattle.p414_ast.specs.Subtrees.{subexpressions, subtrees};
+ghost use Rattle.p414_syntax.specs.Subtrees.{subexpressions, subtrees};
 ghost use Rattle.p414_uses.specs.internal.Collected.{Adds};
-ghost use Rattle.p414_rules.specs.Names.{has_name};
-ghost use Rattle.p414_rules.specs.Uses.{uses_of_bare, uses_of_placed, uses_of_named, uses_of_arg, first_place, further_places, uses_of_args, uses_of_sources, uses_of_arguments, uses_of_call, uses_of_declared_action};
+ghost use Rattle.p414_syntax.specs.Names.{has_name};
+ghost use Rattle.p414_syntax.specs.Uses.{uses_of_bare, uses_of_placed, uses_of_named, uses_of_arg, first_place, further_places, uses_of_args, uses_of_sources, uses_of_arguments, uses_of_call, uses_of_declared_action};
 ghost use Rattle.p414_uses.specs.internal.Parameters.{AreParameters};
 
 use crate::uses::{Use, add};
 use p4x_bits::{OutOfMemory, Text};
-use p414_ast::{Action, Arg, Call, Inst, Sort};
 use p414_names::{NameSet, is_any_primitive, primitive_places};
-use p414_rules::ArgumentPlace;
+use p414_syntax::{Action, Arg, ArgumentPlace, Call, Inst, Sort};
 use std::alloc::Global;
 
 /// Different parameters of an action, to look them up.

@@ -1,14 +1,14 @@
 // The uses in controls.
 ghost use Rattle.std.specs.Prelude.{◌≡◌, [], ◌∷◌, ◌++◌, map, option_copied, option_to_list, OnOk, None, Some};
 ghost use Rattle.std.specs.List.{flat_map};
-ghost use Rattle.p414_ast.specs.Subtrees.{subexpressions, subtrees};
+ghost use Rattle.p414_syntax.specs.Subtrees.{subexpressions, subtrees};
 ghost use Rattle.p414_uses.specs.internal.Collected.{Adds};
-ghost use Rattle.p414_rules.specs.Uses.{uses_of_label, own_uses};
+ghost use Rattle.p414_syntax.specs.Uses.{uses_of_label, own_uses};
 
 use crate::collect::expressions::add_expression;
 use crate::uses::{Use, add};
 use p4x_bits::OutOfMemory;
-use p414_ast::{Control, Label, Sort, StmtHead, StmtView, all_statements};
+use p414_syntax::{Control, Label, Sort, StmtHead, StmtView, all_statements};
 use std::alloc::Global;
 
 /// Adds the use in a label.

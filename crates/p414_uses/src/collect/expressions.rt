@@ -1,13 +1,13 @@
 // The uses in expressions.
 ghost use Rattle.std.specs.Prelude.{◌≡◌, [], ◌∷◌, ◌++◌, map, option_copied, option_to_list, OnOk, None, Some};
 ghost use Rattle.std.specs.List.{flat_map};
-ghost use Rattle.p414_ast.specs.Subtrees.{subexpressions, subtrees};
+ghost use Rattle.p414_syntax.specs.Subtrees.{subexpressions, subtrees};
 ghost use Rattle.p414_uses.specs.internal.Collected.{Adds};
-ghost use Rattle.p414_rules.specs.Uses.{own_operand, uses_of_expr};
+ghost use Rattle.p414_syntax.specs.Uses.{own_operand, uses_of_expr};
 
 use crate::uses::{Use, add};
 use p4x_bits::OutOfMemory;
-use p414_ast::{ExprHead, ExprView, all_expressions};
+use p414_syntax::{ExprHead, ExprView, all_expressions};
 use std::alloc::Global;
 
 /// Adds the use of an operand.

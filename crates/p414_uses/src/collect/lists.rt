@@ -1,15 +1,15 @@
 // The uses in header types, metadata, field lists and calculated fields.
 ghost use Rattle.std.specs.Prelude.{◌≡◌, [], ◌∷◌, ◌++◌, map, option_copied, option_to_list, OnOk, None, Some};
 ghost use Rattle.std.specs.List.{flat_map};
-ghost use Rattle.p414_ast.specs.Subtrees.{subexpressions, subtrees};
+ghost use Rattle.p414_syntax.specs.Subtrees.{subexpressions, subtrees};
 ghost use Rattle.p414_uses.specs.internal.Collected.{Adds};
-ghost use Rattle.p414_ast.specs.declared.syntax.Sort.TheVariants as sort;
-ghost use Rattle.p414_rules.specs.Uses.{of_sort, uses_of_expr, tail_expressions, use_of_initial, uses_of_item, uses_of_condition, uses_of_calc, uses_of_calculated};
+ghost use Rattle.p414_syntax.specs.declared.syntax.Sort.TheVariants as sort;
+ghost use Rattle.p414_syntax.specs.Uses.{of_sort, uses_of_expr, tail_expressions, use_of_initial, uses_of_item, uses_of_condition, uses_of_calc, uses_of_calculated};
 
 use crate::collect::expressions::add_expression;
 use crate::uses::{Use, add};
 use p4x_bits::{OutOfMemory, Text};
-use p414_ast::{Calc, CalcCond, CalculatedField, ExprView, HeaderType, Initial, Item, Sort};
+use p414_syntax::{Calc, CalcCond, CalculatedField, ExprView, HeaderType, Initial, Item, Sort};
 use std::alloc::Global;
 
 /// Adds the uses in an expression, if there is one.

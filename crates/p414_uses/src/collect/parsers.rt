@@ -1,13 +1,13 @@
 // The uses in parser states.
 ghost use Rattle.std.specs.Prelude.{◌≡◌, [], ◌∷◌, ◌++◌, map, option_copied, option_to_list, OnOk, None, Some};
 ghost use Rattle.std.specs.List.{flat_map};
-ghost use Rattle.p414_ast.specs.Subtrees.{subexpressions, subtrees};
+ghost use Rattle.p414_syntax.specs.Subtrees.{subexpressions, subtrees};
 ghost use Rattle.p414_uses.specs.internal.Collected.{Adds};
-ghost use Rattle.p414_rules.specs.Uses.{uses_of_value, last_behind, last_of, uses_of_statement, uses_of_statements, uses_of_target, uses_of_case, uses_of_return, uses_of_state};
+ghost use Rattle.p414_syntax.specs.Uses.{uses_of_value, last_behind, last_of, uses_of_statement, uses_of_statements, uses_of_target, uses_of_case, uses_of_return, uses_of_state};
 
 use crate::uses::{Use, add};
 use p4x_bits::OutOfMemory;
-use p414_ast::{Case, CaseTarget, Inst, PStmt, PValue, Parser, Return};
+use p414_syntax::{Case, CaseTarget, Inst, PStmt, PValue, Parser, Return};
 
 /// Adds the use in a value, where `last` was extracted last.
 fn add_value<'a>(

@@ -1,14 +1,14 @@
 // The uses in tables, counters, meters and registers.
 ghost use Rattle.std.specs.Prelude.{◌≡◌, [], ◌∷◌, ◌++◌, map, option_copied, option_to_list, OnOk, None, Some};
 ghost use Rattle.std.specs.List.{flat_map};
-ghost use Rattle.p414_ast.specs.Subtrees.{subexpressions, subtrees};
+ghost use Rattle.p414_syntax.specs.Subtrees.{subexpressions, subtrees};
 ghost use Rattle.p414_uses.specs.internal.Collected.{Adds};
-ghost use Rattle.p414_rules.specs.Uses.{uses_of_key, uses_of_read, uses_of_table_attr, uses_of_state_attr, uses_of_meter};
+ghost use Rattle.p414_syntax.specs.Uses.{uses_of_key, uses_of_read, uses_of_table_attr, uses_of_state_attr, uses_of_meter};
 
 use crate::collect::lists::add_names;
 use crate::uses::{Use, add};
 use p4x_bits::OutOfMemory;
-use p414_ast::{Read, ReadKey, Sort, StateAttr, Stateful, TableAttr};
+use p414_syntax::{Read, ReadKey, Sort, StateAttr, Stateful, TableAttr};
 
 /// Adds the use in a key.
 fn add_read<'a>(found: &mut Vec<Use<'a>>, read: &'a Read) -> Result<(), OutOfMemory>

@@ -1,10 +1,10 @@
 -- Counters with the actions that their tables list.
 use Rattle.std.specs.Prelude.{Bool, false, not, List, Option, Some, None}
 use Rattle.std.specs.List.{list_any}
-use Rattle.p416_ast.specs.declared.controls.ActionName.{ActionName}
-use Rattle.p416_ast.specs.declared.controls.Table16.{Table16}
-use Rattle.p416_ast.specs.Properties.{actions_of, counters_of}
-use Rattle.p416_rules.specs.Names.{Name}
+use Rattle.p416_syntax.specs.declared.controls.ActionName.{ActionName}
+use Rattle.p416_syntax.specs.declared.controls.Table16.{Table16}
+use Rattle.p416_syntax.specs.Properties.{actions_of, counters_of}
+use Rattle.p416_syntax.specs.Names.{Name}
 use Rattle.p416_expression_uses.specs.Found.{CountedIn}
 use Rattle.p416_listed_check.specs.Pairs.{Pair, is_same_pair, is_listed_pair}
 

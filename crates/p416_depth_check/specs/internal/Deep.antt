@@ -2,30 +2,30 @@
 use Rattle.std.specs.Prelude.{ℕ, ◌+◌, Bool, false, ◌||◌, nat_lt, flat_map, Option, Some, None}
 use Rattle.std.specs.List.{list_any}
 use Rattle.std.specs.Option.{option_map_or}
-use Rattle.p416_ast.specs.declared.parsers.Var.{Var}
-use Rattle.p416_ast.specs.declared.parsers.Simple.{Simple}
-use Rattle.p416_ast.specs.declared.parsers.Simple.TheVariants as simple
-use Rattle.p416_ast.specs.declared.parsers.SelectCase.{SelectCase}
-use Rattle.p416_ast.specs.declared.parsers.Transition.{Transition}
-use Rattle.p416_ast.specs.declared.parsers.Transition.TheVariants as transition
-use Rattle.p416_ast.specs.declared.parsers.State.{State}
-use Rattle.p416_ast.specs.declared.parsers.Parser16.{Parser16}
-use Rattle.p416_ast.specs.declared.controls.Instance.{Instance}
-use Rattle.p416_ast.specs.declared.controls.Instance.TheVariants as instance
-use Rattle.p416_ast.specs.declared.controls.ActionName.{ActionName}
-use Rattle.p416_ast.specs.declared.controls.TableKey.{TableKey}
-use Rattle.p416_ast.specs.declared.controls.Table16.{Table16}
-use Rattle.p416_ast.specs.declared.controls.Local.{Local}
-use Rattle.p416_ast.specs.declared.controls.Local.TheVariants as local
-use Rattle.p416_ast.specs.declared.controls.Control16.{Control16}
-use Rattle.p416_ast.specs.declared.program.Decl16.{Decl16}
-use Rattle.p416_ast.specs.declared.program.Decl16.TheVariants as decl
-use Rattle.p416_ast.specs.Properties.{keys_of, default_action_of, default_arguments_of}
-use Rattle.p416_ast.specs.Subtrees.{own_expressions, subtrees}
-use Rattle.p416_ast.specs.Tree.{Exp16, argument, Stmt16}
-use Rattle.p416_rules.specs.Statements.{nesting}
-use Rattle.p416_rules.specs.Declarations.{keyset_parts}
-use Rattle.p416_rules.specs.Totals.{depth}
+use Rattle.p416_syntax.specs.declared.parsers.Var.{Var}
+use Rattle.p416_syntax.specs.declared.parsers.Simple.{Simple}
+use Rattle.p416_syntax.specs.declared.parsers.Simple.TheVariants as simple
+use Rattle.p416_syntax.specs.declared.parsers.SelectCase.{SelectCase}
+use Rattle.p416_syntax.specs.declared.parsers.Transition.{Transition}
+use Rattle.p416_syntax.specs.declared.parsers.Transition.TheVariants as transition
+use Rattle.p416_syntax.specs.declared.parsers.State.{State}
+use Rattle.p416_syntax.specs.declared.parsers.Parser16.{Parser16}
+use Rattle.p416_syntax.specs.declared.controls.Instance.{Instance}
+use Rattle.p416_syntax.specs.declared.controls.Instance.TheVariants as instance
+use Rattle.p416_syntax.specs.declared.controls.ActionName.{ActionName}
+use Rattle.p416_syntax.specs.declared.controls.TableKey.{TableKey}
+use Rattle.p416_syntax.specs.declared.controls.Table16.{Table16}
+use Rattle.p416_syntax.specs.declared.controls.Local.{Local}
+use Rattle.p416_syntax.specs.declared.controls.Local.TheVariants as local
+use Rattle.p416_syntax.specs.declared.controls.Control16.{Control16}
+use Rattle.p416_syntax.specs.declared.program.Decl16.{Decl16}
+use Rattle.p416_syntax.specs.declared.program.Decl16.TheVariants as decl
+use Rattle.p416_syntax.specs.Properties.{keys_of, default_action_of, default_arguments_of}
+use Rattle.p416_syntax.specs.Subtrees.{own_expressions, subtrees}
+use Rattle.p416_syntax.specs.Tree.{Exp16, argument, Stmt16}
+use Rattle.p416_syntax.specs.Statements.{nesting}
+use Rattle.p416_syntax.specs.Declarations.{keyset_parts}
+use Rattle.p416_syntax.specs.Totals.{depth}
 
 abbrev pub is_deep : Exp16 → Bool
 is_deep e = nat_lt 512 (depth e)

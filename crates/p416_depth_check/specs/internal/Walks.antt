@@ -1,8 +1,8 @@
 -- Expressions and statements that are still to be walked, each with how many levels may still stand there.
 use Rattle.std.specs.Prelude.{ℕ, ◌-◌, Bool, true, false, not, ◌&&◌, nat_eq, nat_lt, List, [], ◌∷◌}
-use Rattle.p416_ast.specs.Tree.{Exp16, member, index, slice, call, lookahead, cast, unary, binary, choice, no_arguments, argument, listed, Stmt16, then, block, if_then, if_else, switch, case_of}
-use Rattle.p416_rules.specs.Statements.{nesting}
-use Rattle.p416_rules.specs.Totals.{depth}
+use Rattle.p416_syntax.specs.Tree.{Exp16, member, index, slice, call, lookahead, cast, unary, binary, choice, no_arguments, argument, listed, Stmt16, then, block, if_then, if_else, switch, case_of}
+use Rattle.p416_syntax.specs.Statements.{nesting}
+use Rattle.p416_syntax.specs.Totals.{depth}
 use Rattle.p416_depth_check.specs.declared.expressions.ExpLeft.{ExpLeft}
 use Rattle.p416_depth_check.specs.declared.blocks.StmtLeft.{StmtLeft}
 

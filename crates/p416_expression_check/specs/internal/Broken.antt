@@ -2,23 +2,23 @@
 use Rattle.std.specs.Prelude.{ℕ, Bool, true, false, not, ◌&&◌, nat_eq, is_none, if◌then◌else◌, List, [], ◌∷◌, Option, Some, None}
 use Rattle.std.specs.List.{list_all}
 use Rattle.std.specs.Option.{option_map_or}
-use Rattle.p416_ast.specs.Tree.{Exp16, name, member, index, slice, call, lookahead, binary}
-use Rattle.p416_rules.specs.declared.rule.ProgramRule.{ProgramRule}
-use Rattle.p416_rules.specs.declared.rule.ProgramRule.TheVariants.{T1, T2, T3, T4, T5, T6, T8, T10}
-use Rattle.p416_rules.specs.Names.{Name}
-use Rattle.p416_rules.specs.Kinds.{Kind, is_plain, is_stack}
-use Rattle.p416_rules.specs.Scopes.{Scope, Layout, Part, sort_of}
-use Rattle.p416_rules.specs.Calls.{Place, callee, Stand, anywhere, at_positions, in_its_actions, by_clone_type, Signature, parser_position}
-use Rattle.p416_rules.specs.Expressions.{member_kind}
-use Rattle.p416_rules.specs.Uses.{an_expression}
-use Rattle.p416_rules.specs.Unknown.{fits_place, has_lookahead}
-use Rattle.p416_rules.specs.Sizes.{leaves_stack, leaves_bits, joins_too_many}
-use Rattle.p416_rules.specs.Types.{takes}
-use Rattle.p416_rules.specs.Literals.{overflows}
-use Rattle.p416_rules.specs.Writes.{is_written_place}
-use Rattle.p416_rules.specs.Arguments.{takes_other_count}
-use Rattle.p416_rules.specs.Applications.{applies_nothing, is_applied}
-use Rattle.p416_rules.specs.Externs.{is_some_position, is_allowed_at, are_allowed, is_action_part, is_parser_part, is_place_word}
+use Rattle.p416_syntax.specs.Tree.{Exp16, name, member, index, slice, call, lookahead, binary}
+use Rattle.p416_syntax.specs.declared.rule.ProgramRule.{ProgramRule}
+use Rattle.p416_syntax.specs.declared.rule.ProgramRule.TheVariants.{T1, T2, T3, T4, T5, T6, T8, T10}
+use Rattle.p416_syntax.specs.Names.{Name}
+use Rattle.p416_syntax.specs.Kinds.{Kind, is_plain, is_stack}
+use Rattle.p416_syntax.specs.Scopes.{Scope, Layout, Part, sort_of}
+use Rattle.p416_syntax.specs.Calls.{Place, callee, Stand, anywhere, at_positions, in_its_actions, by_clone_type, Signature, parser_position}
+use Rattle.p416_syntax.specs.Expressions.{member_kind}
+use Rattle.p416_syntax.specs.Uses.{an_expression}
+use Rattle.p416_syntax.specs.Unknown.{fits_place, has_lookahead}
+use Rattle.p416_syntax.specs.Sizes.{leaves_stack, leaves_bits, joins_too_many}
+use Rattle.p416_syntax.specs.Types.{takes}
+use Rattle.p416_syntax.specs.Literals.{overflows}
+use Rattle.p416_syntax.specs.Writes.{is_written_place}
+use Rattle.p416_syntax.specs.Arguments.{takes_other_count}
+use Rattle.p416_syntax.specs.Applications.{applies_nothing, is_applied}
+use Rattle.p416_syntax.specs.Externs.{is_some_position, is_allowed_at, are_allowed, is_action_part, is_parser_part, is_place_word}
 use Rattle.p416_typing.specs.Rows.{RowOf}
 
 -- T1

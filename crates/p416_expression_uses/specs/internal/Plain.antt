@@ -1,10 +1,10 @@
 -- Uses of which nothing but a rule is found, that T9 asks nothing of; and direct counters that are counted, by what stands before the method.
 use Rattle.std.specs.Prelude.{Bool, true, false, if◌then◌else◌, List, []}
-use Rattle.p416_ast.specs.Tree.{Exp16, name, member}
-use Rattle.p416_rules.specs.Kinds.{Kind}
-use Rattle.p416_rules.specs.Scopes.{Part}
-use Rattle.p416_rules.specs.Uses.{Use, an_expression, a_type, a_switch, some_parameters, some_counters, a_table_of}
-use Rattle.p416_rules.specs.Tables.{is_direct_counter}
+use Rattle.p416_syntax.specs.Tree.{Exp16, name, member}
+use Rattle.p416_syntax.specs.Kinds.{Kind}
+use Rattle.p416_syntax.specs.Scopes.{Part}
+use Rattle.p416_syntax.specs.Uses.{Use, an_expression, a_type, a_switch, some_parameters, some_counters, a_table_of}
+use Rattle.p416_syntax.specs.Tables.{is_direct_counter}
 use Rattle.p416_expression_uses.specs.Found.{CountedIn, counted_in}
 
 abbrev pub is_plain_use : Use → Bool

@@ -1,15 +1,15 @@
 -- What is judged in an expression from its front to its end: each part has a spot, which the part that it stands in tells.
 use Rattle.std.specs.Prelude.{ℕ, ◌-◌, List, [], ◌∷◌, ◌++◌, get_or, Option, Some, None, if◌then◌else◌, not, map}
-use Rattle.p416_lexemes.specs.declared.lexeme.Literal16.{Literal16}
-use Rattle.p416_ast.specs.Tree.{Exp16, member, index, slice, call, lookahead, cast, unary, binary, choice, parenthesized, argument, listed}
-use Rattle.p416_rules.specs.declared.rule.ProgramRule.{ProgramRule}
-use Rattle.p416_rules.specs.declared.rule.ProgramRule.TheVariants.{T1, T3}
-use Rattle.p416_rules.specs.Kinds.{Kind, boolean}
-use Rattle.p416_rules.specs.Scopes.{Scope, Sort, Known}
-use Rattle.p416_rules.specs.Calls.{Place, value, any_bits, owner, a_stack, callee, unasked}
-use Rattle.p416_rules.specs.Uses.{Use, an_expression, a_number, TypePlace, of_lookahead, Places, one, many, owner_place, wanted_by, cast_place, unary_place, left_place, right_place, chosen_place, type_uses, cast_numbers, uses_at}
-use Rattle.p416_rules.specs.Unknown.{is_type_sort}
-use Rattle.p416_rules.specs.Types.{is_misplaced}
+use Rattle.p416_syntax.specs.declared.lexeme.Literal16.{Literal16}
+use Rattle.p416_syntax.specs.Tree.{Exp16, member, index, slice, call, lookahead, cast, unary, binary, choice, parenthesized, argument, listed}
+use Rattle.p416_syntax.specs.declared.rule.ProgramRule.{ProgramRule}
+use Rattle.p416_syntax.specs.declared.rule.ProgramRule.TheVariants.{T1, T3}
+use Rattle.p416_syntax.specs.Kinds.{Kind, boolean}
+use Rattle.p416_syntax.specs.Scopes.{Scope, Sort, Known}
+use Rattle.p416_syntax.specs.Calls.{Place, value, any_bits, owner, a_stack, callee, unasked}
+use Rattle.p416_syntax.specs.Uses.{Use, an_expression, a_number, TypePlace, of_lookahead, Places, one, many, owner_place, wanted_by, cast_place, unary_place, left_place, right_place, chosen_place, type_uses, cast_numbers, uses_at}
+use Rattle.p416_syntax.specs.Unknown.{is_type_sort}
+use Rattle.p416_syntax.specs.Types.{is_misplaced}
 use Rattle.p416_names.specs.Seen.{kind_of_named}
 use Rattle.p416_typing.specs.Rows.{RowOf, row_of}
 use Rattle.p416_expression_uses.specs.declared.spots.Spot.{Spot as CodeSpot}

@@ -2,9 +2,9 @@
 use Rattle.std.specs.Prelude.{ℕ, Bool, false, not, List, map, slice_get, Option, Some, None}
 use Rattle.std.specs.Option.{option_map_or}
 use Rattle.name_numbers.specs.Names.{find_name}
-use Rattle.p416_ast.specs.declared.controls.ActionName.{ActionName}
-use Rattle.p416_rules.specs.Scopes.{Scope}
-use Rattle.p416_rules.specs.Tables.{is_same_action, action_plane}
+use Rattle.p416_syntax.specs.declared.controls.ActionName.{ActionName}
+use Rattle.p416_syntax.specs.Scopes.{Scope}
+use Rattle.p416_syntax.specs.Tables.{is_same_action, action_plane}
 
 abbrev pub is_other : ActionName → ActionName → Bool
 is_other a b = not (is_same_action b a)

@@ -1,8 +1,8 @@
 -- Where each name stands in `main`, kept where the first name equal to it stands.
 use Rattle.std.specs.Prelude.{◌≡◌, ℕ, nat_lt, if◌then◌else◌, List, [], ◌∷◌, ◌++◌, length, Option, Some, None, slice_index_or, slice_set}
 use Rattle.name_numbers.specs.Names.{find_name}
-use Rattle.p416_rules.specs.Names.{Name}
-use Rattle.p416_rules.specs.Main.{positions_from}
+use Rattle.p416_syntax.specs.Names.{Name}
+use Rattle.p416_syntax.specs.Main.{positions_from}
 
 -- the places of each name, by the number of the first that is equal to it
 pub record ArePlaces (names : List Name) (places : List (List ℕ)) : Type 0 where

@@ -1,14 +1,14 @@
 -- What a block of code is among those of the rules, and the names of structs that were looked through.
 use Rattle.std.specs.Prelude.{◌≡◌, true, List, [], ◌∷◌, map, Some, None}
-use Rattle.p416_ast.specs.declared.parts.Direction.TheVariants.{In, Out, InOut}
-use Rattle.p416_ast.specs.declared.parts.Param.{Param}
-use Rattle.p416_ast.specs.declared.program.Decl16.{Decl16}
-use Rattle.p416_rules.specs.Names.{Name, has_name}
-use Rattle.p416_rules.specs.Kinds.{Kind, struct, packet_in, packet_out}
-use Rattle.p416_rules.specs.BuiltIn.{standard}
-use Rattle.p416_rules.specs.Declarations.{layouts_of}
-use Rattle.p416_rules.specs.Scopes.{Known, kind_of_type}
-use Rattle.p416_rules.specs.Main.{BlockShape, a_parser, a_control, shape, a_control_of, parameter_shape, is_struct_where, is_bits_field}
+use Rattle.p416_syntax.specs.declared.parts.Direction.TheVariants.{In, Out, InOut}
+use Rattle.p416_syntax.specs.declared.parts.Param.{Param}
+use Rattle.p416_syntax.specs.declared.program.Decl16.{Decl16}
+use Rattle.p416_syntax.specs.Names.{Name, has_name}
+use Rattle.p416_syntax.specs.Kinds.{Kind, struct, packet_in, packet_out}
+use Rattle.p416_syntax.specs.BuiltIn.{standard}
+use Rattle.p416_syntax.specs.Declarations.{layouts_of}
+use Rattle.p416_syntax.specs.Scopes.{Known, kind_of_type}
+use Rattle.p416_syntax.specs.Main.{BlockShape, a_parser, a_control, shape, a_control_of, parameter_shape, is_struct_where, is_bits_field}
 use Rattle.p416_main_check.specs.declared.block.Block.{Block}
 use Rattle.p416_main_check.specs.declared.block.Block.TheVariants as block
 

@@ -2,18 +2,18 @@
 use Rattle.std.specs.Prelude.{◌≡◌, ℕ, Bool, true, false, if◌then◌else◌, List, [], map, filter, slice_get, option_and_then, Option, None, codes}
 use Rattle.std.specs.Option.{option_map, option_map_or}
 use Rattle.std.specs.Str.{bytes_eq}
-use Rattle.p416_ast.specs.declared.parts.BitField.{BitField}
-use Rattle.p416_ast.specs.declared.parts.StructField.{StructField}
-use Rattle.p416_ast.specs.declared.program.Decl16.{Decl16}
-use Rattle.p416_ast.specs.declared.program.Decl16.TheVariants as decl
+use Rattle.p416_syntax.specs.declared.parts.BitField.{BitField}
+use Rattle.p416_syntax.specs.declared.parts.StructField.{StructField}
+use Rattle.p416_syntax.specs.declared.program.Decl16.{Decl16}
+use Rattle.p416_syntax.specs.declared.program.Decl16.TheVariants as decl
 use Rattle.name_numbers.specs.Names.{find_name}
-use Rattle.p416_rules.specs.Names.{Name}
-use Rattle.p416_rules.specs.Kinds.{Kind, bits, hash_algorithm, counter_type, meter_type, clone_type}
-use Rattle.p416_rules.specs.Scopes.{Sort, an_enumeration, Known, FieldKind, sort_in, kind_of_type, known, a_function}
-use Rattle.p416_rules.specs.BuiltIn.{functions, standard_layout}
-use Rattle.p416_rules.specs.Expressions.{field_kind_in}
-use Rattle.p416_rules.specs.Declarations.{top_name, top_names, bit_field, struct_field, field_name, member_name}
-use Rattle.p416_rules.specs.Unknown.{declared_name}
+use Rattle.p416_syntax.specs.Names.{Name}
+use Rattle.p416_syntax.specs.Kinds.{Kind, bits, hash_algorithm, counter_type, meter_type, clone_type}
+use Rattle.p416_syntax.specs.Scopes.{Sort, an_enumeration, Known, FieldKind, sort_in, kind_of_type, known, a_function}
+use Rattle.p416_syntax.specs.BuiltIn.{functions, standard_layout}
+use Rattle.p416_syntax.specs.Expressions.{field_kind_in}
+use Rattle.p416_syntax.specs.Declarations.{top_name, top_names, bit_field, struct_field, field_name, member_name}
+use Rattle.p416_syntax.specs.Unknown.{declared_name}
 
 -- the built-in names, from the functions on, and from the enumerations on
 abbrev pub function_behind : Name → Sort

@@ -3,31 +3,31 @@ use Rattle.std.proofs.Common.{◌≡◌, ℕ, Bool, true, false, not, ◌&&◌, 
 use Rattle.std.specs.List.{flat_map, list_all}
 use Rattle.predictive_parser.specs.declared.symbol.Symbol.TheVariants.{Put}
 use Rattle.predictive_parser.specs.Values.{newest, extended}
-use Rattle.p416_lexemes.specs.declared.keyword.Keyword16.TheVariants as key
-use Rattle.p416_lexemes.specs.Keywords.{keyword_text16}
-use Rattle.p416_ast.specs.declared.parts.Note.{Note}
-use Rattle.p416_ast.specs.declared.parts.Note.TheVariants as note
-use Rattle.p416_ast.specs.declared.parts.Param.{Param}
-use Rattle.p416_ast.specs.declared.parts.Member.{Member}
-use Rattle.p416_ast.specs.declared.parts.Type16.{Type16}
-use Rattle.p416_ast.specs.declared.parts.Type16.TheVariants as kind
-use Rattle.p416_ast.specs.declared.parsers.Var.{Var}
-use Rattle.p416_ast.specs.declared.controls.Instance.{Instance}
-use Rattle.p416_ast.specs.declared.controls.Instance.TheVariants as instance
-use Rattle.p416_ast.specs.declared.controls.Action16.{Action16}
-use Rattle.p416_ast.specs.declared.controls.ActionName.{ActionName}
-use Rattle.p416_ast.specs.declared.controls.ActionName.TheVariants as action_name
-use Rattle.p416_ast.specs.declared.controls.TableKey.{TableKey}
-use Rattle.p416_ast.specs.declared.controls.Property.{Property}
-use Rattle.p416_ast.specs.declared.controls.Property.TheVariants as property
-use Rattle.p416_ast.specs.declared.controls.Table16.{Table16}
-use Rattle.p416_ast.specs.declared.controls.Local.{Local}
-use Rattle.p416_ast.specs.declared.controls.Local.TheVariants as local
-use Rattle.p416_ast.specs.Tree.{Exp16, Stmt16}
-use Rattle.p416_ast.specs.Tokens.{Seen16, id, quoted, number, colon, comma, semicolon, equals, less, greater, paren_open, paren_close, brace_open, brace_close, in_parens, in_braces}
-use Rattle.p416_ast.specs.Written.{written_option, by_commas, written_note, written_notes, written_type, written_param, written_params, written_member, written_exp, written_stmt, written_initial, written_instance, written_action_name, written_listed_action, written_key, property_word, written_property, written_local}
-use Rattle.p416_ast.specs.Parentheses.{bare_key, bare_property}
-use Rattle.p416_ast.specs.Conditions.{with_parentheses, is_among, all_different, is_note, is_named_once, are_notes, are_arguments, is_stmt, statements, is_var, is_instance, is_object, is_action, is_key, is_property, property_texts, are_properties, is_table, is_local}
+use Rattle.p416_syntax.specs.declared.keyword.Keyword16.TheVariants as key
+use Rattle.p416_syntax.specs.Keywords.{keyword_text16}
+use Rattle.p416_syntax.specs.declared.parts.Note.{Note}
+use Rattle.p416_syntax.specs.declared.parts.Note.TheVariants as note
+use Rattle.p416_syntax.specs.declared.parts.Param.{Param}
+use Rattle.p416_syntax.specs.declared.parts.Member.{Member}
+use Rattle.p416_syntax.specs.declared.parts.Type16.{Type16}
+use Rattle.p416_syntax.specs.declared.parts.Type16.TheVariants as kind
+use Rattle.p416_syntax.specs.declared.parsers.Var.{Var}
+use Rattle.p416_syntax.specs.declared.controls.Instance.{Instance}
+use Rattle.p416_syntax.specs.declared.controls.Instance.TheVariants as instance
+use Rattle.p416_syntax.specs.declared.controls.Action16.{Action16}
+use Rattle.p416_syntax.specs.declared.controls.ActionName.{ActionName}
+use Rattle.p416_syntax.specs.declared.controls.ActionName.TheVariants as action_name
+use Rattle.p416_syntax.specs.declared.controls.TableKey.{TableKey}
+use Rattle.p416_syntax.specs.declared.controls.Property.{Property}
+use Rattle.p416_syntax.specs.declared.controls.Property.TheVariants as property
+use Rattle.p416_syntax.specs.declared.controls.Table16.{Table16}
+use Rattle.p416_syntax.specs.declared.controls.Local.{Local}
+use Rattle.p416_syntax.specs.declared.controls.Local.TheVariants as local
+use Rattle.p416_syntax.specs.Tree.{Exp16, Stmt16}
+use Rattle.p416_syntax.specs.Tokens.{Seen16, id, quoted, number, colon, comma, semicolon, equals, less, greater, paren_open, paren_close, brace_open, brace_close, in_parens, in_braces}
+use Rattle.p416_syntax.specs.Written.{written_option, by_commas, written_note, written_notes, written_type, written_param, written_params, written_member, written_exp, written_stmt, written_initial, written_instance, written_action_name, written_listed_action, written_key, property_word, written_property, written_local}
+use Rattle.p416_syntax.specs.Parentheses.{bare_key, bare_property}
+use Rattle.p416_syntax.specs.Conditions.{with_parentheses, is_among, all_different, is_note, is_named_once, are_notes, are_arguments, is_stmt, statements, is_var, is_instance, is_object, is_action, is_key, is_property, property_texts, are_properties, is_table, is_local}
 use Rattle.p416_reader.specs.declared.symbols.Class.TheVariants as class
 use Rattle.p416_reader.specs.declared.symbols.Action.TheVariants as action
 use Rattle.p416_reader.specs.declared.symbols.PartAction.TheVariants as part_act

@@ -2,29 +2,29 @@
 use Rattle.std.proofs.Common.{◌≡◌, ℕ, Bool, true, List, [], ◌∷◌, ◌++◌, map, refl, ap, ◌∙◌, append_assoc}
 use Rattle.std.specs.List.{flat_map, list_all}
 use Rattle.predictive_parser.specs.declared.symbol.Symbol.TheVariants.{Put}
-use Rattle.p416_lexemes.specs.declared.keyword.Keyword16.TheVariants as key
-use Rattle.p416_lexemes.specs.declared.lexeme.Include16.TheVariants as include
-use Rattle.p416_ast.specs.declared.parts.Note.{Note}
-use Rattle.p416_ast.specs.declared.parts.Note.TheVariants as note
-use Rattle.p416_ast.specs.declared.parts.Type16.{Type16}
-use Rattle.p416_ast.specs.declared.parts.Type16.TheVariants as kind
-use Rattle.p416_ast.specs.declared.parts.Param.{Param}
-use Rattle.p416_ast.specs.declared.parts.BitField.{BitField}
-use Rattle.p416_ast.specs.declared.parts.Header16.{Header16}
-use Rattle.p416_ast.specs.declared.parts.StructField.{StructField}
-use Rattle.p416_ast.specs.declared.parts.Struct16.{Struct16}
-use Rattle.p416_ast.specs.declared.parsers.Var.{Var}
-use Rattle.p416_ast.specs.declared.parsers.State.{State}
-use Rattle.p416_ast.specs.declared.controls.Instance.{Instance}
-use Rattle.p416_ast.specs.declared.controls.Instance.TheVariants as instance
-use Rattle.p416_ast.specs.declared.controls.Local.{Local}
-use Rattle.p416_ast.specs.declared.program.Decl16.{Decl16}
-use Rattle.p416_ast.specs.declared.program.Decl16.TheVariants as decl
-use Rattle.p416_ast.specs.Tree.{Stmt16}
-use Rattle.p416_ast.specs.Tokens.{Seen16, id, quoted, number, include_line, comma, semicolon, less, greater, paren_open, paren_close, brace_open, brace_close, in_braces}
-use Rattle.p416_ast.specs.Written.{after_commas, by_commas, written_block_name, written_note, written_notes, written_type, written_param, written_params, written_stmt, written_block, written_var, written_state, written_instance, written_local, written_bit_field, written_struct_field, written_decl, written_main}
-use Rattle.p416_ast.specs.Parentheses.{bare_var, bare_state, bare_local}
-use Rattle.p416_ast.specs.Conditions.{with_parentheses, is_some_listed, is_note, is_named_once, are_notes, is_stmt, statements, is_var, is_state, is_instance, is_object, is_parser, is_local, is_control, is_struct_field, is_struct, is_decl}
+use Rattle.p416_syntax.specs.declared.keyword.Keyword16.TheVariants as key
+use Rattle.p416_syntax.specs.declared.lexeme.Include16.TheVariants as include
+use Rattle.p416_syntax.specs.declared.parts.Note.{Note}
+use Rattle.p416_syntax.specs.declared.parts.Note.TheVariants as note
+use Rattle.p416_syntax.specs.declared.parts.Type16.{Type16}
+use Rattle.p416_syntax.specs.declared.parts.Type16.TheVariants as kind
+use Rattle.p416_syntax.specs.declared.parts.Param.{Param}
+use Rattle.p416_syntax.specs.declared.parts.BitField.{BitField}
+use Rattle.p416_syntax.specs.declared.parts.Header16.{Header16}
+use Rattle.p416_syntax.specs.declared.parts.StructField.{StructField}
+use Rattle.p416_syntax.specs.declared.parts.Struct16.{Struct16}
+use Rattle.p416_syntax.specs.declared.parsers.Var.{Var}
+use Rattle.p416_syntax.specs.declared.parsers.State.{State}
+use Rattle.p416_syntax.specs.declared.controls.Instance.{Instance}
+use Rattle.p416_syntax.specs.declared.controls.Instance.TheVariants as instance
+use Rattle.p416_syntax.specs.declared.controls.Local.{Local}
+use Rattle.p416_syntax.specs.declared.program.Decl16.{Decl16}
+use Rattle.p416_syntax.specs.declared.program.Decl16.TheVariants as decl
+use Rattle.p416_syntax.specs.Tree.{Stmt16}
+use Rattle.p416_syntax.specs.Tokens.{Seen16, id, quoted, number, include_line, comma, semicolon, less, greater, paren_open, paren_close, brace_open, brace_close, in_braces}
+use Rattle.p416_syntax.specs.Written.{after_commas, by_commas, written_block_name, written_note, written_notes, written_type, written_param, written_params, written_stmt, written_block, written_var, written_state, written_instance, written_local, written_bit_field, written_struct_field, written_decl, written_main}
+use Rattle.p416_syntax.specs.Parentheses.{bare_var, bare_state, bare_local}
+use Rattle.p416_syntax.specs.Conditions.{with_parentheses, is_some_listed, is_note, is_named_once, are_notes, is_stmt, statements, is_var, is_state, is_instance, is_object, is_parser, is_local, is_control, is_struct_field, is_struct, is_decl}
 use Rattle.p416_reader.specs.declared.symbols.Action.TheVariants as action
 use Rattle.p416_reader.specs.declared.symbols.PartAction.TheVariants as part_act
 use Rattle.p416_reader.specs.declared.symbols.DeclAction.TheVariants as decl_act

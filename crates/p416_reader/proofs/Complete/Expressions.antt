@@ -7,19 +7,19 @@ use Rattle.predictive_parser.specs.declared.symbol.Symbol.TheVariants as symbol
 use Rattle.predictive_parser.specs.Machine.{Passes, next_of}
 use Rattle.predictive_parser.specs.Grammar.{Like, lines_of, plain_lines, first_fit, move}
 use Rattle.predictive_parser.proofs.Chains.{passes, row}
-use Rattle.p416_lexemes.specs.declared.keyword.Keyword16.{Keyword16}
-use Rattle.p416_lexemes.specs.declared.keyword.Keyword16.TheVariants as key
-use Rattle.p416_lexemes.specs.declared.lexeme.Literal16.{Literal16}
-use Rattle.p416_lexemes.specs.declared.mark.Mark16.TheVariants as mark_of
-use Rattle.p416_lexemes.specs.Keywords.{keyword_text16, all_keywords16, is_reserved16, is_among16}
-use Rattle.p416_ast.specs.declared.node.UnaryOperator.{UnaryOperator}
-use Rattle.p416_ast.specs.declared.node.UnaryOperator.TheVariants as unary_of
-use Rattle.p416_ast.specs.declared.node.BinaryOperator.{BinaryOperator}
-use Rattle.p416_ast.specs.declared.node.BinaryOperator.TheVariants as binary_of
-use Rattle.p416_ast.specs.Tree.{Exp16, literal, truth, error, name, member, index, slice, call, lookahead, cast, unary, binary, choice, parenthesized, no_arguments, argument, listed}
-use Rattle.p416_ast.specs.Tokens.{Seen16, id, quoted, number, mark, joined, opens, keyword_among, seen_as, seen_word, lookahead_text, dot, colon, greater, question, paren_open, bracket_open, bracket_close, in_parens}
-use Rattle.p416_ast.specs.Operators.{unary_token, binary_tokens, binary_power}
-use Rattle.p416_ast.specs.Written.{written_exp, written_type}
+use Rattle.p416_syntax.specs.declared.keyword.Keyword16.{Keyword16}
+use Rattle.p416_syntax.specs.declared.keyword.Keyword16.TheVariants as key
+use Rattle.p416_syntax.specs.declared.lexeme.Literal16.{Literal16}
+use Rattle.p416_syntax.specs.declared.mark.Mark16.TheVariants as mark_of
+use Rattle.p416_syntax.specs.Keywords.{keyword_text16, all_keywords16, is_reserved16, is_among16}
+use Rattle.p416_syntax.specs.declared.node.UnaryOperator.{UnaryOperator}
+use Rattle.p416_syntax.specs.declared.node.UnaryOperator.TheVariants as unary_of
+use Rattle.p416_syntax.specs.declared.node.BinaryOperator.{BinaryOperator}
+use Rattle.p416_syntax.specs.declared.node.BinaryOperator.TheVariants as binary_of
+use Rattle.p416_syntax.specs.Tree.{Exp16, literal, truth, error, name, member, index, slice, call, lookahead, cast, unary, binary, choice, parenthesized, no_arguments, argument, listed}
+use Rattle.p416_syntax.specs.Tokens.{Seen16, id, quoted, number, mark, joined, opens, keyword_among, seen_as, seen_word, lookahead_text, dot, colon, greater, question, paren_open, bracket_open, bracket_close, in_parens}
+use Rattle.p416_syntax.specs.Operators.{unary_token, binary_tokens, binary_power}
+use Rattle.p416_syntax.specs.Written.{written_exp, written_type}
 use Rattle.p416_reader.specs.declared.symbols.Class.{Class}
 use Rattle.p416_reader.specs.declared.symbols.Class.TheVariants as class
 use Rattle.p416_reader.specs.declared.symbols.Known.TheVariants as known

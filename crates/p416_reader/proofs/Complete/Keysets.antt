@@ -4,22 +4,22 @@ use Rattle.std.proofs.Common.{◌≡◌, ◌⊎◌, ℕ, suc, nat_le, Bool, true
 use Rattle.std.specs.List.{list_all}
 use Rattle.predictive_parser.specs.declared.symbol.Symbol.TheVariants.{Put}
 use Rattle.predictive_parser.specs.Grammar.{◌⇒◌}
-use Rattle.p416_lexemes.specs.declared.keyword.Keyword16.TheVariants as key
-use Rattle.p416_ast.specs.declared.node.CastType.{CastType}
-use Rattle.p416_ast.specs.declared.node.CastType.TheVariants as cast_to
-use Rattle.p416_ast.specs.declared.node.UnaryOperator.TheVariants as unary_of
-use Rattle.p416_ast.specs.declared.node.BinaryOperator.{BinaryOperator}
-use Rattle.p416_ast.specs.declared.node.BinaryOperator.TheVariants as binary_of
-use Rattle.p416_ast.specs.declared.parsers.Simple.{Simple}
-use Rattle.p416_ast.specs.declared.parsers.Simple.TheVariants as simple
-use Rattle.p416_ast.specs.declared.parsers.Keyset.{Keyset}
-use Rattle.p416_ast.specs.declared.parsers.Keyset.TheVariants as keyset
-use Rattle.p416_ast.specs.Tree.{Exp16, literal, truth, error, name, member, index, slice, call, lookahead, cast, unary, binary, choice, parenthesized, no_arguments, argument, listed}
-use Rattle.p416_ast.specs.Tokens.{Seen16, quoted, number, dot, dots, mask, colon, comma, less, greater, question, paren_open, paren_close, bracket_open}
-use Rattle.p416_ast.specs.Operators.{binary_tokens, binary_power}
-use Rattle.p416_ast.specs.Written.{after_commas, written_exp, written_simple, written_keyset}
-use Rattle.p416_ast.specs.Parentheses.{bare_exp, bare_simple, bare_keyset}
-use Rattle.p416_ast.specs.Conditions.{with_parentheses, is_simple, is_parenthesized, is_keyset}
+use Rattle.p416_syntax.specs.declared.keyword.Keyword16.TheVariants as key
+use Rattle.p416_syntax.specs.declared.node.CastType.{CastType}
+use Rattle.p416_syntax.specs.declared.node.CastType.TheVariants as cast_to
+use Rattle.p416_syntax.specs.declared.node.UnaryOperator.TheVariants as unary_of
+use Rattle.p416_syntax.specs.declared.node.BinaryOperator.{BinaryOperator}
+use Rattle.p416_syntax.specs.declared.node.BinaryOperator.TheVariants as binary_of
+use Rattle.p416_syntax.specs.declared.parsers.Simple.{Simple}
+use Rattle.p416_syntax.specs.declared.parsers.Simple.TheVariants as simple
+use Rattle.p416_syntax.specs.declared.parsers.Keyset.{Keyset}
+use Rattle.p416_syntax.specs.declared.parsers.Keyset.TheVariants as keyset
+use Rattle.p416_syntax.specs.Tree.{Exp16, literal, truth, error, name, member, index, slice, call, lookahead, cast, unary, binary, choice, parenthesized, no_arguments, argument, listed}
+use Rattle.p416_syntax.specs.Tokens.{Seen16, quoted, number, dot, dots, mask, colon, comma, less, greater, question, paren_open, paren_close, bracket_open}
+use Rattle.p416_syntax.specs.Operators.{binary_tokens, binary_power}
+use Rattle.p416_syntax.specs.Written.{after_commas, written_exp, written_simple, written_keyset}
+use Rattle.p416_syntax.specs.Parentheses.{bare_exp, bare_simple, bare_keyset}
+use Rattle.p416_syntax.specs.Conditions.{with_parentheses, is_simple, is_parenthesized, is_keyset}
 use Rattle.p416_reader.specs.declared.symbols.Class.TheVariants as class
 use Rattle.p416_reader.specs.declared.symbols.Action.TheVariants as action
 use Rattle.p416_reader.specs.declared.symbols.BodyAction.TheVariants as act

@@ -4,25 +4,25 @@ use Rattle.std.specs.List.{list_all, list_any}
 use Rattle.predictive_parser.specs.Values.{newest, extended}
 use Rattle.predictive_parser.specs.Machine.{settle, goes_on, run}
 use Rattle.predictive_parser.specs.Grammar.{move}
-use Rattle.p416_lexemes.specs.declared.keyword.Keyword16.TheVariants as key
-use Rattle.p416_lexemes.specs.declared.lexeme.Annotation16.TheVariants as annotation_of
-use Rattle.p416_lexemes.specs.declared.lexeme.Literal16.{Literal16}
-use Rattle.p416_ast.specs.declared.parts.Note.{Note}
-use Rattle.p416_ast.specs.declared.parts.Note.TheVariants as note
-use Rattle.p416_ast.specs.declared.parts.Type16.{Type16}
-use Rattle.p416_ast.specs.declared.parts.Type16.TheVariants as kind
-use Rattle.p416_ast.specs.declared.parts.Direction.{Direction}
-use Rattle.p416_ast.specs.declared.parts.Direction.TheVariants as direction
-use Rattle.p416_ast.specs.declared.parts.Param.{Param}
-use Rattle.p416_ast.specs.declared.parts.Member.{Member}
-use Rattle.p416_ast.specs.declared.parts.Member.TheVariants as member
-use Rattle.p416_ast.specs.declared.parts.HashAlgorithm.TheVariants as hash
-use Rattle.p416_ast.specs.declared.parts.CounterType.TheVariants as counter
-use Rattle.p416_ast.specs.declared.parts.MeterType.TheVariants as meter
-use Rattle.p416_ast.specs.declared.parts.CloneType.TheVariants as clone
-use Rattle.p416_ast.specs.Tokens.{Seen16, id, quoted, number, string, annotation, comma, less, greater, paren_open, paren_close, bracket_open, bracket_close}
-use Rattle.p416_ast.specs.Written.{written_option, after_commas, by_commas, written_number, written_note, written_notes, written_type, written_direction, written_param, written_member}
-use Rattle.p416_ast.specs.Conditions.{is_note, is_name_note, is_named_once}
+use Rattle.p416_syntax.specs.declared.keyword.Keyword16.TheVariants as key
+use Rattle.p416_syntax.specs.declared.lexeme.Annotation16.TheVariants as annotation_of
+use Rattle.p416_syntax.specs.declared.lexeme.Literal16.{Literal16}
+use Rattle.p416_syntax.specs.declared.parts.Note.{Note}
+use Rattle.p416_syntax.specs.declared.parts.Note.TheVariants as note
+use Rattle.p416_syntax.specs.declared.parts.Type16.{Type16}
+use Rattle.p416_syntax.specs.declared.parts.Type16.TheVariants as kind
+use Rattle.p416_syntax.specs.declared.parts.Direction.{Direction}
+use Rattle.p416_syntax.specs.declared.parts.Direction.TheVariants as direction
+use Rattle.p416_syntax.specs.declared.parts.Param.{Param}
+use Rattle.p416_syntax.specs.declared.parts.Member.{Member}
+use Rattle.p416_syntax.specs.declared.parts.Member.TheVariants as member
+use Rattle.p416_syntax.specs.declared.parts.HashAlgorithm.TheVariants as hash
+use Rattle.p416_syntax.specs.declared.parts.CounterType.TheVariants as counter
+use Rattle.p416_syntax.specs.declared.parts.MeterType.TheVariants as meter
+use Rattle.p416_syntax.specs.declared.parts.CloneType.TheVariants as clone
+use Rattle.p416_syntax.specs.Tokens.{Seen16, id, quoted, number, string, annotation, comma, less, greater, paren_open, paren_close, bracket_open, bracket_close}
+use Rattle.p416_syntax.specs.Written.{written_option, after_commas, by_commas, written_number, written_note, written_notes, written_type, written_direction, written_param, written_member}
+use Rattle.p416_syntax.specs.Conditions.{is_note, is_name_note, is_named_once}
 use Rattle.p416_reader.specs.declared.symbols.Class.TheVariants as class
 use Rattle.p416_reader.specs.declared.symbols.Word.TheVariants as word
 use Rattle.p416_reader.specs.declared.symbols.PartWord.TheVariants as part

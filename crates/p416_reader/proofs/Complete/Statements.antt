@@ -2,18 +2,18 @@
 use Rattle.std.proofs.Common.{◌≡◌, ℕ, Bool, true, false, not, ◌&&◌, List, [], ◌∷◌, ◌++◌, Some, None, refl, sym, ap, ◌∙◌, subst, append_assoc}
 use Rattle.predictive_parser.specs.declared.symbol.Symbol.TheVariants.{Put}
 use Rattle.predictive_parser.proofs.Chains.{here}
-use Rattle.p416_lexemes.specs.declared.keyword.Keyword16.TheVariants as key
-use Rattle.p416_ast.specs.declared.parts.Type16.{Type16}
-use Rattle.p416_ast.specs.declared.parts.Type16.TheVariants as kind
-use Rattle.p416_ast.specs.declared.node.CaseLabel.{CaseLabel}
-use Rattle.p416_ast.specs.declared.node.CaseLabel.TheVariants as label
-use Rattle.p416_ast.specs.declared.node.UnaryOperator.TheVariants as unary_of
-use Rattle.p416_ast.specs.Tree.{Exp16, literal, truth, error, name, member, index, slice, call, lookahead, cast, unary, binary, choice, parenthesized, no_arguments, argument, listed, Stmt16, no_statements, block, empty, var, var_is, assign, expression, if_then, if_else, switch, no_cases, case_of}
-use Rattle.p416_ast.specs.Tree as tree
-use Rattle.p416_ast.specs.Tokens.{Seen16, id, quoted, number, dot, colon, semicolon, equals, less, greater, paren_open, paren_close, brace_open, brace_close, bracket_open, bracket_close, in_parens, in_braces}
-use Rattle.p416_ast.specs.Written.{written_exp, written_type, written_stmt}
-use Rattle.p416_ast.specs.Parentheses.{bare_exp, bare_stmt}
-use Rattle.p416_ast.specs.Conditions.{with_parentheses, is_call, is_stmt, statements, cases, ends_in_if}
+use Rattle.p416_syntax.specs.declared.keyword.Keyword16.TheVariants as key
+use Rattle.p416_syntax.specs.declared.parts.Type16.{Type16}
+use Rattle.p416_syntax.specs.declared.parts.Type16.TheVariants as kind
+use Rattle.p416_syntax.specs.declared.node.CaseLabel.{CaseLabel}
+use Rattle.p416_syntax.specs.declared.node.CaseLabel.TheVariants as label
+use Rattle.p416_syntax.specs.declared.node.UnaryOperator.TheVariants as unary_of
+use Rattle.p416_syntax.specs.Tree.{Exp16, literal, truth, error, name, member, index, slice, call, lookahead, cast, unary, binary, choice, parenthesized, no_arguments, argument, listed, Stmt16, no_statements, block, empty, var, var_is, assign, expression, if_then, if_else, switch, no_cases, case_of}
+use Rattle.p416_syntax.specs.Tree as tree
+use Rattle.p416_syntax.specs.Tokens.{Seen16, id, quoted, number, dot, colon, semicolon, equals, less, greater, paren_open, paren_close, brace_open, brace_close, bracket_open, bracket_close, in_parens, in_braces}
+use Rattle.p416_syntax.specs.Written.{written_exp, written_type, written_stmt}
+use Rattle.p416_syntax.specs.Parentheses.{bare_exp, bare_stmt}
+use Rattle.p416_syntax.specs.Conditions.{with_parentheses, is_call, is_stmt, statements, cases, ends_in_if}
 use Rattle.p416_reader.specs.declared.symbols.Class.TheVariants as class
 use Rattle.p416_reader.specs.declared.symbols.Action.TheVariants as action
 use Rattle.p416_reader.specs.declared.symbols.BodyAction.TheVariants as act

@@ -2,21 +2,21 @@
 use Rattle.std.proofs.Common.{◌≡◌, Bool, true, ◌&&◌, List, [], ◌∷◌, ◌++◌, map, Option, Some, None, refl, ap, ◌∙◌, append_assoc}
 use Rattle.std.specs.List.{flat_map, list_all}
 use Rattle.predictive_parser.specs.declared.symbol.Symbol.TheVariants.{Put}
-use Rattle.p416_lexemes.specs.declared.keyword.Keyword16.TheVariants as key
-use Rattle.p416_ast.specs.declared.parts.Type16.{Type16}
-use Rattle.p416_ast.specs.declared.parts.Type16.TheVariants as kind
-use Rattle.p416_ast.specs.declared.parsers.Var.{Var}
-use Rattle.p416_ast.specs.declared.parsers.Target.{Target}
-use Rattle.p416_ast.specs.declared.parsers.Target.TheVariants as target
-use Rattle.p416_ast.specs.declared.parsers.SelectCase.{SelectCase}
-use Rattle.p416_ast.specs.declared.parsers.Transition.{Transition}
-use Rattle.p416_ast.specs.declared.parsers.Transition.TheVariants as transition
-use Rattle.p416_ast.specs.declared.parsers.State.{State}
-use Rattle.p416_ast.specs.Tree.{Exp16}
-use Rattle.p416_ast.specs.Tokens.{Seen16, id, quoted, colon, comma, semicolon, equals, paren_open, paren_close, brace_open, brace_close, in_braces}
-use Rattle.p416_ast.specs.Written.{written_option, after_commas, written_exp, written_stmt, written_type, written_initial, written_var, written_target, written_keyset, written_case, written_transition, written_state}
-use Rattle.p416_ast.specs.Parentheses.{bare_exp, bare_case}
-use Rattle.p416_ast.specs.Conditions.{with_parentheses, is_option, is_exp, is_case, is_transition, is_stmt, statements, is_state, is_var}
+use Rattle.p416_syntax.specs.declared.keyword.Keyword16.TheVariants as key
+use Rattle.p416_syntax.specs.declared.parts.Type16.{Type16}
+use Rattle.p416_syntax.specs.declared.parts.Type16.TheVariants as kind
+use Rattle.p416_syntax.specs.declared.parsers.Var.{Var}
+use Rattle.p416_syntax.specs.declared.parsers.Target.{Target}
+use Rattle.p416_syntax.specs.declared.parsers.Target.TheVariants as target
+use Rattle.p416_syntax.specs.declared.parsers.SelectCase.{SelectCase}
+use Rattle.p416_syntax.specs.declared.parsers.Transition.{Transition}
+use Rattle.p416_syntax.specs.declared.parsers.Transition.TheVariants as transition
+use Rattle.p416_syntax.specs.declared.parsers.State.{State}
+use Rattle.p416_syntax.specs.Tree.{Exp16}
+use Rattle.p416_syntax.specs.Tokens.{Seen16, id, quoted, colon, comma, semicolon, equals, paren_open, paren_close, brace_open, brace_close, in_braces}
+use Rattle.p416_syntax.specs.Written.{written_option, after_commas, written_exp, written_stmt, written_type, written_initial, written_var, written_target, written_keyset, written_case, written_transition, written_state}
+use Rattle.p416_syntax.specs.Parentheses.{bare_exp, bare_case}
+use Rattle.p416_syntax.specs.Conditions.{with_parentheses, is_option, is_exp, is_case, is_transition, is_stmt, statements, is_state, is_var}
 use Rattle.p416_reader.specs.declared.symbols.Action.TheVariants as action
 use Rattle.p416_reader.specs.declared.symbols.StateAction.TheVariants as state_act
 use Rattle.p416_reader.specs.declared.symbols.Word.TheVariants as word

@@ -5,20 +5,20 @@ use Rattle.predictive_parser.specs.declared.symbol.Symbol.TheVariants.{Put}
 use Rattle.predictive_parser.specs.declared.symbol.Symbol.TheVariants as symbol
 use Rattle.predictive_parser.specs.Grammar.{◌⇒◌}
 use Rattle.predictive_parser.proofs.Chains.{here}
-use Rattle.p416_lexemes.specs.declared.keyword.Keyword16.TheVariants as key
-use Rattle.p416_lexemes.specs.declared.mark.Mark16.TheVariants as mark_of
-use Rattle.p416_lexemes.specs.declared.lexeme.Literal16.{Literal16}
-use Rattle.p416_ast.specs.declared.parts.Type16.{Type16}
-use Rattle.p416_ast.specs.declared.node.CastType.{CastType}
-use Rattle.p416_ast.specs.declared.node.CastType.TheVariants as cast_to
-use Rattle.p416_ast.specs.declared.node.UnaryOperator.{UnaryOperator}
-use Rattle.p416_ast.specs.declared.node.UnaryOperator.TheVariants as unary_of
-use Rattle.p416_ast.specs.declared.node.BinaryOperator.{BinaryOperator}
-use Rattle.p416_ast.specs.Tree.{Exp16, literal, truth, error, name, member, index, slice, call, lookahead, cast, unary, binary, choice, parenthesized, no_arguments, argument, listed}
-use Rattle.p416_ast.specs.Tokens.{Seen16, id, quoted, number, opens, seen_word, lookahead_text, dot, colon, comma, less, greater, question, paren_open, paren_close, brace_open, brace_close, bracket_open, bracket_close, in_parens}
-use Rattle.p416_ast.specs.Operators.{unary_token, binary_tokens, binary_power}
-use Rattle.p416_ast.specs.Written.{written_exp, written_type}
-use Rattle.p416_ast.specs.Parentheses.{bare_exp}
+use Rattle.p416_syntax.specs.declared.keyword.Keyword16.TheVariants as key
+use Rattle.p416_syntax.specs.declared.mark.Mark16.TheVariants as mark_of
+use Rattle.p416_syntax.specs.declared.lexeme.Literal16.{Literal16}
+use Rattle.p416_syntax.specs.declared.parts.Type16.{Type16}
+use Rattle.p416_syntax.specs.declared.node.CastType.{CastType}
+use Rattle.p416_syntax.specs.declared.node.CastType.TheVariants as cast_to
+use Rattle.p416_syntax.specs.declared.node.UnaryOperator.{UnaryOperator}
+use Rattle.p416_syntax.specs.declared.node.UnaryOperator.TheVariants as unary_of
+use Rattle.p416_syntax.specs.declared.node.BinaryOperator.{BinaryOperator}
+use Rattle.p416_syntax.specs.Tree.{Exp16, literal, truth, error, name, member, index, slice, call, lookahead, cast, unary, binary, choice, parenthesized, no_arguments, argument, listed}
+use Rattle.p416_syntax.specs.Tokens.{Seen16, id, quoted, number, opens, seen_word, lookahead_text, dot, colon, comma, less, greater, question, paren_open, paren_close, brace_open, brace_close, bracket_open, bracket_close, in_parens}
+use Rattle.p416_syntax.specs.Operators.{unary_token, binary_tokens, binary_power}
+use Rattle.p416_syntax.specs.Written.{written_exp, written_type}
+use Rattle.p416_syntax.specs.Parentheses.{bare_exp}
 use Rattle.p416_reader.specs.declared.symbols.Class.TheVariants as class
 use Rattle.p416_reader.specs.declared.symbols.Action.TheVariants as action
 use Rattle.p416_reader.specs.declared.symbols.BodyAction.TheVariants as act

@@ -3,27 +3,27 @@ use Rattle.std.proofs.Common.{◌≡◌, ℕ, Bool, true, false, not, ◌&&◌, 
 use Rattle.std.specs.List.{flat_map, list_all}
 use Rattle.predictive_parser.proofs.Meanings.{MeansWord, RowsShow, NoneShows}
 use Rattle.predictive_parser.specs.Values.{newest, older, extended}
-use Rattle.p416_lexemes.specs.declared.keyword.Keyword16.TheVariants as key
-use Rattle.p416_lexemes.specs.Keywords.{keyword_text16}
-use Rattle.p416_ast.specs.declared.parts.Note.{Note}
-use Rattle.p416_ast.specs.declared.parts.Note.TheVariants as note
-use Rattle.p416_ast.specs.declared.parts.Param.{Param}
-use Rattle.p416_ast.specs.declared.parts.Member.{Member}
-use Rattle.p416_ast.specs.declared.controls.Instance.TheVariants as instance
-use Rattle.p416_ast.specs.declared.controls.Action16.{Action16}
-use Rattle.p416_ast.specs.declared.controls.ActionName.{ActionName}
-use Rattle.p416_ast.specs.declared.controls.ActionName.TheVariants as action_name
-use Rattle.p416_ast.specs.declared.controls.TableKey.{TableKey}
-use Rattle.p416_ast.specs.declared.controls.Property.{Property}
-use Rattle.p416_ast.specs.declared.controls.Property.TheVariants as property
-use Rattle.p416_ast.specs.declared.controls.Table16.{Table16}
-use Rattle.p416_ast.specs.declared.controls.Local.{Local}
-use Rattle.p416_ast.specs.declared.controls.Local.TheVariants as local
-use Rattle.p416_ast.specs.Tree.{Exp16, no_arguments, Stmt16, no_statements}
-use Rattle.p416_ast.specs.Tokens.{Seen16, id, quoted, number, comma, colon, semicolon, equals, less, greater, paren_open, paren_close, brace_open, brace_close}
-use Rattle.p416_ast.specs.Written.{by_commas, written_exp, written_stmt, written_notes, written_param, written_member, written_block, written_instance, written_action, written_action_name, written_listed_action, written_key, property_word, written_property_value, written_property, written_table, written_local}
-use Rattle.p416_ast.specs.Parentheses.{bare_stmt, bare_key, bare_property}
-use Rattle.p416_ast.specs.Conditions.{with_parentheses, is_among, all_different, is_option, is_note, is_named_once, are_notes, is_stmt, statements, is_instance, is_action, is_key, is_property, property_texts, are_properties, is_table, is_local}
+use Rattle.p416_syntax.specs.declared.keyword.Keyword16.TheVariants as key
+use Rattle.p416_syntax.specs.Keywords.{keyword_text16}
+use Rattle.p416_syntax.specs.declared.parts.Note.{Note}
+use Rattle.p416_syntax.specs.declared.parts.Note.TheVariants as note
+use Rattle.p416_syntax.specs.declared.parts.Param.{Param}
+use Rattle.p416_syntax.specs.declared.parts.Member.{Member}
+use Rattle.p416_syntax.specs.declared.controls.Instance.TheVariants as instance
+use Rattle.p416_syntax.specs.declared.controls.Action16.{Action16}
+use Rattle.p416_syntax.specs.declared.controls.ActionName.{ActionName}
+use Rattle.p416_syntax.specs.declared.controls.ActionName.TheVariants as action_name
+use Rattle.p416_syntax.specs.declared.controls.TableKey.{TableKey}
+use Rattle.p416_syntax.specs.declared.controls.Property.{Property}
+use Rattle.p416_syntax.specs.declared.controls.Property.TheVariants as property
+use Rattle.p416_syntax.specs.declared.controls.Table16.{Table16}
+use Rattle.p416_syntax.specs.declared.controls.Local.{Local}
+use Rattle.p416_syntax.specs.declared.controls.Local.TheVariants as local
+use Rattle.p416_syntax.specs.Tree.{Exp16, no_arguments, Stmt16, no_statements}
+use Rattle.p416_syntax.specs.Tokens.{Seen16, id, quoted, number, comma, colon, semicolon, equals, less, greater, paren_open, paren_close, brace_open, brace_close}
+use Rattle.p416_syntax.specs.Written.{by_commas, written_exp, written_stmt, written_notes, written_param, written_member, written_block, written_instance, written_action, written_action_name, written_listed_action, written_key, property_word, written_property_value, written_property, written_table, written_local}
+use Rattle.p416_syntax.specs.Parentheses.{bare_stmt, bare_key, bare_property}
+use Rattle.p416_syntax.specs.Conditions.{with_parentheses, is_among, all_different, is_option, is_note, is_named_once, are_notes, is_stmt, statements, is_instance, is_action, is_key, is_property, property_texts, are_properties, is_table, is_local}
 use Rattle.p416_reader.specs.declared.symbols.Word.TheVariants as word
 use Rattle.p416_reader.specs.declared.symbols.StateAction.TheVariants as state_act
 use Rattle.p416_reader.specs.declared.symbols.ControlWord.{ControlWord}

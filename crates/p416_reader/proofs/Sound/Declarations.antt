@@ -3,24 +3,24 @@ use Rattle.std.proofs.Common.{◌≡◌, ℕ, true, ◌&&◌, List, [], ◌∷�
 use Rattle.std.specs.List.{flat_map, list_all}
 use Rattle.predictive_parser.proofs.Meanings.{MeansWord, RowsShow, NoneShows}
 use Rattle.predictive_parser.specs.Values.{newest, older}
-use Rattle.p416_lexemes.specs.declared.keyword.Keyword16.TheVariants as key
-use Rattle.p416_lexemes.specs.declared.lexeme.Include16.TheVariants as include
-use Rattle.p416_ast.specs.declared.parts.Note.{Note}
-use Rattle.p416_ast.specs.declared.parts.Type16.{Type16}
-use Rattle.p416_ast.specs.declared.parts.Param.{Param}
-use Rattle.p416_ast.specs.declared.parts.BitField.{BitField}
-use Rattle.p416_ast.specs.declared.parts.StructField.{StructField}
-use Rattle.p416_ast.specs.declared.parsers.Var.{Var}
-use Rattle.p416_ast.specs.declared.parsers.State.{State}
-use Rattle.p416_ast.specs.declared.controls.Instance.{Instance}
-use Rattle.p416_ast.specs.declared.controls.Local.{Local}
-use Rattle.p416_ast.specs.declared.program.Decl16.{Decl16}
-use Rattle.p416_ast.specs.declared.program.Decl16.TheVariants as decl
-use Rattle.p416_ast.specs.Tree.{Stmt16, no_statements}
-use Rattle.p416_ast.specs.Tokens.{Seen16, id, quoted, number, include_line, less, greater, comma, semicolon, paren_open, paren_close, brace_open, brace_close}
-use Rattle.p416_ast.specs.Written.{after_commas, written_notes, written_type, written_param, written_stmt, written_var, written_state, written_instance, written_block, written_local, written_control, written_bit_field, written_struct_field, written_parser, written_decl, written_block_name, written_main}
-use Rattle.p416_ast.specs.Parentheses.{bare_var, bare_state, bare_local}
-use Rattle.p416_ast.specs.Conditions.{with_parentheses, is_some_listed, are_notes, is_var, is_state, is_instance, is_local, is_stmt, statements, is_struct_field, is_decl}
+use Rattle.p416_syntax.specs.declared.keyword.Keyword16.TheVariants as key
+use Rattle.p416_syntax.specs.declared.lexeme.Include16.TheVariants as include
+use Rattle.p416_syntax.specs.declared.parts.Note.{Note}
+use Rattle.p416_syntax.specs.declared.parts.Type16.{Type16}
+use Rattle.p416_syntax.specs.declared.parts.Param.{Param}
+use Rattle.p416_syntax.specs.declared.parts.BitField.{BitField}
+use Rattle.p416_syntax.specs.declared.parts.StructField.{StructField}
+use Rattle.p416_syntax.specs.declared.parsers.Var.{Var}
+use Rattle.p416_syntax.specs.declared.parsers.State.{State}
+use Rattle.p416_syntax.specs.declared.controls.Instance.{Instance}
+use Rattle.p416_syntax.specs.declared.controls.Local.{Local}
+use Rattle.p416_syntax.specs.declared.program.Decl16.{Decl16}
+use Rattle.p416_syntax.specs.declared.program.Decl16.TheVariants as decl
+use Rattle.p416_syntax.specs.Tree.{Stmt16, no_statements}
+use Rattle.p416_syntax.specs.Tokens.{Seen16, id, quoted, number, include_line, less, greater, comma, semicolon, paren_open, paren_close, brace_open, brace_close}
+use Rattle.p416_syntax.specs.Written.{after_commas, written_notes, written_type, written_param, written_stmt, written_var, written_state, written_instance, written_block, written_local, written_control, written_bit_field, written_struct_field, written_parser, written_decl, written_block_name, written_main}
+use Rattle.p416_syntax.specs.Parentheses.{bare_var, bare_state, bare_local}
+use Rattle.p416_syntax.specs.Conditions.{with_parentheses, is_some_listed, are_notes, is_var, is_state, is_instance, is_local, is_stmt, statements, is_struct_field, is_decl}
 use Rattle.p416_reader.specs.declared.symbols.Word.TheVariants as word
 use Rattle.p416_reader.specs.declared.symbols.StateAction.TheVariants as state_act
 use Rattle.p416_reader.specs.declared.symbols.ControlAction.TheVariants as control_act

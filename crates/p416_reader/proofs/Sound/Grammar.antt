@@ -2,7 +2,7 @@
 use Rattle.std.proofs.Common.{◌≡◌, List, Ok, sym}
 use Rattle.predictive_parser.specs.Grammar.{parse}
 use Rattle.predictive_parser.proofs.Meanings.{RowsShow, NoneShows, IsRight, sound_word}
-use Rattle.p416_ast.specs.Tokens.{Seen16}
+use Rattle.p416_syntax.specs.Tokens.{Seen16}
 use Rattle.p416_reader.specs.declared.symbols.Word.{Word}
 use Rattle.p416_reader.specs.declared.symbols.Word.TheVariants as word
 use Rattle.p416_reader.specs.declared.symbols.DeclWord.TheVariants as declare

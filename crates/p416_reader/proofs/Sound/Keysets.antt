@@ -1,12 +1,12 @@
 -- Keysets: what stands behind an expression that may be in the parentheses of a tuple, or in its own.
 use Rattle.std.proofs.Common.{◌≡◌, true, false, not, ◌&&◌, ◌||◌, List, [], ◌∷◌, ◌++◌, map, refl, sym, ap, ap₂, ◌∙◌, append_assoc, append-nil}
 use Rattle.std.specs.List.{flat_map, list_all}
-use Rattle.p416_ast.specs.declared.parsers.Keyset.TheVariants as keyset
-use Rattle.p416_ast.specs.Tree.{Exp16, member, index, slice, call, lookahead, binary, choice, parenthesized}
-use Rattle.p416_ast.specs.Tokens.{Seen16, paren_open, paren_close}
-use Rattle.p416_ast.specs.Written.{after_commas, written_exp, written_simple, written_keyset}
-use Rattle.p416_ast.specs.Parentheses.{bare_exp, bare_simple, bare_keyset}
-use Rattle.p416_ast.specs.Conditions.{with_parentheses, is_simple, is_parenthesized, is_parenthesized_value, is_keyset}
+use Rattle.p416_syntax.specs.declared.parsers.Keyset.TheVariants as keyset
+use Rattle.p416_syntax.specs.Tree.{Exp16, member, index, slice, call, lookahead, binary, choice, parenthesized}
+use Rattle.p416_syntax.specs.Tokens.{Seen16, paren_open, paren_close}
+use Rattle.p416_syntax.specs.Written.{after_commas, written_exp, written_simple, written_keyset}
+use Rattle.p416_syntax.specs.Parentheses.{bare_exp, bare_simple, bare_keyset}
+use Rattle.p416_syntax.specs.Conditions.{with_parentheses, is_simple, is_parenthesized, is_parenthesized_value, is_keyset}
 use Rattle.p416_reader.specs.declared.built.Built.{Built}
 use Rattle.p416_reader.specs.internal.Actions.{cleared, first_exp}
 use Rattle.p416_reader.proofs.Forms.{is_full, Suffix, called, looked, at, cut, dotted, written_suffix, is_suffix, with_suffixes, arguments_of, bare_suffix, Tail, done, by, chosen, written_tail, is_tail, is_some_tail, with_tail, bare_tail, SimpleEnd, alone, masked, ranged, simple_with, written_end, is_simple_end, is_some_end, bare_end, ParenRest, single, longer, is_some_suffix, written_rest, is_rest, keyset_behind, bare_rest, OpenRest, tuple, closes, written_open, is_open_rest, keyset_open, bare_open}

@@ -3,24 +3,24 @@ use Rattle.std.proofs.Common.{◌≡◌, ℕ, true, false, not, ◌||◌, List, 
 use Rattle.std.specs.List.{list_any}
 use Rattle.predictive_parser.proofs.Meanings.{MeansWord, RowsShow, NoneShows}
 use Rattle.predictive_parser.specs.Values.{newest, older, extended}
-use Rattle.p416_lexemes.specs.declared.keyword.Keyword16.TheVariants as key
-use Rattle.p416_lexemes.specs.declared.lexeme.Annotation16.TheVariants as note_of
-use Rattle.p416_lexemes.specs.declared.lexeme.Literal16.{Literal16}
-use Rattle.p416_ast.specs.declared.parts.Note.{Note}
-use Rattle.p416_ast.specs.declared.parts.Note.TheVariants as note
-use Rattle.p416_ast.specs.declared.parts.Type16.{Type16}
-use Rattle.p416_ast.specs.declared.parts.Type16.TheVariants as kind
-use Rattle.p416_ast.specs.declared.parts.Param.{Param}
-use Rattle.p416_ast.specs.declared.parts.Direction.TheVariants as direction
-use Rattle.p416_ast.specs.declared.parts.Member.TheVariants as member_of
-use Rattle.p416_ast.specs.declared.parts.HashAlgorithm.TheVariants as hash
-use Rattle.p416_ast.specs.declared.parts.CounterType.TheVariants as counter
-use Rattle.p416_ast.specs.declared.parts.MeterType.TheVariants as meter
-use Rattle.p416_ast.specs.declared.parts.CloneType.TheVariants as clone
-use Rattle.p416_ast.specs.Members.{enumeration_text}
-use Rattle.p416_ast.specs.Tokens.{Seen16, id, quoted, number, annotation, dot, comma, paren_open, paren_close, string}
-use Rattle.p416_ast.specs.Written.{after_commas, written_number, written_note, written_type, written_param}
-use Rattle.p416_ast.specs.Conditions.{is_name_note, is_named_once}
+use Rattle.p416_syntax.specs.declared.keyword.Keyword16.TheVariants as key
+use Rattle.p416_syntax.specs.declared.lexeme.Annotation16.TheVariants as note_of
+use Rattle.p416_syntax.specs.declared.lexeme.Literal16.{Literal16}
+use Rattle.p416_syntax.specs.declared.parts.Note.{Note}
+use Rattle.p416_syntax.specs.declared.parts.Note.TheVariants as note
+use Rattle.p416_syntax.specs.declared.parts.Type16.{Type16}
+use Rattle.p416_syntax.specs.declared.parts.Type16.TheVariants as kind
+use Rattle.p416_syntax.specs.declared.parts.Param.{Param}
+use Rattle.p416_syntax.specs.declared.parts.Direction.TheVariants as direction
+use Rattle.p416_syntax.specs.declared.parts.Member.TheVariants as member_of
+use Rattle.p416_syntax.specs.declared.parts.HashAlgorithm.TheVariants as hash
+use Rattle.p416_syntax.specs.declared.parts.CounterType.TheVariants as counter
+use Rattle.p416_syntax.specs.declared.parts.MeterType.TheVariants as meter
+use Rattle.p416_syntax.specs.declared.parts.CloneType.TheVariants as clone
+use Rattle.p416_syntax.specs.Members.{enumeration_text}
+use Rattle.p416_syntax.specs.Tokens.{Seen16, id, quoted, number, annotation, dot, comma, paren_open, paren_close, string}
+use Rattle.p416_syntax.specs.Written.{after_commas, written_number, written_note, written_type, written_param}
+use Rattle.p416_syntax.specs.Conditions.{is_name_note, is_named_once}
 use Rattle.p416_reader.specs.declared.symbols.Word.TheVariants as word
 use Rattle.p416_reader.specs.declared.symbols.PartWord.{PartWord}
 use Rattle.p416_reader.specs.declared.symbols.PartWord.TheVariants as part

@@ -2,15 +2,15 @@
 use Rattle.std.proofs.Common.{◌≡◌, ℕ, true, not, ◌&&◌, List, [], ◌∷◌, ◌++◌, Option, Some, None, refl, sym, ap, ap₂, subst, ◌∙◌, append_assoc, append-nil}
 use Rattle.std.specs.List.{flat_map, list_all}
 use Rattle.predictive_parser.proofs.Meanings.{NoneShows}
-use Rattle.p416_lexemes.specs.declared.keyword.Keyword16.TheVariants as key
-use Rattle.p416_lexemes.specs.declared.mark.Mark16.TheVariants as mark_of
-use Rattle.p416_ast.specs.declared.parts.Type16.{Type16}
-use Rattle.p416_ast.specs.declared.parts.Type16.TheVariants as kind
-use Rattle.p416_ast.specs.declared.node.CaseLabel.TheVariants as label
-use Rattle.p416_ast.specs.Tree.{Exp16, name, index, Stmt16, no_statements, block, empty, var, var_is, assign, expression, if_then, if_else, switch, no_cases}
-use Rattle.p416_ast.specs.Tokens.{Seen16, id, quoted, number, dot, colon, equals, semicolon, less, greater, lookahead_text, paren_open, paren_close, brace_open, brace_close}
-use Rattle.p416_ast.specs.Written.{written_option, written_exp, written_initial, written_var_of, written_stmt}
-use Rattle.p416_ast.specs.Conditions.{is_option, is_call, ends_in_if}
+use Rattle.p416_syntax.specs.declared.keyword.Keyword16.TheVariants as key
+use Rattle.p416_syntax.specs.declared.mark.Mark16.TheVariants as mark_of
+use Rattle.p416_syntax.specs.declared.parts.Type16.{Type16}
+use Rattle.p416_syntax.specs.declared.parts.Type16.TheVariants as kind
+use Rattle.p416_syntax.specs.declared.node.CaseLabel.TheVariants as label
+use Rattle.p416_syntax.specs.Tree.{Exp16, name, index, Stmt16, no_statements, block, empty, var, var_is, assign, expression, if_then, if_else, switch, no_cases}
+use Rattle.p416_syntax.specs.Tokens.{Seen16, id, quoted, number, dot, colon, equals, semicolon, less, greater, lookahead_text, paren_open, paren_close, brace_open, brace_close}
+use Rattle.p416_syntax.specs.Written.{written_option, written_exp, written_initial, written_var_of, written_stmt}
+use Rattle.p416_syntax.specs.Conditions.{is_option, is_call, ends_in_if}
 use Rattle.p416_reader.specs.declared.symbols.Word.TheVariants as word
 use Rattle.p416_reader.specs.declared.symbols.BodyWord.{BodyWord}
 use Rattle.p416_reader.specs.declared.symbols.BodyWord.TheVariants as body

@@ -2,24 +2,24 @@
 use Rattle.std.proofs.Common.{◌≡◌, ℕ, true, false, ◌&&◌, ◌||◌, List, [], ◌∷◌, ◌++◌, map, Option, Some, None, refl, sym, ap, ap₂, subst, ◌∙◌, append_assoc}
 use Rattle.std.specs.List.{flat_map, list_all}
 use Rattle.predictive_parser.proofs.Meanings.{MeansWord, RowsShow, NoneShows}
-use Rattle.p416_lexemes.specs.declared.keyword.Keyword16.TheVariants as key
-use Rattle.p416_ast.specs.declared.parts.Type16.{Type16}
-use Rattle.p416_ast.specs.declared.node.CastType.TheVariants as cast_to
-use Rattle.p416_ast.specs.declared.parsers.Target.{Target}
-use Rattle.p416_ast.specs.declared.parsers.Target.TheVariants as target_of
-use Rattle.p416_ast.specs.declared.parsers.Simple.{Simple}
-use Rattle.p416_ast.specs.declared.parsers.Simple.TheVariants as simple
-use Rattle.p416_ast.specs.declared.parsers.Keyset.{Keyset}
-use Rattle.p416_ast.specs.declared.parsers.Keyset.TheVariants as keyset
-use Rattle.p416_ast.specs.declared.parsers.SelectCase.{SelectCase}
-use Rattle.p416_ast.specs.declared.parsers.Transition.{Transition}
-use Rattle.p416_ast.specs.declared.parsers.Transition.TheVariants as transition_of
-use Rattle.p416_ast.specs.declared.parsers.State.{State}
-use Rattle.p416_ast.specs.Tree.{Exp16, cast, parenthesized, Stmt16}
-use Rattle.p416_ast.specs.Tokens.{Seen16, id, quoted, number, less, greater, comma, colon, semicolon, equals, mask, dots, paren_open, paren_close, brace_open, brace_close}
-use Rattle.p416_ast.specs.Written.{written_option, after_commas, written_type, written_initial, written_exp, written_stmt, written_var, written_target, written_simple, written_keyset, written_case, written_transition, written_state}
-use Rattle.p416_ast.specs.Parentheses.{bare_exp, bare_simple, bare_keyset, bare_case}
-use Rattle.p416_ast.specs.Conditions.{with_parentheses, is_option, is_stmt, statements, is_parenthesized, is_var, is_simple, is_keyset, is_case, is_transition, is_state}
+use Rattle.p416_syntax.specs.declared.keyword.Keyword16.TheVariants as key
+use Rattle.p416_syntax.specs.declared.parts.Type16.{Type16}
+use Rattle.p416_syntax.specs.declared.node.CastType.TheVariants as cast_to
+use Rattle.p416_syntax.specs.declared.parsers.Target.{Target}
+use Rattle.p416_syntax.specs.declared.parsers.Target.TheVariants as target_of
+use Rattle.p416_syntax.specs.declared.parsers.Simple.{Simple}
+use Rattle.p416_syntax.specs.declared.parsers.Simple.TheVariants as simple
+use Rattle.p416_syntax.specs.declared.parsers.Keyset.{Keyset}
+use Rattle.p416_syntax.specs.declared.parsers.Keyset.TheVariants as keyset
+use Rattle.p416_syntax.specs.declared.parsers.SelectCase.{SelectCase}
+use Rattle.p416_syntax.specs.declared.parsers.Transition.{Transition}
+use Rattle.p416_syntax.specs.declared.parsers.Transition.TheVariants as transition_of
+use Rattle.p416_syntax.specs.declared.parsers.State.{State}
+use Rattle.p416_syntax.specs.Tree.{Exp16, cast, parenthesized, Stmt16}
+use Rattle.p416_syntax.specs.Tokens.{Seen16, id, quoted, number, less, greater, comma, colon, semicolon, equals, mask, dots, paren_open, paren_close, brace_open, brace_close}
+use Rattle.p416_syntax.specs.Written.{written_option, after_commas, written_type, written_initial, written_exp, written_stmt, written_var, written_target, written_simple, written_keyset, written_case, written_transition, written_state}
+use Rattle.p416_syntax.specs.Parentheses.{bare_exp, bare_simple, bare_keyset, bare_case}
+use Rattle.p416_syntax.specs.Conditions.{with_parentheses, is_option, is_stmt, statements, is_parenthesized, is_var, is_simple, is_keyset, is_case, is_transition, is_state}
 use Rattle.p416_reader.specs.declared.symbols.Word.TheVariants as word
 use Rattle.p416_reader.specs.declared.symbols.StateWord.{StateWord}
 use Rattle.p416_reader.specs.declared.symbols.StateWord.TheVariants as state

@@ -4,22 +4,22 @@ use Rattle.std.specs.List.{list_any}
 use Rattle.std.specs.Str.{bytes_eq}
 use Rattle.predictive_parser.specs.Operators as operators
 use Rattle.predictive_parser.specs.Values.{newest}
-use Rattle.p416_lexemes.specs.declared.keyword.Keyword16.{Keyword16}
-use Rattle.p416_lexemes.specs.declared.keyword.Keyword16.TheVariants as key
-use Rattle.p416_lexemes.specs.declared.lexeme.Annotation16.{Annotation16}
-use Rattle.p416_lexemes.specs.declared.lexeme.Annotation16.TheVariants as note_of
-use Rattle.p416_lexemes.specs.declared.lexeme.Include16.{Include16}
-use Rattle.p416_lexemes.specs.declared.lexeme.Include16.TheVariants as include
-use Rattle.p416_lexemes.specs.declared.lexeme.Literal16.{Literal16}
-use Rattle.p416_lexemes.specs.declared.mark.Mark16.{Mark16}
-use Rattle.p416_lexemes.specs.declared.mark.Mark16.TheVariants as mark_of
-use Rattle.p416_lexemes.specs.Keywords.{keyword_text16, is_reserved16}
-use Rattle.p416_ast.specs.declared.node.BinaryOperator.{BinaryOperator}
-use Rattle.p416_ast.specs.declared.node.BinaryOperator.TheVariants as binary
-use Rattle.p416_ast.specs.Operators.{binary_power}
-use Rattle.p416_ast.specs.Tokens.{Seen16, id, quoted, number, mark, string, annotation, include_line, joined, opens}
-use Rattle.p416_ast.specs.Tree.{Exp16, name, index, no_arguments}
-use Rattle.p416_ast.specs.Conditions.{is_name_note, is_call, is_among, property_texts}
+use Rattle.p416_syntax.specs.declared.keyword.Keyword16.{Keyword16}
+use Rattle.p416_syntax.specs.declared.keyword.Keyword16.TheVariants as key
+use Rattle.p416_syntax.specs.declared.lexeme.Annotation16.{Annotation16}
+use Rattle.p416_syntax.specs.declared.lexeme.Annotation16.TheVariants as note_of
+use Rattle.p416_syntax.specs.declared.lexeme.Include16.{Include16}
+use Rattle.p416_syntax.specs.declared.lexeme.Include16.TheVariants as include
+use Rattle.p416_syntax.specs.declared.lexeme.Literal16.{Literal16}
+use Rattle.p416_syntax.specs.declared.mark.Mark16.{Mark16}
+use Rattle.p416_syntax.specs.declared.mark.Mark16.TheVariants as mark_of
+use Rattle.p416_syntax.specs.Keywords.{keyword_text16, is_reserved16}
+use Rattle.p416_syntax.specs.declared.node.BinaryOperator.{BinaryOperator}
+use Rattle.p416_syntax.specs.declared.node.BinaryOperator.TheVariants as binary
+use Rattle.p416_syntax.specs.Operators.{binary_power}
+use Rattle.p416_syntax.specs.Tokens.{Seen16, id, quoted, number, mark, string, annotation, include_line, joined, opens}
+use Rattle.p416_syntax.specs.Tree.{Exp16, name, index, no_arguments}
+use Rattle.p416_syntax.specs.Conditions.{is_name_note, is_call, is_among, property_texts}
 use Rattle.p416_reader.specs.declared.symbols.Known.{Known}
 use Rattle.p416_reader.specs.declared.symbols.Known.TheVariants as known
 use Rattle.p416_reader.specs.declared.symbols.Class.{Class}

@@ -3,7 +3,7 @@
 use Rattle.std.specs.Prelude.{ℕ, List, [], map, Option, Some, ◌≡◌, slice_get}
 use Rattle.predictive_parser.specs.Grammar.{Line, plain_lines, first_fit, with_more}
 use Rattle.predictive_parser.specs.Choices.{Chooses}
-use Rattle.p416_ast.specs.Tokens.{Seen16}
+use Rattle.p416_syntax.specs.Tokens.{Seen16}
 use Rattle.p416_reader.specs.declared.symbols.Class.{Class}
 use Rattle.p416_reader.specs.declared.symbols.Action.{Action}
 use Rattle.p416_reader.specs.declared.symbols.Word.{Word}

@@ -1,6 +1,6 @@
 -- Trees by the places of their nodes: expressions and statements that aren't part of another yet.
 use Rattle.std.specs.Prelude.{◌≡◌, ℕ, ◌<◌, List, [], ◌∷◌, length, map}
-use Rattle.p416_ast.specs.Tree.{Exp16, no_arguments, Stmt16, no_statements, Trees, exp_at, stmt_at, Keeps}
+use Rattle.p416_syntax.specs.Tree.{Exp16, no_arguments, Stmt16, no_statements, Trees, exp_at, stmt_at, Keeps}
 use Rattle.predictive_parser.specs.Values.{newest, older}
 
 -- the trees, the newest first

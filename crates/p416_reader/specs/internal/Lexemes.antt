@@ -1,6 +1,6 @@
 -- A token as it lies in the text, as the grammar sees it.
 use Rattle.std.specs.Prelude.{◌≡◌, ℕ, ◌<◌, List, length, Some, slice_get}
-use Rattle.p416_ast.specs.Tokens.{Seen16, id, quoted, number, mark, string, annotation, include_line, joined, opens}
+use Rattle.p416_syntax.specs.Tokens.{Seen16, id, quoted, number, mark, string, annotation, include_line, joined, opens}
 use Rattle.p416_reader.specs.declared.token.TokenView.{TokenView}
 use Rattle.p416_reader.specs.declared.token.TokenView.TheVariants as view
 use Rattle.p416_reader.specs.Seen.{Tokens, seen16}

@@ -6,7 +6,7 @@ use Rattle.text_reading.specs.declared.error.ReadError.{ReadError}
 use Rattle.text_reading.specs.internal.Machine.{IsRead}
 use Rattle.p416_tok.specs.declared.kind.TokenKind16.{TokenKind16}
 use Rattle.p416_tok.specs.Front.{front}
-use Rattle.p416_ast.specs.declared.program.Syntax16.{Syntax16}
+use Rattle.p416_syntax.specs.declared.program.Syntax16.{Syntax16}
 use Rattle.p416_reader.specs.declared.symbols.Word.TheVariants as word
 use Rattle.p416_reader.specs.declared.symbols.DeclWord.TheVariants as decl_word
 use Rattle.p416_reader.specs.declared.built.Built.{Built}

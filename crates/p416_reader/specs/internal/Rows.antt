@@ -7,22 +7,22 @@ use Rattle.predictive_parser.specs.declared.symbol.Symbol.TheVariants as symbol
 use Rattle.predictive_parser.specs.declared.symbol.Otherwise.{Otherwise}
 use Rattle.predictive_parser.specs.declared.symbol.Otherwise.TheVariants.{Refuse, Pass, Build}
 use Rattle.predictive_parser.specs.Grammar.{Row, Plain, Like, ◌⇒◌, Grammar}
-use Rattle.p416_lexemes.specs.declared.keyword.Keyword16.{Keyword16}
-use Rattle.p416_lexemes.specs.declared.keyword.Keyword16.TheVariants as key
-use Rattle.p416_lexemes.specs.declared.lexeme.Annotation16.TheVariants as annotation
-use Rattle.p416_lexemes.specs.declared.lexeme.Include16.TheVariants as include
-use Rattle.p416_lexemes.specs.declared.mark.Mark16.TheVariants as mark
-use Rattle.p416_ast.specs.declared.parts.Direction.TheVariants as direction
-use Rattle.p416_ast.specs.declared.parts.Member.TheVariants as member
-use Rattle.p416_ast.specs.declared.parts.HashAlgorithm.TheVariants as hash
-use Rattle.p416_ast.specs.declared.parts.CounterType.TheVariants as counter
-use Rattle.p416_ast.specs.declared.parts.MeterType.TheVariants as meter
-use Rattle.p416_ast.specs.declared.parts.CloneType.TheVariants as clone
-use Rattle.p416_ast.specs.declared.node.UnaryOperator.TheVariants as unary
-use Rattle.p416_ast.specs.declared.node.BinaryOperator.{BinaryOperator}
-use Rattle.p416_ast.specs.declared.node.BinaryOperator.TheVariants as binary
-use Rattle.p416_ast.specs.Operators.{binary_power}
-use Rattle.p416_ast.specs.Tokens.{Seen16}
+use Rattle.p416_syntax.specs.declared.keyword.Keyword16.{Keyword16}
+use Rattle.p416_syntax.specs.declared.keyword.Keyword16.TheVariants as key
+use Rattle.p416_syntax.specs.declared.lexeme.Annotation16.TheVariants as annotation
+use Rattle.p416_syntax.specs.declared.lexeme.Include16.TheVariants as include
+use Rattle.p416_syntax.specs.declared.mark.Mark16.TheVariants as mark
+use Rattle.p416_syntax.specs.declared.parts.Direction.TheVariants as direction
+use Rattle.p416_syntax.specs.declared.parts.Member.TheVariants as member
+use Rattle.p416_syntax.specs.declared.parts.HashAlgorithm.TheVariants as hash
+use Rattle.p416_syntax.specs.declared.parts.CounterType.TheVariants as counter
+use Rattle.p416_syntax.specs.declared.parts.MeterType.TheVariants as meter
+use Rattle.p416_syntax.specs.declared.parts.CloneType.TheVariants as clone
+use Rattle.p416_syntax.specs.declared.node.UnaryOperator.TheVariants as unary
+use Rattle.p416_syntax.specs.declared.node.BinaryOperator.{BinaryOperator}
+use Rattle.p416_syntax.specs.declared.node.BinaryOperator.TheVariants as binary
+use Rattle.p416_syntax.specs.Operators.{binary_power}
+use Rattle.p416_syntax.specs.Tokens.{Seen16}
 use Rattle.p416_reader.specs.declared.symbols.Known.TheVariants as known
 use Rattle.p416_reader.specs.declared.symbols.Class.{Class}
 use Rattle.p416_reader.specs.declared.symbols.Class.TheVariants as class

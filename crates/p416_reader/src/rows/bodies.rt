@@ -9,8 +9,7 @@ use crate::rows::{
     PAREN_CLOSE, PAREN_OPEN, Rows, SEMICOLON, Told,
 };
 use crate::symbols::{Action, BodyAction, BodyWord, Class, Known, PartAction, PartWord, Word};
-use p416_ast::UnaryOperator;
-use p416_lexemes::{Keyword16, Mark16};
+use p416_syntax::{Keyword16, Mark16, UnaryOperator};
 use predictive_parser::{Otherwise, Row, Symbol, WordRows};
 
 const CODED: Rows = &[Row::Coded];

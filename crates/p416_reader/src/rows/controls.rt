@@ -11,7 +11,7 @@ use crate::symbols::{
     Action, BodyAction, BodyWord, Class, ControlAction, ControlWord, PartAction, PartWord,
     StateAction, StateWord, Word,
 };
-use p416_lexemes::Keyword16;
+use p416_syntax::Keyword16;
 use predictive_parser::{Otherwise, Row, Symbol, WordRows};
 
 const INSTANCE: Rows = &[

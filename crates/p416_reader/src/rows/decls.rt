@@ -11,7 +11,7 @@ use crate::symbols::{
     Action, BodyAction, BodyWord, Class, ControlAction, ControlWord, DeclAction, DeclWord,
     PartAction, PartWord, StateAction, StateWord, Word,
 };
-use p416_lexemes::{Include16, Keyword16, Mark16};
+use p416_syntax::{Include16, Keyword16, Mark16};
 use predictive_parser::{Otherwise, Row, Symbol, WordRows};
 
 const PROGRAM: Rows = &[

@@ -8,8 +8,10 @@ use crate::rows::{
     Told,
 };
 use crate::symbols::{Action, Class, Known, PartAction, PartWord, Word};
-use p416_ast::{CloneType, CounterType, Direction, HashAlgorithm, Member, MeterType};
-use p416_lexemes::{Annotation16, Keyword16, Mark16};
+use p416_syntax::{
+    Annotation16, CloneType, CounterType, Direction, HashAlgorithm, Keyword16, Mark16, Member,
+    MeterType,
+};
 use predictive_parser::{Otherwise, Row, Symbol, WordRows};
 
 const TYPE_OF: Rows = &[

@@ -8,7 +8,7 @@ use crate::rows::{
     SEMICOLON, Told,
 };
 use crate::symbols::{Action, BodyAction, BodyWord, Class, PartWord, StateAction, StateWord, Word};
-use p416_lexemes::{Keyword16, Mark16};
+use p416_syntax::{Keyword16, Mark16};
 use predictive_parser::{Otherwise, Row, Symbol, WordRows};
 
 const TARGET: Rows = &[

@@ -11,20 +11,20 @@ use Rattle.match_core.specs.declared.signatures.KeySpec.{KeySpec}
 use Rattle.match_core.specs.declared.signatures.ActionSig.{ActionSig}
 use Rattle.match_core.specs.declared.signatures.TableSig.{TableSig}
 use Rattle.match_core.specs.declared.signatures.ObjectSig.{ObjectSig}
-use Rattle.p416_ast.specs.declared.controls.ActionName.{ActionName}
-use Rattle.p416_ast.specs.declared.controls.ActionName.TheVariants as action_name
-use Rattle.p416_ast.specs.declared.controls.TableKey.{TableKey}
-use Rattle.p416_ast.specs.declared.controls.Table16.{Table16}
-use Rattle.p416_ast.specs.declared.program.Decl16.{Decl16}
-use Rattle.p416_ast.specs.declared.program.Decl16.TheVariants as decl
-use Rattle.p416_ast.specs.declared.program.Syntax16.{Syntax16}
-use Rattle.p416_ast.specs.Properties.{keys_of, actions_of, counters_of}
-use Rattle.p416_rules.specs.Names.{Name}
-use Rattle.p416_rules.specs.Scopes.{Sort, Known, Handed, Scope, handed, sort_in}
-use Rattle.p416_rules.specs.Expressions.{kind_of}
-use Rattle.p416_rules.specs.Declarations.{sort_parameters, tables_in, control_scope, top_scope}
-use Rattle.p416_rules.specs.Tables.{sort_plane, table_plane}
-use Rattle.v1_sem.specs.Signatures.{Object, in_order, own_object, top_object, object_names, plane_among, shape_among, shape_of, place_among, kind_named, key_width, handed_width, table_size}
+use Rattle.p416_syntax.specs.declared.controls.ActionName.{ActionName}
+use Rattle.p416_syntax.specs.declared.controls.ActionName.TheVariants as action_name
+use Rattle.p416_syntax.specs.declared.controls.TableKey.{TableKey}
+use Rattle.p416_syntax.specs.declared.controls.Table16.{Table16}
+use Rattle.p416_syntax.specs.declared.program.Decl16.{Decl16}
+use Rattle.p416_syntax.specs.declared.program.Decl16.TheVariants as decl
+use Rattle.p416_syntax.specs.declared.program.Syntax16.{Syntax16}
+use Rattle.p416_syntax.specs.Properties.{keys_of, actions_of, counters_of}
+use Rattle.p416_syntax.specs.Names.{Name}
+use Rattle.p416_syntax.specs.Scopes.{Sort, Known, Handed, Scope, handed, sort_in}
+use Rattle.p416_syntax.specs.Expressions.{kind_of}
+use Rattle.p416_syntax.specs.Declarations.{sort_parameters, tables_in, control_scope, top_scope}
+use Rattle.p416_syntax.specs.Tables.{sort_plane, table_plane}
+use Rattle.v1_core.specs.Signatures.{Object, in_order, own_object, top_object, object_names, plane_among, shape_among, shape_of, place_among, kind_named, key_width, handed_width, table_size}
 use Rattle.p416_signature.specs.declared.actions.Listed.{Listed}
 use Rattle.p416_signature.specs.declared.by_name.ByName.{ByName}
 use Rattle.p416_signature.specs.declared.objects.Objects.{Objects}

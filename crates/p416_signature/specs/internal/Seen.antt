@@ -1,7 +1,7 @@
 -- What an object that was found is.
-use Rattle.p416_rules.specs.Names.{Name}
-use Rattle.p416_rules.specs.Declarations.{instance_name}
-use Rattle.v1_sem.specs.Signatures.{Object}
+use Rattle.p416_syntax.specs.Names.{Name}
+use Rattle.p416_syntax.specs.Declarations.{instance_name}
+use Rattle.v1_core.specs.Signatures.{Object}
 use Rattle.p416_signature.specs.declared.objects.Found.{Found}
 
 abbrev pub seen_object : Found → Object

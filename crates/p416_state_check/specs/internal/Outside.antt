@@ -1,10 +1,10 @@
 -- What stands directly within a statement, outside every `if`; and a parser's states with the states that they lead to.
 use Rattle.std.specs.Prelude.{Bool, false, if◌then◌else◌, List, [], ◌∷◌, ◌++◌}
 use Rattle.name_cycles.specs.Named.{NamedNode}
-use Rattle.p416_ast.specs.declared.parsers.State.{State}
-use Rattle.p416_ast.specs.Tree.{Stmt16, then, block, expression}
-use Rattle.p416_rules.specs.Names.{Name}
-use Rattle.p416_rules.specs.ParserStates.{is_extract, extracts, targets_of}
+use Rattle.p416_syntax.specs.declared.parsers.State.{State}
+use Rattle.p416_syntax.specs.Tree.{Stmt16, then, block, expression}
+use Rattle.p416_syntax.specs.Names.{Name}
+use Rattle.p416_syntax.specs.ParserStates.{is_extract, extracts, targets_of}
 
 abbrev pub outside_if : Stmt16 → List Stmt16
 outside_if ((then) before last) = before ∷ last ∷ []

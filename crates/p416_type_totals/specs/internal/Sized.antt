@@ -1,14 +1,14 @@
 -- What the values of types count by a measure: their fields, or the octets of their headers.
 use Rattle.std.specs.Prelude.{ℕ, ◌*◌, ◌/◌, List, [], ◌∷◌, map, length, sum_by, slice_index, slice_get}
 use Rattle.std.specs.Option.{option_map_or}
-use Rattle.p416_ast.specs.declared.program.Decl16.{Decl16}
-use Rattle.p416_rules.specs.Names.{Name}
-use Rattle.p416_rules.specs.Kinds.{Kind, header, stack, struct}
-use Rattle.p416_rules.specs.Scopes.{FieldKind, Layout, fields_in}
-use Rattle.p416_rules.specs.BuiltIn.{standard_layout}
-use Rattle.p416_rules.specs.Declarations.{layouts_of}
-use Rattle.p416_rules.specs.Unknown.{declared_name, declaration_number}
-use Rattle.p416_rules.specs.Totals.{field_bits, fields_within, octets_within}
+use Rattle.p416_syntax.specs.declared.program.Decl16.{Decl16}
+use Rattle.p416_syntax.specs.Names.{Name}
+use Rattle.p416_syntax.specs.Kinds.{Kind, header, stack, struct}
+use Rattle.p416_syntax.specs.Scopes.{FieldKind, Layout, fields_in}
+use Rattle.p416_syntax.specs.BuiltIn.{standard_layout}
+use Rattle.p416_syntax.specs.Declarations.{layouts_of}
+use Rattle.p416_syntax.specs.Unknown.{declared_name, declaration_number}
+use Rattle.p416_syntax.specs.Totals.{field_bits, fields_within, octets_within}
 use Rattle.p416_type_totals.specs.declared.measure.Measure.{Measure}
 use Rattle.p416_type_totals.specs.declared.measure.Measure.TheVariants as measure
 use Rattle.p416_type_totals.specs.Limit.{up_to}

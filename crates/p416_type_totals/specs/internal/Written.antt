@@ -1,6 +1,6 @@
 -- What is written down of the types of a program.
 use Rattle.std.specs.Prelude.{◌≡◌, List}
-use Rattle.p416_ast.specs.declared.program.Decl16.{Decl16}
+use Rattle.p416_syntax.specs.declared.program.Decl16.{Decl16}
 use Rattle.p416_type_totals.specs.declared.headers.Headers.{Headers}
 use Rattle.p416_type_totals.specs.declared.measure.Measure.{Measure}
 use Rattle.p416_type_totals.specs.declared.totals.Table.{Table}

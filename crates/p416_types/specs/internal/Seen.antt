@@ -2,14 +2,14 @@
 use Rattle.std.specs.Prelude.{◌≡◌, Bool, true, false, not, ◌&&◌, ◌||◌, nat_eq, List, [], ◌∷◌, flat_map, Option, Some, None}
 use Rattle.std.specs.List.{list_any}
 use Rattle.digraph.specs.Expansions.{HasCycle}
-use Rattle.p416_ast.specs.declared.program.Decl16.{Decl16}
-use Rattle.p416_ast.specs.declared.program.Syntax16.{Syntax16}
-use Rattle.p416_rules.specs.declared.rule.ProgramRule.{ProgramRule}
-use Rattle.p416_rules.specs.Names.{Name}
-use Rattle.p416_rules.specs.Uses.{Use}
-use Rattle.p416_rules.specs.Declarations.{declaration_uses}
-use Rattle.p416_rules.specs.Unknown.{declares_twice, struct_graph}
-use Rattle.p416_rules.specs.Breaks.{is_no_block, program_uses, rule_number}
+use Rattle.p416_syntax.specs.declared.program.Decl16.{Decl16}
+use Rattle.p416_syntax.specs.declared.program.Syntax16.{Syntax16}
+use Rattle.p416_syntax.specs.declared.rule.ProgramRule.{ProgramRule}
+use Rattle.p416_syntax.specs.Names.{Name}
+use Rattle.p416_syntax.specs.Uses.{Use}
+use Rattle.p416_syntax.specs.Declarations.{declaration_uses}
+use Rattle.p416_syntax.specs.Unknown.{declares_twice, struct_graph}
+use Rattle.p416_syntax.specs.Breaks.{is_no_block, program_uses, rule_number}
 use Rattle.p416_action_check.specs.Cycles.{scope_in}
 use Rattle.p416_counter_check.specs.Counting.{is_counted_use}
 use Rattle.p416_expression_uses.specs.First.{UseRule, first_by}

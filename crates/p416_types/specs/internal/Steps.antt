@@ -1,14 +1,14 @@
 -- What each step of the check answers.
 use Rattle.std.specs.Prelude.{◌≡◌, List, [], ◌∷◌, ◌++◌, Result, Ok, Err}
-use Rattle.p416_ast.specs.declared.program.Syntax16.{Syntax16}
-use Rattle.p416_rules.specs.declared.rule.ProgramRule.{ProgramRule}
-use Rattle.p416_rules.specs.declared.rule.ProgramRule.TheVariants.{T1, T2, T3, T4, T5, T6, T7, T8, T9, T10, T11, T12}
-use Rattle.p416_rules.specs.Breaks.{IsFirstBroken, BreaksNone, rule_fault}
-use Rattle.p416_rules.specs.Literals.{overflows}
-use Rattle.p416_rules.specs.Writes.{writes_constant}
-use Rattle.p416_rules.specs.Arguments.{is_miscounted}
-use Rattle.p416_rules.specs.Applications.{applies_wrongly}
-use Rattle.p416_rules.specs.Externs.{is_outside_block}
+use Rattle.p416_syntax.specs.declared.program.Syntax16.{Syntax16}
+use Rattle.p416_syntax.specs.declared.rule.ProgramRule.{ProgramRule}
+use Rattle.p416_syntax.specs.declared.rule.ProgramRule.TheVariants.{T1, T2, T3, T4, T5, T6, T7, T8, T9, T10, T11, T12}
+use Rattle.p416_syntax.specs.Breaks.{IsFirstBroken, BreaksNone, rule_fault}
+use Rattle.p416_syntax.specs.Literals.{overflows}
+use Rattle.p416_syntax.specs.Writes.{writes_constant}
+use Rattle.p416_syntax.specs.Arguments.{is_miscounted}
+use Rattle.p416_syntax.specs.Applications.{applies_wrongly}
+use Rattle.p416_syntax.specs.Externs.{is_outside_block}
 use Rattle.p416_expression_uses.specs.First.{UseRule, use_rule, is_bad_elsewhere}
 use Rattle.p416_types.specs.declared.fault.Check16.{Check16}
 use Rattle.p416_types.specs.declared.fault.Check16.TheVariants.{Memory, Refused}

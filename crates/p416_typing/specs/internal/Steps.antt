@@ -1,12 +1,12 @@
 -- The rows of an expression from the innermost outwards: each takes those of its parts off a stack, and puts its own there.
 use Rattle.std.specs.Prelude.{ℕ, ◌+◌, false, nat_eq, if◌then◌else◌, List, [], ◌∷◌, None, codes}
 use Rattle.std.specs.Str.{bytes_eq}
-use Rattle.p416_ast.specs.Tree.{Exp16, member, index, slice, call, lookahead, cast, unary, binary, choice, parenthesized, no_arguments, argument, listed}
-use Rattle.p416_rules.specs.Names.{Name}
-use Rattle.p416_rules.specs.Kinds.{Kind, unknown}
-use Rattle.p416_rules.specs.Scopes.{Scope, kind_of_type}
-use Rattle.p416_rules.specs.Calls.{method_signature, ingress_position, egress_position}
-use Rattle.p416_rules.specs.Expressions.{known_kind, member_kind, element_kind, slice_kind, call_kind, lookahead_kind, unary_kind, binary_kind, same_choice}
+use Rattle.p416_syntax.specs.Tree.{Exp16, member, index, slice, call, lookahead, cast, unary, binary, choice, parenthesized, no_arguments, argument, listed}
+use Rattle.p416_syntax.specs.Names.{Name}
+use Rattle.p416_syntax.specs.Kinds.{Kind, unknown}
+use Rattle.p416_syntax.specs.Scopes.{Scope, kind_of_type}
+use Rattle.p416_syntax.specs.Calls.{method_signature, ingress_position, egress_position}
+use Rattle.p416_syntax.specs.Expressions.{known_kind, member_kind, element_kind, slice_kind, call_kind, lookahead_kind, unary_kind, binary_kind, same_choice}
 use Rattle.p416_typing.specs.Rows.{RowOf, row_of}
 
 -- what is known of nothing

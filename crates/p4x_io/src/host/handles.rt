@@ -19,11 +19,20 @@ struct Handle<F: Drop> {
 }
 
 // A few open files, each under another name: the one used last comes first.
-#[derive(Drop)]
 pub(super) struct Handles<F: Drop> {
     first: Option<Handle<F>>,
     second: Option<Handle<F>>,
     third: Option<Handle<F>>,
+}
+
+impl<F: Drop> Drop for Handles<F> {
+    fn drop(self) {
+        let Handles {
+            first: _first,
+            second: _second,
+            third: _third,
+        } = self;
+    }
 }
 
 // Takes the handle out where it is of this name.

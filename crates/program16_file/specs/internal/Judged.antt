@@ -1,10 +1,10 @@
 -- What private functions answer (this project's own).
 use Rattle.std.specs.Prelude.{◌≡◌, List, ℕ, Result, Ok, Err}
-use Rattle.p416_ast.specs.declared.program.Syntax16.{Syntax16}
+use Rattle.p416_syntax.specs.declared.program.Syntax16.{Syntax16}
 use Rattle.file_work.specs.declared.stop.Stop.{Stop}
 use Rattle.file_work.specs.declared.stop.Stop.TheVariants.{Text, Memory}
-use Rattle.p416_rules.specs.declared.rule.ProgramRule.{ProgramRule}
-use Rattle.p416_rules.specs.Breaks.{Breaks16, rule_number, rule_fault}
+use Rattle.p416_syntax.specs.declared.rule.ProgramRule.{ProgramRule}
+use Rattle.p416_syntax.specs.Breaks.{Breaks16, rule_number, rule_fault}
 use Rattle.p416_types.specs.Answers.{IsAccepted}
 use Rattle.program16_file.specs.Answers.{IsAlone}
 use Rattle.program16_file.specs.Programs.{TextIs}

@@ -1,10 +1,10 @@
 -- What the calls below the commands answer.
 use Rattle.std.specs.Prelude.{◌≡◌, List, ℕ, Result, Ok, Err}
-use Rattle.p414_ast.specs.declared.syntax.Syntax14.{Syntax14}
+use Rattle.p414_syntax.specs.declared.syntax.Syntax14.{Syntax14}
 use Rattle.file_work.specs.declared.stop.Stop.{Stop}
 use Rattle.file_work.specs.declared.stop.Stop.TheVariants.{Judged, Memory}
-use Rattle.p414_rules.specs.declared.rule.ProgramRule.{ProgramRule}
-use Rattle.p414_rules.specs.Breaks.{Breaks14, rule_fault}
+use Rattle.p414_syntax.specs.declared.rule.ProgramRule.{ProgramRule}
+use Rattle.p414_syntax.specs.Breaks.{Breaks14, rule_fault}
 use Rattle.p414_body_check.specs.Answers.{IsAccepted}
 use Rattle.program_commands.specs.Answers.{IsAlone}
 use Rattle.program_commands.specs.Programs.{TextIs}

@@ -4,7 +4,7 @@ use Rattle.p4x_io.specs.Desk.{DeskView, Rose}
 use Rattle.p414_ready_tables.specs.Loaded.{Loaded}
 use Rattle.command_words.specs.Words.{Run14Files}
 use Rattle.file_work.specs.Works.{Held}
-use Rattle.p414_ast.specs.declared.syntax.Rule14.{Rule14}
+use Rattle.p414_syntax.specs.declared.syntax.Rule14.{Rule14}
 use Rattle.run14_cmd.specs.declared.beginning.Beginning.{Beginning}
 use Rattle.run14_cmd.specs.Run14.{Begins}
 

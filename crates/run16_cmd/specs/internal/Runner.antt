@@ -11,9 +11,9 @@ use Rattle.fabric.proofs.QueueRuns.{few_fabric}
 use Rattle.run_stream.specs.Reports.{work_line}
 use Rattle.run_stream.specs.Runs.{Outcome, AreFew}
 use Rattle.cell_lines.specs.Lines.{cell_lines}
-use Rattle.v1_sem.specs.Surroundings.{Setting}
-use Rattle.v1_sem.specs.Passes.{Between}
-use Rattle.v1_sem.specs.Runs.{machine16}
+use Rattle.v1_core.specs.Surroundings.{Setting}
+use Rattle.v1_core.specs.Passes.{Between}
+use Rattle.v1_core.specs.Runs.{machine16}
 
 -- what a runner is set up with
 pub record Running16 : Type 0 where

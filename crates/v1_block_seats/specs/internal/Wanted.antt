@@ -1,10 +1,10 @@
 -- The block that is wanted, and names by the seats of all values of a frame, in order.
 use Rattle.std.specs.Prelude.{ℕ, ◌+◌, Bool, List, Option, None, option_map, slice_get}
-use Rattle.p416_ast.specs.declared.program.Decl16.{Decl16}
-use Rattle.v1_sem.specs.Frames.{Owner, of_headers, of_metadata, of_standard, of_variables, of_inner, of_nothing}
-use Rattle.v1_sem.specs.Surroundings.{Root}
-use Rattle.v1_sem.specs.Numbered.{Variable}
-use Rattle.v1_frame_values.specs.Seats as seats
+use Rattle.p416_syntax.specs.declared.program.Decl16.{Decl16}
+use Rattle.v1_core.specs.Frames.{Owner, of_headers, of_metadata, of_standard, of_variables, of_inner, of_nothing}
+use Rattle.v1_core.specs.Surroundings.{Root}
+use Rattle.v1_core.specs.Numbered.{Variable}
+use Rattle.v1_core.specs.Seats as seats
 use Rattle.v1_seats.specs.declared.seat.Seat.{Seat}
 use Rattle.v1_seats.specs.Seen.{seen_seat}
 use Rattle.v1_ready_forms.specs.Named.{NamedSeat, named_seat}

@@ -2,11 +2,11 @@
 use Rattle.std.specs.Prelude.{◌≡◌, ℕ, Bool, true, List, None}
 use Rattle.p4x_bits.specs.BitLists.{octet_bits, IsOctets}
 use Rattle.state_store.specs.State.{Contents}
-use Rattle.v1_sem.specs.declared.block.Block.{Block}
-use Rattle.v1_sem.specs.declared.block.Block.TheVariants.{Verify, Ingress, Egress, Compute, Deparse}
-use Rattle.v1_frame_values.specs.Programs.{layout16}
+use Rattle.v1_core.specs.declared.block.Block.{Block}
+use Rattle.v1_core.specs.declared.block.Block.TheVariants.{Verify, Ingress, Egress, Compute, Deparse}
+use Rattle.v1_core.specs.Programs.{layout16}
 use Rattle.v1_ready_blocks.specs.Tables.{Fill}
-use Rattle.v1_ready_externs.specs.declared.run.Run.{Run}
+use Rattle.v1_statement_run.specs.declared.run.Run.{Run}
 use Rattle.v1_parse_run.specs.declared.machine.ParserMachine.{ParserMachine}
 use Rattle.v1_block_run.specs.declared.block.ReadyBlock.{ReadyBlock}
 use Rattle.v1_block_tables.specs.declared.parts.FilledBlock.{FilledBlock}

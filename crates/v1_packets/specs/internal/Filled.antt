@@ -1,8 +1,8 @@
 -- What putting numbers into slots one after another changes (this project's own).
 use Rattle.std.specs.Prelude.{◌≡◌, ℕ, ◌-◌, ◌<◌, ◌≤◌, ◌⊎◌, List, length, slice_index_or, None}
-use Rattle.v1_frames.specs.Layouts.{Layout}
-use Rattle.v1_frames.specs.Cells.{Cells, slot_value}
-use Rattle.v1_frame_values.specs.Laid.{IsSlot}
+use Rattle.v1_core.specs.Layouts.{Layout}
+use Rattle.v1_core.specs.Cells.{Cells, slot_value}
+use Rattle.v1_core.specs.Laid.{IsSlot}
 
 -- the slots from one up to another are there, and none is a field of a header
 abbrev pub AreLone : Layout → ℕ → ℕ → Type 0

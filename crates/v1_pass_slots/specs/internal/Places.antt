@@ -1,13 +1,13 @@
 -- What is found of a program's frames along its types.
 use Rattle.std.specs.Prelude.{◌≡◌, ℕ, ◌<◌, List, length, slice_index, Some, None, codes}
-use Rattle.p416_rules.specs.Names.{Name}
-use Rattle.p416_rules.specs.Kinds.{Kind}
-use Rattle.p416_rules.specs.Scopes.{Layout as TypeLayout}
-use Rattle.p416_rules.specs.BuiltIn.{standard}
-use Rattle.v1_sem.specs.Values.{to_member}
-use Rattle.v1_frames.specs.Layouts.{Layout}
-use Rattle.v1_frame_values.specs.Seats.{some_bits, slot_form, form_of, Start, behind, Seat, stepped_seat}
-use Rattle.v1_frame_values.specs.Programs.{first_start}
+use Rattle.p416_syntax.specs.Names.{Name}
+use Rattle.p416_syntax.specs.Kinds.{Kind}
+use Rattle.p416_syntax.specs.Scopes.{Layout as TypeLayout}
+use Rattle.p416_syntax.specs.BuiltIn.{standard}
+use Rattle.v1_core.specs.Values.{to_member}
+use Rattle.v1_core.specs.Layouts.{Layout}
+use Rattle.v1_core.specs.Seats.{some_bits, slot_form, form_of, Start, behind, Seat, stepped_seat}
+use Rattle.v1_core.specs.Programs.{first_start}
 use Rattle.v1_seats.specs.Seen.{seen_start}
 use Rattle.v1_pass_slots.specs.declared.find.Starts.{Starts}
 use Rattle.v1_pass_slots.specs.declared.slots.StandardSlots.{StandardSlots}

@@ -1,9 +1,9 @@
 -- The types of a program in a list by their names.
 use Rattle.std.specs.Prelude.{◌≡◌, ℕ, List, map, filter, slice_get, Some}
-use Rattle.p416_ast.specs.declared.parts.StructField.{StructField}
-use Rattle.p416_ast.specs.declared.program.Decl16.{Decl16}
-use Rattle.p416_ast.specs.declared.program.Decl16.TheVariants as decl
-use Rattle.p416_rules.specs.Unknown.{declared_name}
+use Rattle.p416_syntax.specs.declared.parts.StructField.{StructField}
+use Rattle.p416_syntax.specs.declared.program.Decl16.{Decl16}
+use Rattle.p416_syntax.specs.declared.program.Decl16.TheVariants as decl
+use Rattle.p416_syntax.specs.Unknown.{declared_name}
 use Rattle.p416_names.specs.internal.Tables.{is_type}
 use Rattle.v1_pass_slots.specs.declared.structs.Types.{Types}
 

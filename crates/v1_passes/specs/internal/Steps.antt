@@ -6,15 +6,15 @@ use Rattle.fabric.specs.declared.items.IngressNext.{IngressNext}
 use Rattle.fabric.specs.declared.items.IngressNext.TheVariants as after_ingress
 use Rattle.fabric.specs.declared.items.EgressNext.{EgressNext}
 use Rattle.fabric.specs.declared.items.EgressNext.TheVariants as after_egress
-use Rattle.p416_ast.specs.declared.program.Syntax16.{Syntax16}
-use Rattle.v1_sem.specs.Values.{Value}
-use Rattle.v1_sem.specs.Frames.{Frame, Moment, Request, standard_number, without_requests_and_events}
-use Rattle.v1_sem.specs.declared.block.Block.TheVariants.{Verify}
-use Rattle.v1_sem.specs.declared.parser_error.ParserError.{ParserError}
-use Rattle.v1_sem.specs.Surroundings.{Setting}
-use Rattle.v1_sem.specs.Blocks.{control16}
-use Rattle.v1_sem.specs.Passes.{Held, preserved, egress_spec, is_no_error, put_together, octets_left}
-use Rattle.v1_frames.specs.Cells.{Cells}
+use Rattle.p416_syntax.specs.declared.program.Syntax16.{Syntax16}
+use Rattle.v1_core.specs.Values.{Value}
+use Rattle.v1_core.specs.Frames.{Frame, Moment, Request, standard_number, without_requests_and_events}
+use Rattle.v1_core.specs.declared.block.Block.TheVariants.{Verify}
+use Rattle.v1_core.specs.declared.parser_error.ParserError.{ParserError}
+use Rattle.v1_core.specs.Surroundings.{Setting}
+use Rattle.v1_core.specs.Blocks.{control16}
+use Rattle.v1_core.specs.Passes.{Held, preserved, egress_spec, is_no_error, put_together, octets_left}
+use Rattle.v1_core.specs.Cells.{Cells}
 use Rattle.v1_packets.specs.Packets.{clone_frame}
 use Rattle.v1_passes.specs.Moments.{moment_at}
 use Rattle.v1_passes.specs.Tags.{Tagged}

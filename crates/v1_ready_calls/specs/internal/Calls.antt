@@ -1,13 +1,13 @@
 -- A call by what is called and its arguments.
 use Rattle.std.specs.Prelude.{List, Option, Some, None}
-use Rattle.p416_ast.specs.Tree.{Exp16, call}
-use Rattle.p416_rules.specs.Scopes.{Scope}
+use Rattle.p416_syntax.specs.Tree.{Exp16, call}
+use Rattle.p416_syntax.specs.Scopes.{Scope}
 use Rattle.v1_ready_forms.specs.Named.{NamedSeat}
 use Rattle.v1_ready_blocks.specs.Statements.{Statement}
 use Rattle.v1_ready_statements.specs.Around.{Around}
 use Rattle.v1_ready_statements.specs.Called.{call_ready}
 use Rattle.v1_ready_calls.specs.declared.calls.Called.{Called}
-use Rattle.v1_ready_calls.specs.internal.Passes.{let_go_ready}
+use Rattle.v1_ready_operands.specs.internal.Passes.{let_go_ready}
 
 abbrev pub call_in : Exp16 → Option Called
 call_in (call e given) = Some (record { callee = e; given = given })

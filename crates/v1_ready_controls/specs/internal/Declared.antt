@@ -1,14 +1,14 @@
 -- What a control declares, how it stands in a program, and the parts of a ready one.
 use Rattle.std.specs.Prelude.{◌≡◌, ℕ, ◌<◌, List, length, map, filter_map, All}
-use Rattle.p416_ast.specs.declared.controls.Local.{Local}
-use Rattle.p416_ast.specs.declared.controls.Control16.{Control16}
-use Rattle.p416_rules.specs.Declarations.{action_in, table_in}
+use Rattle.p416_syntax.specs.declared.controls.Local.{Local}
+use Rattle.p416_syntax.specs.declared.controls.Control16.{Control16}
+use Rattle.p416_syntax.specs.Declarations.{action_in, table_in}
 use Rattle.p416_scopes.specs.Seen.{seen_scope}
 use Rattle.p416_signature.specs.internal.Gathered.{objects_seen}
-use Rattle.v1_sem.specs.declared.block.Block.{Block as BlockName}
-use Rattle.v1_sem.specs.Signatures.{own_object, key_scope}
-use Rattle.v1_sem.specs.Blocks.{var_in}
-use Rattle.v1_frames.specs.Layouts.{Layout}
+use Rattle.v1_core.specs.declared.block.Block.{Block as BlockName}
+use Rattle.v1_core.specs.Signatures.{own_object, key_scope}
+use Rattle.v1_core.specs.Blocks.{var_in}
+use Rattle.v1_core.specs.Layouts.{Layout}
 use Rattle.v1_block_laws.specs.Variables.{scope_in_control, control_from, body_from, control_seats}
 use Rattle.v1_ready_program.specs.Seen.{seen_seats}
 use Rattle.v1_ready_blocks.specs.Nodes.{statement_at}
@@ -17,15 +17,15 @@ use Rattle.v1_ready_statements.specs.Around.{action_places}
 use Rattle.v1_block_seats.specs.declared.numbers.Variable.{Variable}
 use Rattle.v1_block_run.specs.Blocks.{seen_parameters}
 use Rattle.v1_ready_nodes.specs.Held.{Held, trees_in}
-use Rattle.v1_ready_calls.specs.Callees.{seen_action, action_name, table_name}
+use Rattle.v1_ready_operands.specs.Callees.{seen_action, action_name, table_name}
 use Rattle.v1_ready_tables.specs.Seen.{seen_tables, IsTableIn}
 use Rattle.v1_ready_controls.specs.declared.program.ProgramParts.{ProgramParts}
 use Rattle.v1_ready_controls.specs.declared.declared.Declared.{Declared}
 use Rattle.v1_ready_controls.specs.declared.control.Control.{Control}
 use Rattle.v1_ready_controls.specs.declared.whole.Parts.{Parts}
-use Rattle.v1_ready_controls.specs.Seen.{seen_bodies, IsActionIn}
-use Rattle.v1_ready_controls.specs.Owned.{seen_own, owned}
-use Rattle.v1_ready_controls.specs.internal.Zipped.{number_in, zip_actions, zip_variables}
+use Rattle.v1_ready_locals.specs.Seen.{seen_bodies, IsActionIn}
+use Rattle.v1_ready_locals.specs.Owned.{seen_own, owned}
+use Rattle.v1_ready_locals.specs.internal.Zipped.{number_in, zip_actions, zip_variables}
 
 -- these are the declarations of a control whose variables and actions have these numbers
 pub record AreDeclared (vs : List Variable) (ns : List ℕ) (locals : List Local) (d : Declared) : Type 0 where

@@ -1,14 +1,14 @@
 -- What the first of some expressions means, each of which is the first part of the one before it.
 use Rattle.std.specs.Prelude.{List, [], ◌∷◌, Option, None}
-use Rattle.p416_ast.specs.Tree.{Exp16, name, member, index, slice}
-use Rattle.p416_rules.specs.Names.{Name}
-use Rattle.p416_rules.specs.Kinds.{Kind, stack, unknown}
-use Rattle.p416_rules.specs.Scopes.{Layout, Scope}
-use Rattle.p416_kinds.specs.Seen.{seen_kind}
+use Rattle.p416_syntax.specs.Tree.{Exp16, name, member, index, slice}
+use Rattle.p416_syntax.specs.Names.{Name}
+use Rattle.p416_syntax.specs.Kinds.{Kind, stack, unknown}
+use Rattle.p416_syntax.specs.Scopes.{Layout, Scope}
+use Rattle.p416_names.specs.SeenKinds.{seen_kind}
 use Rattle.p416_typing.specs.Rows.{RowOf, left_of}
 use Rattle.p416_typing.specs.declared.row.Row.{Row}
-use Rattle.v1_sem.specs.Values.{to_member, to_element}
-use Rattle.v1_sem.specs.Expressions.{slice_of}
+use Rattle.v1_core.specs.Values.{to_member, to_element}
+use Rattle.v1_core.specs.Expressions.{slice_of}
 use Rattle.v1_ready_forms.specs.Named.{NamedSeat, seat_of_name}
 use Rattle.v1_ready_forms.specs.Ways.{which_of}
 use Rattle.v1_ready_forms.specs.Spots.{Spot, spot_with, spot_behind, told_spot}

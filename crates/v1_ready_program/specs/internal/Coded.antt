@@ -1,10 +1,10 @@
 -- What the asks, plans and parts of code are.
 use Rattle.std.specs.Prelude.{◌≡◌, ℕ, ◌<◌, List, [], ◌∷◌, length, map, option_map, Option, Some, None, IfSome}
 use Rattle.p416_calls.specs.Seen.{seen_place}
-use Rattle.v1_sem.specs.Values.{a_number, a_truth, an_error}
-use Rattle.v1_ready_expressions.specs.Ready as ready
-use Rattle.v1_ready_expressions.specs.Ready.{Ready}
-use Rattle.v1_ready_expressions.specs.Nodes.{ready_at, ready_of}
+use Rattle.v1_core.specs.Values.{a_number, a_truth, an_error}
+use Rattle.v1_core.specs.Ready as ready
+use Rattle.v1_core.specs.Ready.{Ready}
+use Rattle.v1_core.specs.Nodes.{ready_at, ready_of}
 use Rattle.v1_ready_forms.specs.Ways.{Way, its_value, its_validity}
 use Rattle.v1_ready_program.specs.declared.leaves.Leaf.{Leaf}
 use Rattle.v1_ready_program.specs.declared.leaves.Leaf.TheVariants as leaf_of
@@ -19,7 +19,7 @@ use Rattle.node_lists.specs.Trees.{grow, AllInOrder}
 use Rattle.v1_ready_program.specs.declared.ways.Ways.{Ways}
 use Rattle.v1_ready_program.specs.declared.ways.Taken.{Taken}
 use Rattle.v1_ready_program.specs.declared.ways.Taken.TheVariants as taken
-use Rattle.p416_rules.specs.Scopes.{Layout}
+use Rattle.p416_syntax.specs.Scopes.{Layout}
 use Rattle.v1_ready_forms.specs.Spots.{way_ready}
 use Rattle.v1_ready_program.specs.Seen.{seen_spot}
 use Rattle.v1_ready_program.specs.internal.Ways.{IsStep, way_at, way_of}

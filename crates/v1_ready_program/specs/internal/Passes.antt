@@ -1,21 +1,21 @@
 -- Expressions are gone through twice: from the outside in, to find what is asked of each part and how it is made, and from the
 -- inside out, to make it.
 use Rattle.std.specs.Prelude.{ℕ, suc, ◌-◌, Bool, true, false, if◌then◌else◌, List, [], ◌∷◌, ◌++◌, Option, Some, None, option_map}
-use Rattle.p416_ast.specs.declared.node.UnaryOperator.{UnaryOperator}
-use Rattle.p416_ast.specs.declared.node.BinaryOperator.{BinaryOperator}
-use Rattle.p416_ast.specs.declared.node.CastType.{CastType}
-use Rattle.p416_ast.specs.declared.node.CastType.TheVariants as cast_to
-use Rattle.p416_ast.specs.Tree.{Exp16, literal, truth, error, name, member, index, slice, call, lookahead, cast, unary, binary, choice, parenthesized, argument, listed}
-use Rattle.p416_rules.specs.Names.{Name}
-use Rattle.p416_rules.specs.Kinds.{Kind, bits, boolean, header, stack, errors, enumeration}
-use Rattle.p416_rules.specs.Scopes.{Scope, kind_of_type}
-use Rattle.p416_rules.specs.Calls.{Place, value, any_bits, owner, a_stack}
-use Rattle.p416_rules.specs.Uses.{unary_place, left_place, right_place, cast_place, chosen_place}
+use Rattle.p416_syntax.specs.declared.node.UnaryOperator.{UnaryOperator}
+use Rattle.p416_syntax.specs.declared.node.BinaryOperator.{BinaryOperator}
+use Rattle.p416_syntax.specs.declared.node.CastType.{CastType}
+use Rattle.p416_syntax.specs.declared.node.CastType.TheVariants as cast_to
+use Rattle.p416_syntax.specs.Tree.{Exp16, literal, truth, error, name, member, index, slice, call, lookahead, cast, unary, binary, choice, parenthesized, argument, listed}
+use Rattle.p416_syntax.specs.Names.{Name}
+use Rattle.p416_syntax.specs.Kinds.{Kind, bits, boolean, header, stack, errors, enumeration}
+use Rattle.p416_syntax.specs.Scopes.{Scope, kind_of_type}
+use Rattle.p416_syntax.specs.Calls.{Place, value, any_bits, owner, a_stack}
+use Rattle.p416_syntax.specs.Uses.{unary_place, left_place, right_place, cast_place, chosen_place}
 use Rattle.p416_typing.specs.Rows.{RowOf, row_of}
-use Rattle.v1_sem.specs.Values.{a_truth, an_error}
-use Rattle.v1_sem.specs.Expressions.{literal_number, number_of_error}
-use Rattle.v1_ready_expressions.specs.Ready as ready
-use Rattle.v1_ready_expressions.specs.Ready.{Ready}
+use Rattle.v1_core.specs.Values.{a_truth, an_error}
+use Rattle.v1_core.specs.Expressions.{literal_number, number_of_error}
+use Rattle.v1_core.specs.Ready as ready
+use Rattle.v1_core.specs.Ready.{Ready}
 use Rattle.v1_ready_forms.specs.Named.{NamedSeat}
 use Rattle.v1_ready_forms.specs.Ways.{Way, its_value, its_validity, through_member, through_element, through_told, which_of}
 use Rattle.v1_ready_forms.specs.Expressions.{with_two, with_three, name_ready, asked_ready, binary_ready}

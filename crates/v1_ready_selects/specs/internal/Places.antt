@@ -1,8 +1,8 @@
 -- Parts of a case from one on, by the places of their keys.
 use Rattle.std.specs.Prelude.{ℕ, ◌+◌, Bool, true, ◌&&◌, List, [], ◌∷◌, slice_get, Option, Some, None}
-use Rattle.p416_ast.specs.declared.parsers.Simple.{Simple}
-use Rattle.p416_rules.specs.Kinds.{Kind}
-use Rattle.v1_sem.specs.Values.{Value}
+use Rattle.p416_syntax.specs.declared.parsers.Simple.{Simple}
+use Rattle.p416_syntax.specs.Kinds.{Kind}
+use Rattle.v1_core.specs.Values.{Value}
 use Rattle.v1_ready_selects.specs.declared.rows.KeyTest.{KeyTest}
 use Rattle.v1_ready_selects.specs.declared.rows.KeyTest.TheVariants as key_test
 use Rattle.v1_ready_selects.specs.Selects.{takes}

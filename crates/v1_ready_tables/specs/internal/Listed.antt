@@ -2,17 +2,17 @@
 use Rattle.std.specs.Prelude.{ℕ, List, [], slice_get, Option, Some, None, map, option_and_then}
 use Rattle.std.specs.Option.{option_map_or}
 use Rattle.name_numbers.specs.Names.{find_name}
-use Rattle.p416_ast.specs.declared.controls.ActionName.{ActionName}
-use Rattle.p416_ast.specs.declared.controls.ActionName.TheVariants as action_name
-use Rattle.p416_ast.specs.declared.controls.Table16.{Table16}
-use Rattle.p416_ast.specs.Properties.{default_arguments_of}
-use Rattle.p416_rules.specs.Names.{Name}
-use Rattle.p416_rules.specs.Scopes.{Scope}
-use Rattle.p416_rules.specs.Tables.{action_plane}
-use Rattle.p416_rules.specs.Totals.{size_value}
-use Rattle.p416_rules.specs.Uses.{arguments_of}
-use Rattle.v1_sem.specs.Signatures.{planes_of, place_among}
-use Rattle.v1_sem.specs.Tables.{Chosen}
+use Rattle.p416_syntax.specs.declared.controls.ActionName.{ActionName}
+use Rattle.p416_syntax.specs.declared.controls.ActionName.TheVariants as action_name
+use Rattle.p416_syntax.specs.declared.controls.Table16.{Table16}
+use Rattle.p416_syntax.specs.Properties.{default_arguments_of}
+use Rattle.p416_syntax.specs.Names.{Name}
+use Rattle.p416_syntax.specs.Scopes.{Scope}
+use Rattle.p416_syntax.specs.Tables.{action_plane}
+use Rattle.p416_syntax.specs.Totals.{size_value}
+use Rattle.p416_syntax.specs.Uses.{arguments_of}
+use Rattle.v1_core.specs.Signatures.{planes_of, place_among}
+use Rattle.v1_core.specs.Tables.{Chosen}
 use Rattle.v1_ready_tables.specs.declared.listed.ListedAction.{ListedAction}
 
 pub record Listed : Type 0 where

@@ -1,6 +1,6 @@
 -- What the marks, values and parts of code are.
 use Rattle.std.specs.Prelude.{ℕ, ◌<◌, List, [], ◌∷◌, length, map, Option, option_map, IfSome}
-use Rattle.v1_ready_expressions.specs.Ready.{Ready}
+use Rattle.v1_core.specs.Ready.{Ready}
 use Rattle.v1_ready_blocks.specs.Tests.{Test}
 use Rattle.v1_ready_blocks.specs.Nodes.{Tree, test_at}
 use Rattle.v1_ready_program.specs.internal.Coded.{seen_plan, seen_value, IsValueIn}

@@ -2,15 +2,15 @@
 -- how it is made, and from the inside out, to make it: as a ready expression, where no table is applied in it, else as a test.
 use Rattle.std.specs.Prelude.{ℕ, Bool, true, false, ◌||◌, if◌then◌else◌, List, [], ◌∷◌, ◌++◌, Option, None, option_map, codes}
 use Rattle.std.specs.Str.{bytes_eq}
-use Rattle.p416_ast.specs.Tree.{Exp16, member, index, slice, call, lookahead, cast, unary, binary, choice, parenthesized, argument, listed}
-use Rattle.p416_rules.specs.Names.{Name}
-use Rattle.p416_rules.specs.Kinds.{Kind}
-use Rattle.p416_rules.specs.Scopes.{Scope}
-use Rattle.p416_rules.specs.Calls.{any_bits}
-use Rattle.p416_rules.specs.Expressions.{kind_of}
+use Rattle.p416_syntax.specs.Tree.{Exp16, member, index, slice, call, lookahead, cast, unary, binary, choice, parenthesized, argument, listed}
+use Rattle.p416_syntax.specs.Names.{Name}
+use Rattle.p416_syntax.specs.Kinds.{Kind}
+use Rattle.p416_syntax.specs.Scopes.{Scope}
+use Rattle.p416_syntax.specs.Calls.{any_bits}
+use Rattle.p416_syntax.specs.Expressions.{kind_of}
 use Rattle.p416_typing.specs.Rows.{row_of}
-use Rattle.v1_sem.specs.Expressions.{name_in}
-use Rattle.v1_ready_expressions.specs.Ready.{Ready}
+use Rattle.v1_core.specs.Expressions.{name_in}
+use Rattle.v1_core.specs.Ready.{Ready}
 use Rattle.v1_ready_forms.specs.Named.{NamedSeat}
 use Rattle.v1_ready_blocks.specs.declared.nodes.Single.TheVariants as single
 use Rattle.v1_ready_blocks.specs.Tests.{Test, plain, hits, misses, alone, choice as test_choice}

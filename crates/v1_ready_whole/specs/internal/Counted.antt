@@ -1,7 +1,7 @@
 -- The variables of a parser with their numbers, of which the first has this one.
 use Rattle.std.specs.Prelude.{ℕ, suc, List, [], ◌∷◌}
-use Rattle.p416_ast.specs.declared.parsers.Var.{Var}
-use Rattle.v1_ready_controls.specs.Owned.{Owned, owned_by}
+use Rattle.p416_syntax.specs.declared.parsers.Var.{Var}
+use Rattle.v1_ready_locals.specs.Owned.{Owned, owned_by}
 
 abbrev pub counted : ℕ → List Var → List Owned
 counted n [] = []

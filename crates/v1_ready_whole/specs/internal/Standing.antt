@@ -1,8 +1,8 @@
 -- How the parser stands in a program.
 use Rattle.std.specs.Prelude.{◌≡◌, map}
-use Rattle.p416_ast.specs.declared.parsers.Parser16.{Parser16}
+use Rattle.p416_syntax.specs.declared.parsers.Parser16.{Parser16}
 use Rattle.p416_scopes.specs.Seen.{seen_scope}
-use Rattle.v1_frames.specs.Layouts.{Layout}
+use Rattle.v1_core.specs.Layouts.{Layout}
 use Rattle.v1_block_laws.specs.Variables.{scope_in_parser, parser_from, states_from, parser_seats}
 use Rattle.v1_ready_selects.specs.Matching.{state_names}
 use Rattle.v1_ready_blocks.specs.Nodes.{IsRange}
@@ -10,7 +10,7 @@ use Rattle.v1_ready_program.specs.Seen.{seen_seats}
 use Rattle.v1_ready_states.specs.declared.states.ReadyParser.{ReadyParser}
 use Rattle.v1_parse_run.specs.Made.{HoldsErrors}
 use Rattle.v1_ready_controls.specs.declared.program.ProgramParts.{ProgramParts}
-use Rattle.v1_ready_controls.specs.Owned.{seen_own, owned}
+use Rattle.v1_ready_locals.specs.Owned.{seen_own, owned}
 use Rattle.v1_ready_whole.specs.Parsers.{vars_of}
 use Rattle.v1_ready_whole.specs.declared.parser.Standing16.{Standing16}
 

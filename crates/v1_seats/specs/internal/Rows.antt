@@ -2,11 +2,11 @@
 use Rattle.std.specs.Prelude.{◌≡◌, ℕ, List, [], map, slice_get, slice_index_or, Option, Some, None, IfSome, MatchOption}
 use Rattle.std.specs.List.{AllZip}
 use Rattle.name_numbers.specs.Names.{find_name}
-use Rattle.p416_rules.specs.Names.{Name}
-use Rattle.p416_rules.specs.Scopes.{Layout, FieldKind, fields_in}
-use Rattle.p416_kinds.specs.declared.kind.Kind.{Kind as CodeKind}
-use Rattle.p416_kinds.specs.Seen.{seen_kind}
-use Rattle.v1_frame_values.specs.Seats.{Form, form_of}
+use Rattle.p416_syntax.specs.Names.{Name}
+use Rattle.p416_syntax.specs.Scopes.{Layout, FieldKind, fields_in}
+use Rattle.p416_names.specs.declared.kind.Kind.{Kind as CodeKind}
+use Rattle.p416_names.specs.SeenKinds.{seen_kind}
+use Rattle.v1_core.specs.Seats.{Form, form_of}
 use Rattle.v1_layout.specs.Left.{kind_of_field}
 use Rattle.v1_seats.specs.declared.rows.Row.{Row}
 use Rattle.v1_seats.specs.declared.rows.Place.{Place}

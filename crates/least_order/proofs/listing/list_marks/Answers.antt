@@ -1,6 +1,8 @@
-use Rattle.std.proofs.Common.{true, false, set, length, replicate, subst, arith}
+use Rattle.std.proofs.Common.{true, false, set, length, replicate, subst, sym, refl, arith}
 use Rattle.digraph.specs.Graphs.{Among}
 use Rattle.digraph.proofs.Walking.{edge_within}
+use Rattle.least_order.specs.Orders.{IsLeastOrder}
+use Rattle.least_order.specs.internal.Listing.{IsMark, MarkReaches}
 use Rattle.least_order.proofs.Turns.{is_begun, ready_within, taken_now, next_turn, turn_less, is_ended}
 use Rattle.least_order.proofs.listing.list_marks.Goals as goal
 
@@ -52,5 +54,6 @@ loop-listing-preserved c = (
 
 pub returns : goal.returns
 returns c =
-    is_ended c.args.edges.now c.args.marks.now c.args.homes.now c.requires c.loop-listing.invariant.0 c.loop-listing.listing c.next_node.new.self _ c.loop-listing.invariant.1
-    (rw c.in_default.is at c.in_ok-node.ensures) c.listing-in-loop-listing.view_is
+    subst (λ items. IsLeastOrder (IsMark c.args.edges.now c.args.marks.now) (MarkReaches c.args.edges.now c.args.marks.now) items) (sym c.into_order.ensures)
+    (is_ended c.args.edges.now c.args.marks.now c.args.homes.now c.requires c.loop-listing.invariant.0 c.loop-listing.listing c.next_node.new.self _ c.loop-listing.invariant.1
+    (rw c.in_default.is at c.in_ok-node.ensures) refl)

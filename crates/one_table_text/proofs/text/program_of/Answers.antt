@@ -1,7 +1,7 @@
 use Rattle.std.proofs.Common.{◌∙◌, ap, sym, subst}
-use Rattle.p416_ast.specs.declared.program.Syntax16.{Syntax16}
-use Rattle.p416_ast.specs.Spelt.{is_spelt16}
-use Rattle.p416_rules.specs.Breaks.{BreaksNone, program_rules}
+use Rattle.p416_syntax.specs.declared.program.Syntax16.{Syntax16}
+use Rattle.p416_syntax.specs.Spelt.{is_spelt16}
+use Rattle.p416_syntax.specs.Breaks.{BreaksNone, program_rules}
 use Rattle.one_table_text.proofs.Spelt.{spelt_is}
 use Rattle.one_table_text.proofs.Rules.{breaks_none}
 use Rattle.one_table_text.proofs.text.program_of.Goals as goal

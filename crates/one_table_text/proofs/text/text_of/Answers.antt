@@ -1,5 +1,5 @@
 use Rattle.std.proofs.Common.{◌≡◌, subst}
-use Rattle.p416_ast.specs.declared.program.Syntax16.{Syntax16}
+use Rattle.p416_syntax.specs.declared.program.Syntax16.{Syntax16}
 use Rattle.p416_reader.specs.Reading.{Reads16}
 use Rattle.one_table_text.proofs.text.text_of.Goals as goal
 

@@ -1,6 +1,6 @@
 use Rattle.std.proofs.Common.{◌≡◌, ◌++◌, drop}
 use Rattle.std.specs.Prelude.{filter_map}
-use Rattle.p414_rules.specs.Expansion.{list_number}
+use Rattle.p414_syntax.specs.Expansion.{list_number}
 use Rattle.p414_act_run.proofs.making.inputs_of.Given as goal
 
 abbrev pub invariant-loop-name : goal.invariant-loop-name

@@ -1,5 +1,5 @@
 use Rattle.std.proofs.Common.{ap, sym, ◌∙◌}
-use Rattle.p414_rules.specs.Arguments.{action_number}
+use Rattle.p414_syntax.specs.Arguments.{action_number}
 use Rattle.p414_action_check.proofs.Answering.{own_primitive}
 use Rattle.p414_action_check.proofs.counts.own_count.Goals as goal
 

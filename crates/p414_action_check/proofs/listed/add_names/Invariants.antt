@@ -1,6 +1,6 @@
 use Rattle.std.proofs.Common.{◌≡◌, ◌++◌, drop, map}
-use Rattle.p414_rules.specs.Distinct.{distinct, distinct_behind}
-use Rattle.p414_rules.specs.Arguments.{action_number}
+use Rattle.p414_syntax.specs.Distinct.{distinct, distinct_behind}
+use Rattle.p414_syntax.specs.Arguments.{action_number}
 use Rattle.p414_action_check.proofs.listed.add_names.Given as goal
 
 abbrev pub invariant-loop-name : goal.invariant-loop-name

@@ -1,5 +1,5 @@
 use Rattle.std.proofs.Common.{ℕ, List, ◌++◌, Option, flat_map, ap, ◌∙◌}
-use Rattle.p414_rules.specs.Tables.{tables}
+use Rattle.p414_syntax.specs.Tables.{tables}
 use Rattle.p414_action_check.specs.internal.Counted.{listed_numbers}
 use Rattle.p414_action_check.proofs.Loops.{numbers_are}
 use Rattle.p414_action_check.proofs.listed.all_numbers.Goals as goal

@@ -1,7 +1,7 @@
 use Rattle.std.proofs.Common.{◌≡◌, ◌++◌, drop, map, flat_map}
-use Rattle.p414_rules.specs.Arguments.{action_number}
-use Rattle.p414_rules.specs.Actions.{all_listed}
-use Rattle.p414_rules.specs.Tables.{tables}
+use Rattle.p414_syntax.specs.Arguments.{action_number}
+use Rattle.p414_syntax.specs.Actions.{all_listed}
+use Rattle.p414_syntax.specs.Tables.{tables}
 use Rattle.p414_action_check.specs.internal.Counted.{listed_numbers}
 use Rattle.p414_action_check.proofs.listed.all_numbers.Given as goal
 

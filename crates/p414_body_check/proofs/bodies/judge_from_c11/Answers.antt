@@ -1,5 +1,5 @@
 use Rattle.std.proofs.Common.{[], ◌∷◌}
-use Rattle.p414_rules.specs.declared.rule.ProgramRule.TheVariants.{C11, C12, C13}
+use Rattle.p414_syntax.specs.declared.rule.ProgramRule.TheVariants.{C11, C12, C13}
 use Rattle.p414_body_check.proofs.Orders.{told_first, told_second, told_third, keeps_three}
 use Rattle.p414_body_check.proofs.bodies.judge_from_c11.Goals as goal
 

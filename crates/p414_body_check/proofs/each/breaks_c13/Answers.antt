@@ -1,4 +1,4 @@
-use Rattle.p414_rules.specs.Actions.{HasBadAction}
+use Rattle.p414_syntax.specs.Actions.{HasBadAction}
 use Rattle.p414_body_check.proofs.Orders.{exactly_true, exactly_false}
 use Rattle.p414_body_check.proofs.Exactly.{c13_written, c13_long, c13_result}
 use Rattle.p414_body_check.proofs.each.breaks_c13.Goals as goal

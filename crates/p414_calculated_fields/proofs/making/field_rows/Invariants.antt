@@ -1,5 +1,5 @@
 use Rattle.std.proofs.Common.{◌≡◌, ◌++◌, map, drop}
-use Rattle.p414_rules.specs.Lists.{calculated_fields}
+use Rattle.p414_syntax.specs.Lists.{calculated_fields}
 use Rattle.p414_calculated_fields.specs.Rows.{field_row}
 use Rattle.p414_calculated_fields.proofs.making.field_rows.Given as goal
 

@@ -1,6 +1,6 @@
 use Rattle.std.proofs.Common.{◌≡◌, ◌++◌, map, drop}
 use Rattle.std.specs.Prelude.{filter}
-use Rattle.p414_rules.specs.Lists.{is_verify}
+use Rattle.p414_syntax.specs.Lists.{is_verify}
 use Rattle.p414_calculated_fields.specs.Rows.{entry_row}
 use Rattle.p414_calculated_fields.proofs.making.verify_rows.Given as goal
 

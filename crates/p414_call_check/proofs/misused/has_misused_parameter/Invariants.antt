@@ -1,6 +1,6 @@
 use Rattle.std.proofs.Common.{◌≡◌, map, drop}
 use Rattle.std.specs.List.{list_any}
-use Rattle.p414_rules.specs.Parameters.{is_misused_parameter}
+use Rattle.p414_syntax.specs.Parameters.{is_misused_parameter}
 use Rattle.p414_call_check.specs.Shown.{shown_placed}
 use Rattle.p414_call_check.proofs.misused.has_misused_parameter.Given as goal
 

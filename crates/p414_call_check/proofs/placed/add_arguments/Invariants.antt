@@ -1,5 +1,5 @@
 use Rattle.std.proofs.Common.{◌≡◌, ◌++◌, map, drop}
-use Rattle.p414_rules.specs.Arguments.{placed}
+use Rattle.p414_syntax.specs.Arguments.{placed}
 use Rattle.p414_calls.specs.Shown.{shown_argument}
 use Rattle.p414_call_check.specs.Shown.{shown_wanted, shown_placed}
 use Rattle.p414_call_check.proofs.placed.add_arguments.Given as goal

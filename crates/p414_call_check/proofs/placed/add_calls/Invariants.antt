@@ -1,5 +1,5 @@
 use Rattle.std.proofs.Common.{◌≡◌, ◌++◌, map, flat_map, drop}
-use Rattle.p414_rules.specs.Arguments.{placed_in}
+use Rattle.p414_syntax.specs.Arguments.{placed_in}
 use Rattle.p414_call_check.specs.Shown.{shown_placed}
 use Rattle.p414_call_check.proofs.placed.add_calls.Given as goal
 

@@ -1,6 +1,6 @@
 use Rattle.std.proofs.Common.{◌≡◌, List, map, subst}
 use Rattle.std.specs.Prelude.{IfOk}
-use Rattle.p414_rules.specs.Arguments.{PlacedArgument}
+use Rattle.p414_syntax.specs.Arguments.{PlacedArgument}
 use Rattle.p414_call_check.specs.Shown.{shown_placed}
 use Rattle.p414_call_check.proofs.Placing.{all_placed}
 use Rattle.p414_call_check.proofs.placed.placed_arguments.Goals as goal

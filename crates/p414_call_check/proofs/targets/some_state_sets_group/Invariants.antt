@@ -1,7 +1,7 @@
 use Rattle.std.proofs.Common.{◌≡◌, drop}
 use Rattle.std.specs.List.{list_any}
-use Rattle.p414_rules.specs.Targets.{parser_targets}
-use Rattle.p414_rules.specs.Unsupported.{is_group_field}
+use Rattle.p414_syntax.specs.Targets.{parser_targets}
+use Rattle.p414_syntax.specs.Unsupported.{is_group_field}
 use Rattle.p414_call_check.specs.internal.Written.{state_sets_group}
 use Rattle.p414_call_check.proofs.targets.some_state_sets_group.Given as goal
 

@@ -1,6 +1,6 @@
 use Rattle.std.proofs.Common.{◌≡◌, drop}
 use Rattle.std.specs.List.{list_any}
-use Rattle.p414_rules.specs.Targets.{is_no_metadata_field, parser_targets}
+use Rattle.p414_syntax.specs.Targets.{is_no_metadata_field, parser_targets}
 use Rattle.p414_call_check.specs.internal.Written.{state_sets_no_metadata}
 use Rattle.p414_call_check.proofs.targets.some_state_sets_no_metadata.Given as goal
 

@@ -1,5 +1,5 @@
 use Rattle.std.proofs.Common.{◌≡◌, map, flat_map, drop}
-use Rattle.p414_rules.specs.Calls.{type_names}
+use Rattle.p414_syntax.specs.Calls.{type_names}
 use Rattle.p414_calls.specs.Shown.{shown_argument}
 use Rattle.p414_call_check.specs.internal.Types.{first_of}
 use Rattle.p414_call_check.proofs.types.first_type.Given as goal

@@ -1,7 +1,7 @@
 use Rattle.std.proofs.Common.{◌≡◌, map, drop}
 use Rattle.std.specs.List.{list_any}
-use Rattle.p414_rules.specs.Arguments.{placed}
-use Rattle.p414_rules.specs.Calls.{is_wrong_argument}
+use Rattle.p414_syntax.specs.Arguments.{placed}
+use Rattle.p414_syntax.specs.Calls.{is_wrong_argument}
 use Rattle.p414_calls.specs.Shown.{shown_argument}
 use Rattle.p414_call_check.specs.Shown.{shown_wanted}
 use Rattle.p414_call_check.proofs.wrong_calls.some_wrong_placed.Given as goal

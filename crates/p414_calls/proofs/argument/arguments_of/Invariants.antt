@@ -1,5 +1,5 @@
 use Rattle.std.proofs.Common.{◌≡◌, ◌++◌, map, drop}
-use Rattle.p414_rules.specs.Arguments.{argument_of}
+use Rattle.p414_syntax.specs.Arguments.{argument_of}
 use Rattle.p414_calls.specs.Shown.{shown_argument}
 use Rattle.p414_calls.proofs.argument.arguments_of.Given as goal
 

@@ -1,5 +1,5 @@
 use Rattle.std.proofs.Common.{◌≡◌, ◌++◌, map, drop}
-use Rattle.p414_ast.specs.References.{referred}
+use Rattle.p414_syntax.specs.References.{referred}
 use Rattle.p414_calls.proofs.argument.parameters_of.Given as goal
 
 abbrev pub invariant-loop-parameter : goal.invariant-loop-parameter

@@ -1,5 +1,5 @@
 use Rattle.std.proofs.Common.{◌≡◌, ◌++◌, map, drop}
-use Rattle.p414_rules.specs.Arguments.{invocation_of}
+use Rattle.p414_syntax.specs.Arguments.{invocation_of}
 use Rattle.p414_calls.proofs.calls.all_of.Given as goal
 
 abbrev pub invariant-loop-call : goal.invariant-loop-call

@@ -1,5 +1,5 @@
 use Rattle.std.proofs.Common.{◌≡◌, ◌++◌, map, drop}
-use Rattle.p414_rules.specs.Arguments.{invocations_of, actions}
+use Rattle.p414_syntax.specs.Arguments.{invocations_of, actions}
 use Rattle.p414_calls.proofs.calls.calls_of.Given as goal
 
 abbrev pub invariant-loop-decl : goal.invariant-loop-decl

@@ -1,6 +1,6 @@
 use Rattle.std.proofs.Common.{◌≡◌, drop}
 use Rattle.std.specs.Prelude.{filter_map, flat_map}
-use Rattle.p414_rules.specs.ControlExpansion.{control_number, own_call}
+use Rattle.p414_syntax.specs.ControlExpansion.{control_number, own_call}
 use Rattle.p414_control_check.specs.Edges.{with_edges}
 use Rattle.p414_control_check.proofs.control_graph.add_calls.Given as goal
 

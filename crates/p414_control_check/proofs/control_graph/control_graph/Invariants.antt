@@ -1,5 +1,5 @@
 use Rattle.std.proofs.Common.{◌≡◌, ◌++◌, drop, map}
-use Rattle.p414_rules.specs.ControlExpansion.{controls, calls_in}
+use Rattle.p414_syntax.specs.ControlExpansion.{controls, calls_in}
 use Rattle.p414_control_check.specs.internal.Expanded.{control_graph}
 use Rattle.p414_control_check.proofs.control_graph.control_graph.Given as goal
 

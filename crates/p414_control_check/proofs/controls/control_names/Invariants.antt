@@ -1,5 +1,5 @@
 use Rattle.std.proofs.Common.{◌≡◌, ◌++◌, map, drop}
-use Rattle.p414_rules.specs.ControlExpansion.{controls, control_name}
+use Rattle.p414_syntax.specs.ControlExpansion.{controls, control_name}
 use Rattle.p414_control_check.proofs.controls.control_names.Given as goal
 
 abbrev pub invariant-loop-decl : goal.invariant-loop-decl

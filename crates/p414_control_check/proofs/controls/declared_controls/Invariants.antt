@@ -1,5 +1,5 @@
 use Rattle.std.proofs.Common.{◌≡◌, ◌++◌, drop}
-use Rattle.p414_rules.specs.ControlExpansion.{controls}
+use Rattle.p414_syntax.specs.ControlExpansion.{controls}
 use Rattle.p414_control_check.proofs.controls.declared_controls.Given as goal
 
 abbrev pub invariant-loop-decl : goal.invariant-loop-decl

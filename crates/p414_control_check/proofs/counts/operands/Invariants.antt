@@ -1,6 +1,6 @@
 use Rattle.std.proofs.Common.{◌≡◌, ◌+◌, ◌≤◌, min, drop}
 use Rattle.std.specs.Prelude.{count_by}
-use Rattle.p414_rules.specs.Controls.{is_operand}
+use Rattle.p414_syntax.specs.Controls.{is_operand}
 use Rattle.p414_control_check.proofs.counts.operands.Given as goal
 
 abbrev pub invariant-loop-expression : goal.invariant-loop-expression

@@ -1,5 +1,5 @@
 use Rattle.std.proofs.Common.{◌≡◌, ◌++◌, drop, map}
-use Rattle.p414_rules.specs.ControlExpansion.{controls}
+use Rattle.p414_syntax.specs.ControlExpansion.{controls}
 use Rattle.p414_control_check.specs.internal.Expanded.{capped_count, own_counts}
 use Rattle.p414_control_check.proofs.counts.own_counts.Given as goal
 

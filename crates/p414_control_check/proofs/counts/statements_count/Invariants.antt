@@ -1,5 +1,5 @@
 use Rattle.std.proofs.Common.{◌≡◌, ◌+◌, ◌≤◌, min, drop, sum_by}
-use Rattle.p414_rules.specs.Controls.{own_count}
+use Rattle.p414_syntax.specs.Controls.{own_count}
 use Rattle.p414_control_check.proofs.counts.statements_count.Given as goal
 
 abbrev pub invariant-loop-statement : goal.invariant-loop-statement

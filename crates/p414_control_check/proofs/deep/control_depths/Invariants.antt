@@ -1,6 +1,6 @@
 use Rattle.std.proofs.Common.{◌≡◌, ℕ, length, take}
 use Rattle.digraph.specs.Graphs.{Among}
-use Rattle.p414_rules.specs.ControlExpansion.{controls}
+use Rattle.p414_syntax.specs.ControlExpansion.{controls}
 use Rattle.p414_control_check.specs.internal.Depths.{IsDeep}
 use Rattle.p414_control_check.proofs.deep.control_depths.Given as goal
 

@@ -1,8 +1,8 @@
 use Rattle.std.proofs.Common.{List, sym, subst}
 use Rattle.std.specs.Prelude.{IsTrue}
-use Rattle.p414_ast.specs.declared.syntax.Decl.{Decl}
-use Rattle.p414_rules.specs.Controls.{ControlCallsItself}
-use Rattle.p414_rules.specs.Unknown.{has_unknown_name}
+use Rattle.p414_syntax.specs.declared.syntax.Decl.{Decl}
+use Rattle.p414_syntax.specs.Controls.{ControlCallsItself}
+use Rattle.p414_syntax.specs.Unknown.{has_unknown_name}
 use Rattle.p414_control_check.proofs.deep.nests_too_deep.Goals as goal
 
 pub nest_too_deep-requires-clause-known : goal.nest_too_deep-requires-clause-known

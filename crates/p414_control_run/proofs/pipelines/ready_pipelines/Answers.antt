@@ -1,5 +1,5 @@
 use Rattle.std.proofs.Common.{rules, ◌≡◌, List, sym, ap, ◌∙◌, subst}
-use Rattle.p414_ast.specs.declared.syntax.Decl.{Decl}
+use Rattle.p414_syntax.specs.declared.syntax.Decl.{Decl}
 use Rattle.p414_ready_tables.specs.Loaded.{Loaded}
 use Rattle.p414_control_run.specs.internal.Bodies.{AreBodies}
 use Rattle.p414_control_run.proofs.pipelines.ready_pipelines.Goals as goal

@@ -1,6 +1,6 @@
 use Rattle.std.proofs.Common.{List, subst}
-use Rattle.p414_ast.specs.declared.syntax.Decl.{Decl}
-use Rattle.p414_rules.specs.Breaks.{declaration_rules}
+use Rattle.p414_syntax.specs.declared.syntax.Decl.{Decl}
+use Rattle.p414_syntax.specs.Breaks.{declaration_rules}
 use Rattle.p414_decl_check.specs.Answers.{IsAnswer}
 use Rattle.p414_decl_check.proofs.Judging.{least_of_all}
 use Rattle.p414_decl_check.proofs.declarations.decls.Goals as goal

@@ -1,5 +1,5 @@
 use Rattle.std.proofs.Common.{◌≡◌, ◌+◌, ◌≤◌, drop, sum_by, option_copied}
-use Rattle.p414_rules.specs.Selects.{value_bits}
+use Rattle.p414_syntax.specs.Selects.{value_bits}
 use Rattle.p414_decl_check.proofs.selects.are_too_wide.Given as goal
 
 abbrev pub invariant-loop-value : goal.invariant-loop-value

@@ -1,6 +1,6 @@
 use Rattle.std.proofs.Common.{◌≡◌, drop}
 use Rattle.std.specs.List.{list_any}
-use Rattle.p414_rules.specs.Stacks.{declares_bad_size}
+use Rattle.p414_syntax.specs.Stacks.{declares_bad_size}
 use Rattle.p414_decl_check.proofs.stacks.some_bad_size.Given as goal
 
 abbrev pub invariant-loop-decl : goal.invariant-loop-decl

@@ -1,6 +1,6 @@
 use Rattle.std.proofs.Common.{◌≡◌, map, drop}
 use Rattle.std.specs.List.{list_any}
-use Rattle.p414_rules.specs.Stacks.{is_misplaced}
+use Rattle.p414_syntax.specs.Stacks.{is_misplaced}
 use Rattle.p414_uses.specs.Shown.{shown_use}
 use Rattle.p414_decl_check.proofs.stacks.some_misplaced.Given as goal
 

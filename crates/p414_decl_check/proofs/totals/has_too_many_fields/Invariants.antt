@@ -1,5 +1,5 @@
 use Rattle.std.proofs.Common.{◌≡◌, ◌+◌, ◌≤◌, drop, sum_by}
-use Rattle.p414_rules.specs.Totals.{instance_fields}
+use Rattle.p414_syntax.specs.Totals.{instance_fields}
 use Rattle.p414_decl_check.proofs.totals.has_too_many_fields.Given as goal
 
 abbrev pub invariant-loop-decl : goal.invariant-loop-decl

@@ -1,6 +1,6 @@
 use Rattle.std.proofs.Common.{◌≡◌, drop}
 use Rattle.std.specs.List.{list_any}
-use Rattle.p414_rules.specs.Widths.{is_unaligned_header}
+use Rattle.p414_syntax.specs.Widths.{is_unaligned_header}
 use Rattle.p414_decl_check.proofs.totals.some_unaligned_header.Given as goal
 
 abbrev pub invariant-loop-decl : goal.invariant-loop-decl

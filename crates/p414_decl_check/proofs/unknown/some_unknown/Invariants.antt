@@ -1,6 +1,6 @@
 use Rattle.std.proofs.Common.{◌≡◌, map, drop}
 use Rattle.std.specs.List.{list_any}
-use Rattle.p414_rules.specs.Unknown.{is_unknown}
+use Rattle.p414_syntax.specs.Unknown.{is_unknown}
 use Rattle.p414_uses.specs.Shown.{shown_use}
 use Rattle.p414_decl_check.proofs.unknown.some_unknown.Given as goal
 

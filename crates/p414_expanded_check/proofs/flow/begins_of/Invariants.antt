@@ -1,5 +1,5 @@
 use Rattle.std.proofs.Common.{◌≡◌, ◌++◌, drop}
-use Rattle.p414_rules.specs.Arguments.{actions}
+use Rattle.p414_syntax.specs.Arguments.{actions}
 use Rattle.p414_expanded_check.specs.internal.Flow.{starts_from, end_from, starts, count}
 use Rattle.p414_expanded_check.proofs.flow.begins_of.Given as goal
 

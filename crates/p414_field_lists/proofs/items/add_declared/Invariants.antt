@@ -1,5 +1,5 @@
 use Rattle.std.proofs.Common.{◌≡◌, ◌++◌, map, drop}
-use Rattle.p414_rules.specs.Names.{field_name}
+use Rattle.p414_syntax.specs.Names.{field_name}
 use Rattle.p414_field_lists.specs.internal.Expanding.{named_row}
 use Rattle.p414_field_lists.proofs.items.add_declared.Given as goal
 

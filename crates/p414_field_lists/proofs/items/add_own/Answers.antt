@@ -1,5 +1,5 @@
 use Rattle.std.proofs.Common.{◌∙◌, ◌++◌, sym, ap}
-use Rattle.p414_ast.specs.declared.calculations.Item.{Item}
+use Rattle.p414_syntax.specs.declared.calculations.Item.{Item}
 use Rattle.p414_field_lists.specs.internal.Expanding.{own_rows}
 use Rattle.p414_field_lists.proofs.Expanding.{instance_rows}
 use Rattle.p414_field_lists.proofs.items.add_own.Goals as goal

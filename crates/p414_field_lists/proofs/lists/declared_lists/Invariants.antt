@@ -1,5 +1,5 @@
 use Rattle.std.proofs.Common.{◌≡◌, ◌++◌, drop}
-use Rattle.p414_rules.specs.Expansion.{lists}
+use Rattle.p414_syntax.specs.Expansion.{lists}
 use Rattle.p414_field_lists.proofs.lists.declared_lists.Given as goal
 
 abbrev pub invariant-loop-decl : goal.invariant-loop-decl

@@ -1,6 +1,6 @@
 use Rattle.std.proofs.Common.{◌≡◌, ℕ, length, take}
 use Rattle.digraph.specs.Graphs.{Among}
-use Rattle.p414_rules.specs.Expansion.{lists}
+use Rattle.p414_syntax.specs.Expansion.{lists}
 use Rattle.p414_field_lists.specs.Meaning.{IsReady}
 use Rattle.p414_field_lists.proofs.lists.rows_of_lists.Given as goal
 

@@ -1,7 +1,7 @@
 use Rattle.std.proofs.Common.{◌≡◌, drop}
 use Rattle.std.specs.List.{list_any}
-use Rattle.p414_rules.specs.Lists.{calculated_fields}
-use Rattle.p414_rules.specs.CalculatedFields.{has_calculated_entry}
+use Rattle.p414_syntax.specs.Lists.{calculated_fields}
+use Rattle.p414_syntax.specs.CalculatedFields.{has_calculated_entry}
 use Rattle.p414_flat_check.proofs.calculated.some_calculated_condition.Given as goal
 
 abbrev pub invariant-loop-decl : goal.invariant-loop-decl

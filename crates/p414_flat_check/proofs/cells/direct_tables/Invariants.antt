@@ -1,6 +1,6 @@
 use Rattle.std.proofs.Common.{◌≡◌, ◌++◌, drop}
 use Rattle.std.specs.List.{flat_map}
-use Rattle.p414_rules.specs.Cells.{direct_in}
+use Rattle.p414_syntax.specs.Cells.{direct_in}
 use Rattle.p414_flat_check.proofs.cells.direct_tables.Given as goal
 
 abbrev pub invariant-loop-decl : goal.invariant-loop-decl

@@ -1,5 +1,5 @@
 use Rattle.std.proofs.Common.{◌≡◌, ◌+◌, ◌≤◌, drop, sum_by}
-use Rattle.p414_rules.specs.Cells.{cells, cell_count}
+use Rattle.p414_syntax.specs.Cells.{cells, cell_count}
 use Rattle.p414_flat_check.proofs.cells.has_too_many_cells.Given as goal
 
 abbrev pub invariant-loop-decl : goal.invariant-loop-decl

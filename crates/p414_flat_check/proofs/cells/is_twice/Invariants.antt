@@ -1,6 +1,6 @@
 use Rattle.std.proofs.Common.{◌≡◌, map, drop}
-use Rattle.p414_ast.specs.References.{referred}
-use Rattle.p414_rules.specs.Names.{repeats, repeats_behind}
+use Rattle.p414_syntax.specs.References.{referred}
+use Rattle.p414_syntax.specs.Names.{repeats, repeats_behind}
 use Rattle.p414_flat_check.proofs.cells.is_twice.Given as goal
 
 abbrev pub invariant-loop-name : goal.invariant-loop-name

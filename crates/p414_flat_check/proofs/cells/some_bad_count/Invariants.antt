@@ -1,6 +1,6 @@
 use Rattle.std.proofs.Common.{◌≡◌, drop}
 use Rattle.std.specs.List.{list_any}
-use Rattle.p414_rules.specs.Cells.{cells, is_bad_cell_count}
+use Rattle.p414_syntax.specs.Cells.{cells, is_bad_cell_count}
 use Rattle.p414_flat_check.proofs.cells.some_bad_count.Given as goal
 
 abbrev pub invariant-loop-decl : goal.invariant-loop-decl

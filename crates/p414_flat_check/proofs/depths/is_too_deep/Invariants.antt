@@ -1,6 +1,6 @@
 use Rattle.std.proofs.Common.{◌≡◌, sum_by}
 use Rattle.std.specs.List.{list_any}
-use Rattle.p414_rules.specs.Nesting.{is_too_deep}
+use Rattle.p414_syntax.specs.Nesting.{is_too_deep}
 use Rattle.p414_flat_check.specs.internal.Rooms.{is_beyond, work_of}
 use Rattle.p414_flat_check.proofs.depths.is_too_deep.Given as goal
 

@@ -1,6 +1,6 @@
 use Rattle.std.proofs.Common.{◌≡◌, length}
-use Rattle.p414_ast.specs.Subtrees.{subexpressions}
-use Rattle.p414_rules.specs.Expressions.{is_truth}
+use Rattle.p414_syntax.specs.Subtrees.{subexpressions}
+use Rattle.p414_syntax.specs.Expressions.{is_truth}
 use Rattle.p414_flat_check.proofs.expressions.is_truth.Given as goal
 
 abbrev pub invariant-loop-inner : goal.invariant-loop-inner

@@ -1,5 +1,5 @@
 use Rattle.std.proofs.Common.{◌≡◌, ◌++◌, drop}
-use Rattle.p414_rules.specs.Expressions.{lengths_of}
+use Rattle.p414_syntax.specs.Expressions.{lengths_of}
 use Rattle.p414_flat_check.proofs.expressions.lengths_of.Given as goal
 
 abbrev pub invariant-loop-decl : goal.invariant-loop-decl

@@ -1,6 +1,6 @@
 use Rattle.std.proofs.Common.{◌≡◌, drop}
 use Rattle.std.specs.List.{list_any}
-use Rattle.p414_rules.specs.Expressions.{is_negated_within}
+use Rattle.p414_syntax.specs.Expressions.{is_negated_within}
 use Rattle.p414_flat_check.proofs.expressions.some_negated_within.Given as goal
 
 abbrev pub invariant-loop-expression : goal.invariant-loop-expression

@@ -1,6 +1,6 @@
 use Rattle.std.proofs.Common.{◌≡◌, drop}
 use Rattle.std.specs.List.{list_any}
-use Rattle.p414_rules.specs.Tables.{tables, defaults_badly}
+use Rattle.p414_syntax.specs.Tables.{tables, defaults_badly}
 use Rattle.p414_flat_check.proofs.tables.some_bad_default.Given as goal
 
 abbrev pub invariant-loop-decl : goal.invariant-loop-decl

@@ -1,6 +1,6 @@
 use Rattle.std.proofs.Common.{◌≡◌, drop}
 use Rattle.std.specs.List.{list_any}
-use Rattle.p414_rules.specs.Tables.{is_bad_key}
+use Rattle.p414_syntax.specs.Tables.{is_bad_key}
 use Rattle.p414_flat_check.proofs.tables.some_bad_key.Given as goal
 
 abbrev pub invariant-loop-read : goal.invariant-loop-read

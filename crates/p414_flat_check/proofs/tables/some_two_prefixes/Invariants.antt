@@ -1,5 +1,5 @@
 use Rattle.std.proofs.Common.{◌≡◌, ◌+◌, ◌≤◌, drop, count_by}
-use Rattle.p414_rules.specs.Tables.{is_lpm_key}
+use Rattle.p414_syntax.specs.Tables.{is_lpm_key}
 use Rattle.p414_flat_check.proofs.tables.some_two_prefixes.Given as goal
 
 abbrev pub invariant-loop-read : goal.invariant-loop-read

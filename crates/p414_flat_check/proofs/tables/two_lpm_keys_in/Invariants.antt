@@ -1,6 +1,6 @@
 use Rattle.std.proofs.Common.{◌≡◌, drop}
 use Rattle.std.specs.List.{list_any}
-use Rattle.p414_rules.specs.Tables.{tables, has_two_prefixes}
+use Rattle.p414_syntax.specs.Tables.{tables, has_two_prefixes}
 use Rattle.p414_flat_check.proofs.tables.two_lpm_keys_in.Given as goal
 
 abbrev pub invariant-loop-decl : goal.invariant-loop-decl

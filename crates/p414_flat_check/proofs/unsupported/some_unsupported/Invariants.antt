@@ -1,6 +1,6 @@
 use Rattle.std.proofs.Common.{◌≡◌, drop}
 use Rattle.std.specs.List.{list_any}
-use Rattle.p414_rules.specs.Unsupported.{declares_unsupported}
+use Rattle.p414_syntax.specs.Unsupported.{declares_unsupported}
 use Rattle.p414_flat_check.proofs.unsupported.some_unsupported.Given as goal
 
 abbrev pub invariant-loop-decl : goal.invariant-loop-decl

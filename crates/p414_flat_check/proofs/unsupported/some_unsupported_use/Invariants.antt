@@ -1,6 +1,6 @@
 use Rattle.std.proofs.Common.{◌≡◌, map, drop}
 use Rattle.std.specs.List.{list_any}
-use Rattle.p414_rules.specs.Unsupported.{is_unsupported_use}
+use Rattle.p414_syntax.specs.Unsupported.{is_unsupported_use}
 use Rattle.p414_uses.specs.Shown.{shown_use}
 use Rattle.p414_flat_check.proofs.unsupported.some_unsupported_use.Given as goal
 

@@ -1,6 +1,6 @@
 use Rattle.std.proofs.Common.{◌≡◌, ◌++◌, drop, map}
-use Rattle.p414_ast.specs.declared.syntax.Sort.TheVariants as sort
-use Rattle.p414_rules.specs.Names.{declared_in}
+use Rattle.p414_syntax.specs.declared.syntax.Sort.TheVariants as sort
+use Rattle.p414_syntax.specs.Names.{declared_in}
 use Rattle.p414_layout.specs.Shapes.{shape_in, layout_of}
 use Rattle.p414_layout.proofs.layout.layout_of.Given as goal
 

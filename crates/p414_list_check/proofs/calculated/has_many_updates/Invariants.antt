@@ -1,5 +1,5 @@
 use Rattle.std.proofs.Common.{◌≡◌, ◌+◌, ◌≤◌, drop, count_by}
-use Rattle.p414_rules.specs.Lists.{is_update}
+use Rattle.p414_syntax.specs.Lists.{is_update}
 use Rattle.p414_list_check.proofs.calculated.has_many_updates.Given as goal
 
 abbrev pub invariant-loop-entry : goal.invariant-loop-entry

@@ -1,6 +1,6 @@
 use Rattle.std.proofs.Common.{◌≡◌, drop}
 use Rattle.std.specs.List.{list_any}
-use Rattle.p414_rules.specs.Lists.{gives_other_width}
+use Rattle.p414_syntax.specs.Lists.{gives_other_width}
 use Rattle.p414_list_check.proofs.calculated.some_other_width.Given as goal
 
 abbrev pub invariant-loop-entry : goal.invariant-loop-entry

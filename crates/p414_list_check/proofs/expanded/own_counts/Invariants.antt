@@ -1,5 +1,5 @@
 use Rattle.std.proofs.Common.{◌≡◌, ◌++◌, drop, map}
-use Rattle.p414_rules.specs.Expansion.{lists}
+use Rattle.p414_syntax.specs.Expansion.{lists}
 use Rattle.p414_list_check.specs.internal.Expanded.{capped_count, own_counts}
 use Rattle.p414_list_check.specs.internal.Measures.{own_of}
 use Rattle.p414_list_check.proofs.expanded.own_counts.Given as goal

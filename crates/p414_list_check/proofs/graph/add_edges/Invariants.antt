@@ -1,5 +1,5 @@
 use Rattle.std.proofs.Common.{◌≡◌, drop}
-use Rattle.p414_rules.specs.Expansion.{inner_numbers}
+use Rattle.p414_syntax.specs.Expansion.{inner_numbers}
 use Rattle.p414_list_check.specs.internal.Expanded.{with_edges}
 use Rattle.p414_list_check.proofs.graph.add_edges.Given as goal
 

@@ -1,5 +1,5 @@
 use Rattle.std.proofs.Common.{◌≡◌, ◌++◌, drop, map}
-use Rattle.p414_rules.specs.Expansion.{lists}
+use Rattle.p414_syntax.specs.Expansion.{lists}
 use Rattle.p414_list_check.specs.internal.Expanded.{list_row, list_graph}
 use Rattle.p414_list_check.proofs.graph.list_graph.Given as goal
 

@@ -1,5 +1,5 @@
 use Rattle.std.proofs.Common.{◌≡◌, ◌++◌, drop, map}
-use Rattle.p414_rules.specs.Expansion.{list_number}
+use Rattle.p414_syntax.specs.Expansion.{list_number}
 use Rattle.p414_list_check.proofs.inputs.add_names.Given as goal
 
 abbrev pub invariant-loop-name : goal.invariant-loop-name

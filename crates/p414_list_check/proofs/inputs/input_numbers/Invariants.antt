@@ -1,5 +1,5 @@
 use Rattle.std.proofs.Common.{◌≡◌, ◌++◌, drop, flat_map}
-use Rattle.p414_rules.specs.Lists.{calculated_fields}
+use Rattle.p414_syntax.specs.Lists.{calculated_fields}
 use Rattle.p414_list_check.specs.internal.Expanded.{field_numbers, input_numbers}
 use Rattle.p414_list_check.proofs.inputs.input_numbers.Given as goal
 

@@ -1,6 +1,6 @@
 use Rattle.std.proofs.Common.{◌≡◌, take, drop}
 use Rattle.std.specs.List.{list_any}
-use Rattle.p414_rules.specs.Twice.{repeats_in}
+use Rattle.p414_syntax.specs.Twice.{repeats_in}
 use Rattle.p414_names.specs.internal.Tables.{scopes}
 use Rattle.p414_names.proofs.names.scopes_of.Given as goal
 

@@ -1,6 +1,6 @@
 use Rattle.std.proofs.Common.{◌≡◌, map, drop}
-use Rattle.p414_ast.specs.References.{referred}
-use Rattle.p414_rules.specs.Names.{has_name}
+use Rattle.p414_syntax.specs.References.{referred}
+use Rattle.p414_syntax.specs.Names.{has_name}
 use Rattle.p414_names.proofs.primitives.is_among.Given as goal
 
 abbrev pub invariant-loop-known : goal.invariant-loop-known

@@ -1,7 +1,7 @@
 use Rattle.std.proofs.Common.{◌≡◌, drop}
 use Rattle.std.specs.List.{list_any}
-use Rattle.p414_rules.specs.Names.{names_in}
-use Rattle.p414_rules.specs.Twice.{is_reserved}
+use Rattle.p414_syntax.specs.Names.{names_in}
+use Rattle.p414_syntax.specs.Twice.{is_reserved}
 use Rattle.p414_names.proofs.scope.some_reserved.Given as goal
 
 abbrev pub invariant-loop-decl : goal.invariant-loop-decl

@@ -1,5 +1,5 @@
 use Rattle.std.proofs.Common.{◌≡◌, map, drop}
-use Rattle.p414_rules.specs.Names.{repeats, repeats_behind, initial_name}
+use Rattle.p414_syntax.specs.Names.{repeats, repeats_behind, initial_name}
 use Rattle.p414_names.proofs.twice.is_initial_twice.Given as goal
 
 abbrev pub invariant-loop-initial : goal.invariant-loop-initial

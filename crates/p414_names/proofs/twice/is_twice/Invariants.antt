@@ -1,5 +1,5 @@
 use Rattle.std.proofs.Common.{◌≡◌, drop}
-use Rattle.p414_rules.specs.Names.{repeats, repeats_behind}
+use Rattle.p414_syntax.specs.Names.{repeats, repeats_behind}
 use Rattle.p414_names.proofs.twice.is_twice.Given as goal
 
 abbrev pub invariant-loop-name : goal.invariant-loop-name

@@ -1,6 +1,6 @@
 use Rattle.std.proofs.Common.{◌≡◌, drop}
 use Rattle.std.specs.List.{list_any}
-use Rattle.p414_rules.specs.Twice.{repeats_within}
+use Rattle.p414_syntax.specs.Twice.{repeats_within}
 use Rattle.p414_names.proofs.twice.some_repeat_within.Given as goal
 
 abbrev pub invariant-loop-decl : goal.invariant-loop-decl

@@ -1,5 +1,5 @@
 use Rattle.std.proofs.Common.{◌≡◌, ◌+◌, ◌≤◌, drop, sum_by}
-use Rattle.p414_rules.specs.Fields.{field_bits}
+use Rattle.p414_syntax.specs.Fields.{field_bits}
 use Rattle.p414_names.proofs.types.bits_up_to.Given as goal
 
 abbrev pub invariant-loop-field : goal.invariant-loop-field

@@ -1,5 +1,5 @@
 use Rattle.std.proofs.Common.{◌≡◌, map, take, drop}
-use Rattle.p414_rules.specs.Names.{field_name, repeats, repeats_behind}
+use Rattle.p414_syntax.specs.Names.{field_name, repeats, repeats_behind}
 use Rattle.p414_names.proofs.types.field_names.Given as goal
 
 abbrev pub invariant-loop-field : goal.invariant-loop-field

@@ -1,6 +1,6 @@
 use Rattle.std.proofs.Common.{◌≡◌, drop}
 use Rattle.std.specs.List.{list_any}
-use Rattle.p414_rules.specs.Fields.{is_rest_field}
+use Rattle.p414_syntax.specs.Fields.{is_rest_field}
 use Rattle.p414_names.proofs.types.some_rest.Given as goal
 
 abbrev pub invariant-loop-field : goal.invariant-loop-field

@@ -1,7 +1,7 @@
 use Rattle.std.proofs.Common.{◌≡◌, ◌++◌, drop}
 use Rattle.std.specs.List.{list_any}
-use Rattle.p414_rules.specs.Fields.{types}
-use Rattle.p414_rules.specs.Twice.{has_field_twice}
+use Rattle.p414_syntax.specs.Fields.{types}
+use Rattle.p414_syntax.specs.Twice.{has_field_twice}
 use Rattle.p414_names.proofs.types.types_of.Given as goal
 
 abbrev pub invariant-loop-decl : goal.invariant-loop-decl

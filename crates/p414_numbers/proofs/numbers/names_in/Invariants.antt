@@ -1,5 +1,5 @@
 use Rattle.std.proofs.Common.{◌≡◌, ◌++◌, drop, false}
-use Rattle.p414_rules.specs.Names.{names_in, repeats_behind}
+use Rattle.p414_syntax.specs.Names.{names_in, repeats_behind}
 use Rattle.p414_numbers.proofs.numbers.names_in.Given as goal
 
 abbrev pub invariant-loop-decl : goal.invariant-loop-decl

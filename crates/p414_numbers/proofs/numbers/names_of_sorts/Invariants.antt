@@ -1,6 +1,6 @@
 use Rattle.std.proofs.Common.{◌≡◌, take, drop, false}
 use Rattle.std.specs.List.{list_any}
-use Rattle.p414_rules.specs.Twice.{repeats_in}
+use Rattle.p414_syntax.specs.Twice.{repeats_in}
 use Rattle.p414_numbers.specs.Sorts.{names_for}
 use Rattle.p414_numbers.proofs.numbers.names_of_sorts.Given as goal
 

@@ -1,6 +1,6 @@
 use Rattle.std.proofs.Common.{◌≡◌, ℕ, length, take}
 use Rattle.digraph.specs.Graphs.{Among}
-use Rattle.p414_rules.specs.Arguments.{actions}
+use Rattle.p414_syntax.specs.Arguments.{actions}
 use Rattle.p414_parameter_widths.proofs.Turning.{Known}
 use Rattle.p414_parameter_widths.proofs.widths.all_widths.Given as goal
 

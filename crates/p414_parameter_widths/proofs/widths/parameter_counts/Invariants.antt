@@ -1,5 +1,5 @@
 use Rattle.std.proofs.Common.{◌≡◌, ◌++◌, map, drop}
-use Rattle.p414_rules.specs.Arguments.{actions}
+use Rattle.p414_syntax.specs.Arguments.{actions}
 use Rattle.p414_parameter_widths.specs.internal.Noting.{parameter_count}
 use Rattle.p414_parameter_widths.proofs.widths.parameter_counts.Given as goal
 

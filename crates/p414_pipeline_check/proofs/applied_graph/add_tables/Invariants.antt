@@ -1,5 +1,5 @@
 use Rattle.std.proofs.Common.{◌≡◌, ◌++◌, drop, map}
-use Rattle.p414_rules.specs.Tables.{tables}
+use Rattle.p414_syntax.specs.Tables.{tables}
 use Rattle.p414_pipeline_check.specs.internal.Applied.{table_row, table_rows}
 use Rattle.p414_pipeline_check.proofs.applied_graph.add_tables.Given as goal
 

@@ -1,5 +1,5 @@
 use Rattle.std.proofs.Common.{◌≡◌, ◌++◌, drop, map}
-use Rattle.p414_rules.specs.ControlExpansion.{controls}
+use Rattle.p414_syntax.specs.ControlExpansion.{controls}
 use Rattle.p414_pipeline_check.specs.internal.Applied.{control_row, control_rows}
 use Rattle.p414_pipeline_check.proofs.applied_graph.control_rows.Given as goal
 

@@ -1,5 +1,5 @@
 use Rattle.std.proofs.Common.{◌≡◌, ◌++◌, drop, map}
-use Rattle.p414_rules.specs.Tables.{tables}
+use Rattle.p414_syntax.specs.Tables.{tables}
 use Rattle.p414_pipeline_check.specs.internal.Requests.{lists_request, tables_with_requests}
 use Rattle.p414_pipeline_check.proofs.requests.tables_with_requests.Given as goal
 

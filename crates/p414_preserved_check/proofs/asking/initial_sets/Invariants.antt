@@ -1,6 +1,6 @@
 use Rattle.std.proofs.Common.{◌≡◌, ◌++◌, drop, map}
-use Rattle.p414_ast.specs.declared.syntax.Sort.TheVariants as sort
-use Rattle.p414_rules.specs.Names.{declared_in}
+use Rattle.p414_syntax.specs.declared.syntax.Sort.TheVariants as sort
+use Rattle.p414_syntax.specs.Names.{declared_in}
 use Rattle.p414_preserved_check.specs.internal.Asking.{initial_set, initial_sets}
 use Rattle.p414_preserved_check.proofs.asking.initial_sets.Given as goal
 

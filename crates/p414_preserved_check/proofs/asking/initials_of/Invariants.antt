@@ -1,6 +1,6 @@
 use Rattle.std.proofs.Common.{◌≡◌, ◌++◌, drop, map}
-use Rattle.p414_rules.specs.Names.{initial_name}
-use Rattle.p414_rules.specs.Distinct.{distinct, distinct_behind}
+use Rattle.p414_syntax.specs.Names.{initial_name}
+use Rattle.p414_syntax.specs.Distinct.{distinct, distinct_behind}
 use Rattle.p414_preserved_check.proofs.asking.initials_of.Given as goal
 
 abbrev pub invariant-loop-initial : goal.invariant-loop-initial

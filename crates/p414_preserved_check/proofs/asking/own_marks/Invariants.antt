@@ -1,5 +1,5 @@
 use Rattle.std.proofs.Common.{◌≡◌, ◌++◌, drop, map}
-use Rattle.p414_rules.specs.Expansion.{lists}
+use Rattle.p414_syntax.specs.Expansion.{lists}
 use Rattle.p414_preserved_check.specs.internal.Marks.{own_mark, own_marks}
 use Rattle.p414_preserved_check.specs.internal.Asking.{asked_of}
 use Rattle.p414_preserved_check.proofs.asking.own_marks.Given as goal

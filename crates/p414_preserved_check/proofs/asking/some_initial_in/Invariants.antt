@@ -1,6 +1,6 @@
 use Rattle.std.proofs.Common.{◌≡◌, drop, map}
 use Rattle.std.specs.List.{list_any}
-use Rattle.p414_rules.specs.Names.{initial_name}
+use Rattle.p414_syntax.specs.Names.{initial_name}
 use Rattle.p414_preserved_check.specs.internal.Asking.{is_field}
 use Rattle.p414_preserved_check.proofs.asking.some_initial_in.Given as goal
 

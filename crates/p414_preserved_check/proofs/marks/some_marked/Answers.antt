@@ -1,4 +1,4 @@
-use Rattle.p414_ast.specs.References.{referred}
+use Rattle.p414_syntax.specs.References.{referred}
 use Rattle.p414_preserved_check.specs.internal.Marks.{is_marked_name}
 use Rattle.p414_preserved_check.proofs.Loops.{found_one, not_this}
 use Rattle.p414_preserved_check.proofs.marks.some_marked.Goals as goal

@@ -1,6 +1,6 @@
 use Rattle.std.proofs.Common.{◌≡◌, drop, map}
 use Rattle.std.specs.List.{list_any}
-use Rattle.p414_ast.specs.References.{referred}
+use Rattle.p414_syntax.specs.References.{referred}
 use Rattle.p414_preserved_check.specs.internal.Marks.{is_marked_name}
 use Rattle.p414_preserved_check.proofs.marks.some_marked.Given as goal
 

@@ -1,5 +1,5 @@
 use Rattle.std.proofs.Common.{map, arith}
-use Rattle.p414_ast.specs.References.{referred}
+use Rattle.p414_syntax.specs.References.{referred}
 use Rattle.p414_preserved_check.proofs.Loops.{named_whole}
 use Rattle.p414_preserved_check.proofs.named.add_arguments.Goals as goal
 

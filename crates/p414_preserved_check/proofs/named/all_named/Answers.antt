@@ -1,5 +1,5 @@
 use Rattle.std.proofs.Common.{flat_map, map, ap, ◌∙◌}
-use Rattle.p414_rules.specs.Arguments.{actions, invocations_of}
+use Rattle.p414_syntax.specs.Arguments.{actions, invocations_of}
 use Rattle.p414_preserved_check.specs.internal.Named.{named_by}
 use Rattle.p414_preserved_check.proofs.NamedLists.{all_named}
 use Rattle.p414_preserved_check.proofs.named.all_named.Goals as goal

@@ -1,6 +1,6 @@
 use Rattle.std.proofs.Common.{◌≡◌, ◌++◌, drop, map}
-use Rattle.p414_ast.specs.References.{referred}
-use Rattle.p414_rules.specs.Distinct.{distinct, distinct_behind}
+use Rattle.p414_syntax.specs.References.{referred}
+use Rattle.p414_syntax.specs.Distinct.{distinct, distinct_behind}
 use Rattle.p414_preserved_check.proofs.named.distinct.Given as goal
 
 abbrev pub invariant-loop-name : goal.invariant-loop-name

@@ -1,4 +1,4 @@
-use Rattle.p414_ast.specs.References.{referred}
+use Rattle.p414_syntax.specs.References.{referred}
 use Rattle.p414_preserved_check.specs.internal.Named.{some_input_marked}
 use Rattle.p414_preserved_check.proofs.Loops.{found_one, not_this}
 use Rattle.p414_preserved_check.proofs.payload.any_marked.Goals as goal

@@ -1,4 +1,4 @@
-use Rattle.p414_ast.specs.References.{referred}
+use Rattle.p414_syntax.specs.References.{referred}
 use Rattle.p414_preserved_check.specs.internal.Named.{some_input_missing}
 use Rattle.p414_preserved_check.proofs.Loops.{found_one, not_this}
 use Rattle.p414_preserved_check.proofs.payload.any_missing.Goals as goal

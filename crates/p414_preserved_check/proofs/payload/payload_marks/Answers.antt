@@ -1,5 +1,5 @@
 use Rattle.std.proofs.Common.{length, ap, ◌∙◌}
-use Rattle.p414_rules.specs.Payloads.{is_payload}
+use Rattle.p414_syntax.specs.Payloads.{is_payload}
 use Rattle.p414_preserved_check.proofs.Own.{payload_asks}
 use Rattle.p414_preserved_check.proofs.Marking.{own_each}
 use Rattle.p414_preserved_check.proofs.payload.payload_marks.Goals as goal

@@ -1,6 +1,6 @@
 use Rattle.std.proofs.Common.{◌≡◌, drop}
 use Rattle.std.specs.List.{list_any}
-use Rattle.p414_rules.specs.Payloads.{inputs}
+use Rattle.p414_syntax.specs.Payloads.{inputs}
 use Rattle.p414_preserved_check.specs.internal.Early.{is_early_input}
 use Rattle.p414_preserved_check.proofs.payload.some_early_input.Given as goal
 

@@ -1,6 +1,6 @@
 use Rattle.std.proofs.Common.{length, sym, ap, ◌∙◌, map}
 use Rattle.std.proofs.lemmas.List.{length-map}
-use Rattle.p414_ast.specs.References.{referred}
+use Rattle.p414_syntax.specs.References.{referred}
 use Rattle.p414_preserved_check.specs.internal.Marks.{joins_marked}
 use Rattle.p414_preserved_check.proofs.Preserving.{too_many, few}
 use Rattle.p414_preserved_check.proofs.preserved.are_bad.Goals as goal

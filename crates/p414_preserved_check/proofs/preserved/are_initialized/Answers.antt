@@ -1,5 +1,5 @@
 use Rattle.std.proofs.Common.{ap, ◌∙◌, map}
-use Rattle.p414_ast.specs.References.{referred}
+use Rattle.p414_syntax.specs.References.{referred}
 use Rattle.p414_preserved_check.specs.internal.Marks.{joins_marked}
 use Rattle.p414_preserved_check.proofs.Preserving.{initialized_exact}
 use Rattle.p414_preserved_check.proofs.preserved.are_initialized.Goals as goal

@@ -1,5 +1,5 @@
 use Rattle.std.proofs.Common.{length, ap, ◌∙◌}
-use Rattle.p414_rules.specs.Preserved.{is_initialized}
+use Rattle.p414_syntax.specs.Preserved.{is_initialized}
 use Rattle.p414_preserved_check.specs.internal.Asking.{initialized_by}
 use Rattle.p414_preserved_check.proofs.Own.{initialized_asks}
 use Rattle.p414_preserved_check.proofs.Marking.{own_each}

@@ -1,5 +1,5 @@
 use Rattle.std.proofs.Common.{length, ap, ◌∙◌}
-use Rattle.p414_rules.specs.Preserved.{is_no_metadata_item}
+use Rattle.p414_syntax.specs.Preserved.{is_no_metadata_item}
 use Rattle.p414_preserved_check.specs.internal.Asking.{no_metadata_by}
 use Rattle.p414_preserved_check.proofs.Own.{no_metadata_asks}
 use Rattle.p414_preserved_check.proofs.Marking.{own_each}

@@ -2,7 +2,7 @@ use Rattle.std.proofs.Common.{◌∙◌, rules, tests}
 use Rattle.std.specs.Str.{bytes_eq}
 use Rattle.std.proofs.lemmas.Iterator.{YieldsList-from_slice}
 use Rattle.std.proofs.lemmas.Iterator.Search.{any_from_yields_List}
-use Rattle.p414_lexemes.specs.Keywords.{keyword_text}
+use Rattle.p414_syntax.specs.Keywords.{keyword_text}
 use Rattle.p414_reader.proofs.Words.{among_words}
 use Rattle.p414_reader.proofs.token.is_keyword_among.Goals as goal
 

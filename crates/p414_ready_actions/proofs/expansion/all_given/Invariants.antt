@@ -1,5 +1,5 @@
 use Rattle.std.proofs.Common.{◌≡◌, ◌++◌, map, drop}
-use Rattle.p414_rules.specs.ActionExpansion.{given_for}
+use Rattle.p414_syntax.specs.ActionExpansion.{given_for}
 use Rattle.p414_calls.specs.Shown.{shown_argument}
 use Rattle.p414_ready_actions.proofs.expansion.all_given.Given as goal
 

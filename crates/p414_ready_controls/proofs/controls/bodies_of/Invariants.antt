@@ -1,5 +1,5 @@
 use Rattle.std.proofs.Common.{◌≡◌, ◌++◌, map, drop}
-use Rattle.p414_rules.specs.ControlExpansion.{controls}
+use Rattle.p414_syntax.specs.ControlExpansion.{controls}
 use Rattle.p414_ready_controls.specs.Nodes.{body_nodes}
 use Rattle.p414_ready_controls.proofs.controls.bodies_of.Given as goal
 

@@ -1,5 +1,5 @@
 use Rattle.std.proofs.Common.{◌≡◌, map, take}
-use Rattle.p414_ast.specs.References.{referred}
+use Rattle.p414_syntax.specs.References.{referred}
 use Rattle.p414_ready_controls.specs.Nodes.{table_name}
 use Rattle.p414_ready_controls.proofs.names.table_names.Given as goal
 

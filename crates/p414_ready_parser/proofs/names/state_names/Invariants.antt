@@ -1,6 +1,6 @@
 use Rattle.std.proofs.Common.{◌≡◌, ◌++◌, map, drop}
-use Rattle.p414_ast.specs.References.{referred}
-use Rattle.p414_rules.specs.ParserGraph.{state_name, states}
+use Rattle.p414_syntax.specs.References.{referred}
+use Rattle.p414_syntax.specs.ParserGraph.{state_name, states}
 use Rattle.p414_ready_parser.proofs.names.state_names.Given as goal
 
 abbrev pub invariant-loop-decl : goal.invariant-loop-decl

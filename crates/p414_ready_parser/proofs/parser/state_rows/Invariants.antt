@@ -1,5 +1,5 @@
 use Rattle.std.proofs.Common.{◌≡◌, ◌++◌, map, drop}
-use Rattle.p414_rules.specs.ParserGraph.{states}
+use Rattle.p414_syntax.specs.ParserGraph.{states}
 use Rattle.p414_ready_parser.specs.Rows.{state_row}
 use Rattle.p414_ready_parser.proofs.parser.state_rows.Given as goal
 

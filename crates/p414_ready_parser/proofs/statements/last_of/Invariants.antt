@@ -1,6 +1,6 @@
 use Rattle.std.proofs.Common.{◌≡◌, drop}
 use Rattle.std.specs.Prelude.{None, option_copied}
-use Rattle.p414_rules.specs.Uses.{last_of}
+use Rattle.p414_syntax.specs.Uses.{last_of}
 use Rattle.p414_ready_parser.proofs.statements.last_of.Given as goal
 
 abbrev pub invariant-loop-statement : goal.invariant-loop-statement

@@ -1,5 +1,5 @@
 use Rattle.std.proofs.Common.{◌≡◌, map, drop}
-use Rattle.p414_rules.specs.Names.{find_name}
+use Rattle.p414_syntax.specs.Names.{find_name}
 use Rattle.p414_ready_tables.specs.internal.Defaults.{action_name}
 use Rattle.p414_ready_tables.proofs.Kept.{found_from}
 use Rattle.p414_ready_tables.proofs.defaults.place_of.Given as goal

@@ -1,5 +1,5 @@
 use Rattle.std.proofs.Common.{◌≡◌, ◌++◌, map, drop}
-use Rattle.p414_ast.specs.References.{referred}
+use Rattle.p414_syntax.specs.References.{referred}
 use Rattle.p414_signature.specs.internal.Gathered.{counting_tables}
 use Rattle.p414_signature.proofs.directs.counting_tables.Given as goal
 

@@ -1,5 +1,5 @@
 use Rattle.std.proofs.Common.{◌≡◌, ◌++◌, map, drop}
-use Rattle.p414_ast.specs.References.{referred}
+use Rattle.p414_syntax.specs.References.{referred}
 use Rattle.p414_sem.specs.Signatures.{object_sig}
 use Rattle.p414_signature.proofs.objects.object_sigs.Given as goal
 

@@ -1,5 +1,5 @@
 use Rattle.std.proofs.Common.{◌≡◌, map, drop}
-use Rattle.p414_ast.specs.References.{referred}
+use Rattle.p414_syntax.specs.References.{referred}
 use Rattle.p414_sem.specs.Operations.{in_order}
 use Rattle.p414_signature.specs.internal.Gathered.{put_all}
 use Rattle.p414_signature.proofs.order.in_order.Given as goal

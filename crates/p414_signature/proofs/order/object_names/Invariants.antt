@@ -1,7 +1,7 @@
 use Rattle.std.proofs.Common.{◌≡◌, map, drop}
-use Rattle.p414_ast.specs.References.{referred}
-use Rattle.p414_ast.specs.declared.syntax.Sort.TheVariants as sort
-use Rattle.p414_rules.specs.Names.{names_in}
+use Rattle.p414_syntax.specs.References.{referred}
+use Rattle.p414_syntax.specs.declared.syntax.Sort.TheVariants as sort
+use Rattle.p414_syntax.specs.Names.{names_in}
 use Rattle.p414_sem.specs.Operations.{in_order}
 use Rattle.p414_signature.specs.internal.Gathered.{put_all}
 use Rattle.p414_signature.proofs.order.object_names.Given as goal

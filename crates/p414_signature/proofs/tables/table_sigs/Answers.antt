@@ -1,4 +1,4 @@
-use Rattle.p414_ast.specs.References.{referred}
+use Rattle.p414_syntax.specs.References.{referred}
 use Rattle.p414_sem.specs.Signatures.{table_of, table_sig}
 use Rattle.p414_signature.proofs.TableNames.{table_now}
 use Rattle.p414_signature.proofs.tables.table_sigs.Goals as goal

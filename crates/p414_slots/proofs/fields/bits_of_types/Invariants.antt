@@ -1,6 +1,6 @@
 use Rattle.std.proofs.Common.{◌≡◌, ◌++◌, map, drop}
 use Rattle.p414_slots.specs.internal.Found.{bits_together}
-use Rattle.p414_rules.specs.Fields.{types}
+use Rattle.p414_syntax.specs.Fields.{types}
 use Rattle.p414_slots.proofs.fields.bits_of_types.Given as goal
 
 abbrev pub invariant-loop-decl : goal.invariant-loop-decl

@@ -1,6 +1,6 @@
 use Rattle.std.proofs.Common.{◌≡◌, ◌++◌, map, drop}
-use Rattle.p414_ast.specs.References.{referred}
-use Rattle.p414_rules.specs.Names.{field_name}
+use Rattle.p414_syntax.specs.References.{referred}
+use Rattle.p414_syntax.specs.Names.{field_name}
 use Rattle.p414_slots.proofs.fields.names_of_fields.Given as goal
 
 abbrev pub invariant-loop-field : goal.invariant-loop-field

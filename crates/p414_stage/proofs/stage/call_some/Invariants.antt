@@ -1,6 +1,6 @@
 use Rattle.std.proofs.Common.{◌≡◌, map, drop}
 use Rattle.std.specs.List.{list_any}
-use Rattle.p414_ast.specs.References.{referred}
+use Rattle.p414_syntax.specs.References.{referred}
 use Rattle.p414_sem.specs.Stages.{is_call_of}
 use Rattle.p414_stage.proofs.stage.call_some.Given as goal
 

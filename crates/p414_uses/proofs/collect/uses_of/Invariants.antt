@@ -1,5 +1,5 @@
 use Rattle.std.proofs.Common.{◌≡◌, ◌++◌, map, drop}
-use Rattle.p414_rules.specs.Uses.{uses}
+use Rattle.p414_syntax.specs.Uses.{uses}
 use Rattle.p414_uses.specs.Shown.{shown_use}
 use Rattle.p414_uses.proofs.collect.uses_of.Given as goal
 

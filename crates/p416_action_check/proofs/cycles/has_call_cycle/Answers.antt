@@ -1,6 +1,6 @@
 use Rattle.std.proofs.Common.{List, map, filter_map, ap, ◌∙◌}
-use Rattle.p416_ast.specs.declared.controls.Local.{Local}
-use Rattle.p416_rules.specs.Declarations.{action_in}
+use Rattle.p416_syntax.specs.declared.controls.Local.{Local}
+use Rattle.p416_syntax.specs.Declarations.{action_in}
 use Rattle.p416_scopes.specs.Seen.{seen_scope}
 use Rattle.p416_action_check.specs.internal.Nodes.{action_node}
 use Rattle.p416_action_check.proofs.Calling.{control_by}

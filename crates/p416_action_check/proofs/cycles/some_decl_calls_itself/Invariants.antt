@@ -1,5 +1,5 @@
 use Rattle.std.proofs.Common.{drop}
-use Rattle.p416_rules.specs.Breaks.{SomeDeclaration}
+use Rattle.p416_syntax.specs.Breaks.{SomeDeclaration}
 use Rattle.p416_action_check.specs.Cycles.{CallsItself}
 use Rattle.p416_action_check.proofs.cycles.some_decl_calls_itself.Given as goal
 

@@ -1,5 +1,5 @@
 use Rattle.std.proofs.Common.{◌≡◌, ◌++◌, map, filter_map, drop}
-use Rattle.p416_rules.specs.Declarations.{action_in}
+use Rattle.p416_syntax.specs.Declarations.{action_in}
 use Rattle.p416_scopes.specs.Seen.{seen_scope}
 use Rattle.p416_action_check.specs.internal.Nodes.{action_node}
 use Rattle.p416_action_check.proofs.nodes.action_nodes.Given as goal

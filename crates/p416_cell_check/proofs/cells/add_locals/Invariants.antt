@@ -1,5 +1,5 @@
 use Rattle.std.proofs.Common.{◌≡◌, ◌++◌, flat_map, drop}
-use Rattle.p416_rules.specs.Totals.{local_cells}
+use Rattle.p416_syntax.specs.Totals.{local_cells}
 use Rattle.p416_cell_check.proofs.cells.add_locals.Given as goal
 
 abbrev pub invariant-loop-declared : goal.invariant-loop-declared

@@ -1,5 +1,5 @@
 use Rattle.std.proofs.Common.{◌≡◌, ◌++◌, flat_map, drop}
-use Rattle.p416_rules.specs.Totals.{cells_in}
+use Rattle.p416_syntax.specs.Totals.{cells_in}
 use Rattle.p416_cell_check.proofs.cells.cell_counts.Given as goal
 
 abbrev pub invariant-loop-decl : goal.invariant-loop-decl

@@ -1,6 +1,6 @@
 use Rattle.std.proofs.Common.{◌≡◌, ◌||◌, drop, filter_map}
 use Rattle.std.specs.List.{list_any}
-use Rattle.p416_rules.specs.Declarations.{table_in}
+use Rattle.p416_syntax.specs.Declarations.{table_in}
 use Rattle.p416_listed_check.specs.Pairs.{Pair, is_same_pair}
 use Rattle.p416_counter_check.specs.internal.Pairs.{is_pair_of}
 use Rattle.p416_counter_check.proofs.pairs.add_locals.Given as goal

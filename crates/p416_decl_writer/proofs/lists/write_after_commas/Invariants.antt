@@ -1,6 +1,6 @@
 use Rattle.std.proofs.Common.{◌≡◌, ◌++◌, drop}
 use Rattle.std.specs.Prelude.{IsTrue}
-use Rattle.p416_ast.specs.Written.{after_commas}
+use Rattle.p416_syntax.specs.Written.{after_commas}
 use Rattle.p416_spelling.specs.Words.{words16}
 use Rattle.p416_decl_writer.specs.Tokens.{are_spelt}
 use Rattle.p416_decl_writer.proofs.lists.write_after_commas.Given as goal

@@ -1,7 +1,7 @@
 use Rattle.std.proofs.Common.{◌≡◌}
 use Rattle.std.specs.Prelude.{nat_lt}
 use Rattle.std.specs.List.{list_any}
-use Rattle.p416_rules.specs.Statements.{nesting}
+use Rattle.p416_syntax.specs.Statements.{nesting}
 use Rattle.p416_depth_check.specs.internal.Walks.{stmt_is_deep}
 use Rattle.p416_depth_check.proofs.Counts.{stmts_left}
 use Rattle.p416_depth_check.proofs.blocks.nests_deeper.Given as goal

@@ -1,5 +1,5 @@
 use Rattle.std.proofs.Common.{◌≡◌}
-use Rattle.p416_rules.specs.Expressions.{argument_count}
+use Rattle.p416_syntax.specs.Expressions.{argument_count}
 use Rattle.p416_depth_check.specs.internal.Deep.{has_deep_argument}
 use Rattle.p416_depth_check.proofs.expressions.has_deep_argument.Given as goal
 

@@ -1,5 +1,5 @@
 use Rattle.std.proofs.Common.{true, false, sym, ◌∙◌}
-use Rattle.p416_rules.specs.Declarations.{top_names}
+use Rattle.p416_syntax.specs.Declarations.{top_names}
 use Rattle.p416_calls.specs.Seen.{seen_place}
 use Rattle.p416_scopes.specs.Seen.{seen_scope}
 use Rattle.p416_typing.specs.Seen.{seen_row}

@@ -1,6 +1,6 @@
 use Rattle.std.proofs.Common.{◌≡◌, drop}
 use Rattle.std.specs.List.{list_all}
-use Rattle.p416_rules.specs.Externs.{is_allowed_at}
+use Rattle.p416_syntax.specs.Externs.{is_allowed_at}
 use Rattle.p416_expression_check.proofs.stands.are_all_allowed.Given as goal
 
 abbrev pub invariant-loop-position : goal.invariant-loop-position

@@ -1,7 +1,7 @@
 use Rattle.std.proofs.Common.{rules}
 use Rattle.std.proofs.lemmas.Result.{on_ok_weaker}
-use Rattle.p416_ast.specs.Heads.{of_exp_head}
-use Rattle.p416_rules.specs.Declarations.{top_names}
+use Rattle.p416_syntax.specs.Heads.{of_exp_head}
+use Rattle.p416_syntax.specs.Declarations.{top_names}
 use Rattle.p416_calls.specs.Seen.{seen_place}
 use Rattle.p416_expression_uses.specs.Seen.{wanted_in, otherwise_in}
 use Rattle.p416_expression_uses.specs.internal.Runs.{seen_spot, seen_spots}

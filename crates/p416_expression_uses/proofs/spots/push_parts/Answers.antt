@@ -1,5 +1,5 @@
 use Rattle.std.proofs.lemmas.Result.{on_ok_weaker}
-use Rattle.p416_rules.specs.Declarations.{top_names}
+use Rattle.p416_syntax.specs.Declarations.{top_names}
 use Rattle.p416_expression_uses.proofs.spots.push_parts.Goals as goal
 
 pub returns-in-Passed : goal.returns-in-Passed

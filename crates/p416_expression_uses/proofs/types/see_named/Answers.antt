@@ -1,5 +1,5 @@
 use Rattle.std.specs.Prelude.{map, option_to_list}
-use Rattle.p416_kinds.specs.Seen.{seen_kind}
+use Rattle.p416_names.specs.SeenKinds.{seen_kind}
 use Rattle.p416_scopes.specs.Seen.{seen_scope}
 use Rattle.p416_expression_uses.specs.Seen.{seen_type_place}
 use Rattle.p416_expression_uses.proofs.Finding.{type_seen}

@@ -1,6 +1,6 @@
 use Rattle.std.proofs.Common.{◌∙◌}
-use Rattle.p416_ast.specs.Heads.{of_exp_head}
-use Rattle.p416_rules.specs.Declarations.{top_names}
+use Rattle.p416_syntax.specs.Heads.{of_exp_head}
+use Rattle.p416_syntax.specs.Declarations.{top_names}
 use Rattle.p416_scopes.specs.Seen.{seen_scope}
 use Rattle.p416_typing.specs.Seen.{seen_row}
 use Rattle.p416_expression_uses.specs.internal.Runs.{seen_spot, seen_spots}

@@ -1,5 +1,5 @@
 use Rattle.std.proofs.Common.{map}
-use Rattle.p416_rules.specs.Declarations.{top_names}
+use Rattle.p416_syntax.specs.Declarations.{top_names}
 use Rattle.p416_scopes.specs.Seen.{seen_scope}
 use Rattle.p416_typing.specs.Seen.{seen_row}
 use Rattle.p416_expression_uses.specs.internal.Runs.{seen_spots}

@@ -1,6 +1,6 @@
 use Rattle.std.proofs.Common.{◌≡◌, drop}
 use Rattle.std.specs.List.{list_any}
-use Rattle.p416_rules.specs.Tables.{is_bad_action}
+use Rattle.p416_syntax.specs.Tables.{is_bad_action}
 use Rattle.p416_scopes.specs.Seen.{seen_scope}
 use Rattle.p416_listed_check.specs.Listings.{AreGiven}
 use Rattle.p416_listed_check.proofs.actions.some_bad_action.Given as goal

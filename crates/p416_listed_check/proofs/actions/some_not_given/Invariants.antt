@@ -1,8 +1,8 @@
 use Rattle.std.proofs.Common.{◌≡◌, map, drop}
 use Rattle.std.specs.List.{list_any}
-use Rattle.p416_rules.specs.Scopes.{handed}
-use Rattle.p416_rules.specs.Declarations.{top_names}
-use Rattle.p416_rules.specs.Tables.{is_not_given}
+use Rattle.p416_syntax.specs.Scopes.{handed}
+use Rattle.p416_syntax.specs.Declarations.{top_names}
+use Rattle.p416_syntax.specs.Tables.{is_not_given}
 use Rattle.p416_listed_check.proofs.actions.some_not_given.Given as goal
 
 abbrev pub invariant-loop-parameter : goal.invariant-loop-parameter

@@ -1,5 +1,5 @@
-use Rattle.p416_rules.specs.Statements.{labels_of}
-use Rattle.p416_rules.specs.Declarations.{top_names}
+use Rattle.p416_syntax.specs.Statements.{labels_of}
+use Rattle.p416_syntax.specs.Declarations.{top_names}
 use Rattle.p416_names.specs.Seen.{seen_sort}
 use Rattle.p416_scopes.specs.Seen.{seen_scope}
 use Rattle.p416_listed_check.specs.Listings.{tables_in}

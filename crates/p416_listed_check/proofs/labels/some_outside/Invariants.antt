@@ -1,6 +1,6 @@
 use Rattle.std.proofs.Common.{◌≡◌}
 use Rattle.std.specs.List.{list_any}
-use Rattle.p416_rules.specs.Statements.{labels_of}
+use Rattle.p416_syntax.specs.Statements.{labels_of}
 use Rattle.p416_listed_check.specs.internal.Labels.{is_outside_listed, case_count}
 use Rattle.p416_listed_check.proofs.labels.some_outside.Given as goal
 

@@ -1,5 +1,5 @@
 use Rattle.std.proofs.Common.{◌≡◌, map, take}
-use Rattle.p416_rules.specs.Tables.{action_plane}
+use Rattle.p416_syntax.specs.Tables.{action_plane}
 use Rattle.p416_scopes.specs.Seen.{seen_scope}
 use Rattle.p416_listed_check.proofs.planes.planes_of.Given as goal
 

@@ -1,6 +1,6 @@
 use Rattle.std.proofs.Common.{◌≡◌, List, drop}
-use Rattle.p416_rules.specs.Scopes.{Known}
-use Rattle.p416_rules.specs.Main.{block_of}
+use Rattle.p416_syntax.specs.Scopes.{Known}
+use Rattle.p416_syntax.specs.Main.{block_of}
 use Rattle.p416_main_check.proofs.block.block_of.Given as goal
 
 abbrev pub invariant-loop-decl : goal.invariant-loop-decl

@@ -1,6 +1,6 @@
 use Rattle.std.proofs.Common.{sym}
-use Rattle.p416_rules.specs.Declarations.{top_names}
-use Rattle.p416_kinds.specs.Seen.{seen_kind}
+use Rattle.p416_syntax.specs.Declarations.{top_names}
+use Rattle.p416_names.specs.SeenKinds.{seen_kind}
 use Rattle.p416_main_check.specs.internal.Seen.{parser_block}
 use Rattle.p416_main_check.proofs.Blocks.{too_few, too_many}
 use Rattle.p416_main_check.proofs.six.are_of_parser.Goals as goal

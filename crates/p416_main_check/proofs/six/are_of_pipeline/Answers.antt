@@ -1,7 +1,7 @@
 use Rattle.std.proofs.Common.{sym}
-use Rattle.p416_rules.specs.Declarations.{top_names}
-use Rattle.p416_kinds.specs.Seen.{seen_kind}
-use Rattle.p416_rules.specs.Main.{pipeline_block}
+use Rattle.p416_syntax.specs.Declarations.{top_names}
+use Rattle.p416_names.specs.SeenKinds.{seen_kind}
+use Rattle.p416_syntax.specs.Main.{pipeline_block}
 use Rattle.p416_main_check.proofs.Blocks.{too_few, too_many}
 use Rattle.p416_main_check.proofs.six.are_of_pipeline.Goals as goal
 

@@ -1,4 +1,4 @@
-use Rattle.p416_kinds.specs.Seen.{seen_kind}
+use Rattle.p416_names.specs.SeenKinds.{seen_kind}
 use Rattle.p416_main_check.proofs.Blocks.{not_blocks, not_headers, main_by}
 use Rattle.p416_main_check.proofs.six.is_main.Goals as goal
 use Rattle.p416_main_check.proofs.six.is_main.Goals.{then-not-are_blocks-via-then-not-are_blocks, then-not-are_blocks-via-else-not-are_blocks+then-not-are_headers}

@@ -1,7 +1,7 @@
 use Rattle.std.proofs.Common.{◌≡◌, map, drop}
 use Rattle.std.specs.List.{list_all}
-use Rattle.p416_rules.specs.Declarations.{top_names, struct_field}
-use Rattle.p416_rules.specs.Main.{is_header_field}
+use Rattle.p416_syntax.specs.Declarations.{top_names, struct_field}
+use Rattle.p416_syntax.specs.Main.{is_header_field}
 use Rattle.p416_main_check.proofs.structs.are_header_fields.Given as goal
 
 abbrev pub invariant-loop-field : goal.invariant-loop-field

@@ -1,7 +1,7 @@
 use Rattle.std.proofs.Common.{◌≡◌, map, drop}
 use Rattle.std.specs.List.{list_all}
-use Rattle.p416_rules.specs.Declarations.{top_names, layouts_of, struct_field}
-use Rattle.p416_rules.specs.Main.{is_metadata_field}
+use Rattle.p416_syntax.specs.Declarations.{top_names, layouts_of, struct_field}
+use Rattle.p416_syntax.specs.Main.{is_metadata_field}
 use Rattle.p416_main_check.specs.internal.Seen.{AreOfBits}
 use Rattle.p416_main_check.proofs.structs.are_metadata_fields.Given as goal
 

@@ -1,5 +1,5 @@
 use Rattle.std.proofs.Common.{◌≡◌, drop, map}
-use Rattle.p416_rules.specs.Names.{repeats}
+use Rattle.p416_syntax.specs.Names.{repeats}
 use Rattle.p416_name_set.proofs.Repeating.{repeats_behind}
 use Rattle.p416_name_set.proofs.repeated.is_repeated.Given as goal
 

@@ -1,6 +1,6 @@
 use Rattle.std.proofs.Common.{cond, sym, ap, ◌∙◌}
-use Rattle.p416_rules.specs.BuiltIn.{functions}
-use Rattle.p416_rules.specs.Scopes.{a_function, undeclared}
+use Rattle.p416_syntax.specs.BuiltIn.{functions}
+use Rattle.p416_syntax.specs.Scopes.{a_function, undeclared}
 use Rattle.p416_names.proofs.Found.{function_or_not}
 use Rattle.p416_names.proofs.built_in.function_sort.Goals as goal
 

@@ -1,5 +1,5 @@
 use Rattle.std.proofs.Common.{◌≡◌, ◌++◌, map, drop, filter}
-use Rattle.p416_rules.specs.Unknown.{declared_name}
+use Rattle.p416_syntax.specs.Unknown.{declared_name}
 use Rattle.p416_names.specs.internal.Tables.{is_type}
 use Rattle.p416_names.proofs.top.type_names.Given as goal
 

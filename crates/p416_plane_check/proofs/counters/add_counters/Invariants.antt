@@ -1,6 +1,6 @@
 use Rattle.std.proofs.Common.{◌≡◌, ◌++◌, map, filter, filter_map, drop}
-use Rattle.p416_rules.specs.Declarations.{table_in, counters_in}
-use Rattle.p416_rules.specs.Tables.{is_not_among}
+use Rattle.p416_syntax.specs.Declarations.{table_in, counters_in}
+use Rattle.p416_syntax.specs.Tables.{is_not_among}
 use Rattle.p416_plane_check.proofs.counters.add_counters.Given as goal
 
 abbrev pub invariant-loop-declared : goal.invariant-loop-declared

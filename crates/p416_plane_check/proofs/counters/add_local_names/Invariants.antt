@@ -1,6 +1,6 @@
 use Rattle.std.proofs.Common.{◌≡◌, ◌++◌, [], map, drop}
-use Rattle.p416_rules.specs.Scopes.{called_of}
-use Rattle.p416_rules.specs.Declarations.{known_local}
+use Rattle.p416_syntax.specs.Scopes.{called_of}
+use Rattle.p416_syntax.specs.Declarations.{known_local}
 use Rattle.p416_plane_check.proofs.counters.add_local_names.Given as goal
 
 abbrev pub invariant-loop-declared : goal.invariant-loop-declared

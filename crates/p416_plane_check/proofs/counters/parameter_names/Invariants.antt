@@ -1,5 +1,5 @@
 use Rattle.std.proofs.Common.{◌≡◌, ◌++◌, [], map, drop}
-use Rattle.p416_rules.specs.Scopes.{called_of, known_parameter}
+use Rattle.p416_syntax.specs.Scopes.{called_of, known_parameter}
 use Rattle.p416_plane_check.proofs.counters.parameter_names.Given as goal
 
 abbrev pub invariant-loop-parameter : goal.invariant-loop-parameter

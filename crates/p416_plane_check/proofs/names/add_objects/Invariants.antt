@@ -1,5 +1,5 @@
 use Rattle.std.proofs.Common.{◌≡◌, ◌++◌, map, flat_map, drop}
-use Rattle.p416_rules.specs.Tables.{local_object}
+use Rattle.p416_syntax.specs.Tables.{local_object}
 use Rattle.p416_plane_check.proofs.names.add_objects.Given as goal
 
 abbrev pub invariant-loop-declared : goal.invariant-loop-declared

@@ -1,5 +1,5 @@
 use Rattle.std.proofs.Common.{◌≡◌, ◌++◌, map, flat_map, drop}
-use Rattle.p416_rules.specs.Tables.{objects_of}
+use Rattle.p416_syntax.specs.Tables.{objects_of}
 use Rattle.p416_plane_check.proofs.names.object_names.Given as goal
 
 abbrev pub invariant-loop-decl : goal.invariant-loop-decl

@@ -1,5 +1,5 @@
 use Rattle.std.proofs.Common.{is_some, ap, ◌∙◌}
-use Rattle.p416_lexemes.specs.Keywords.{all_keywords16}
+use Rattle.p416_syntax.specs.Keywords.{all_keywords16}
 use Rattle.p416_reader.proofs.ReservedWords.{among}
 use Rattle.p416_reader.proofs.words.is_reserved.Goals as goal
 

@@ -1,6 +1,6 @@
 use Rattle.std.proofs.Common.{filter, ap, ◌∙◌}
-use Rattle.p416_lexemes.specs.Keywords.{all_keywords16}
-use Rattle.p416_ast.specs.Tokens.{keyword_among}
+use Rattle.p416_syntax.specs.Keywords.{all_keywords16}
+use Rattle.p416_syntax.specs.Tokens.{keyword_among}
 use Rattle.p416_reader.specs.internal.Words.{begins_with}
 use Rattle.p416_reader.proofs.ReservedWords.{narrowed}
 use Rattle.p416_reader.proofs.words.reserved_word.Goals as goal

@@ -1,5 +1,5 @@
 use Rattle.std.proofs.Common.{map, option_map}
-use Rattle.p416_rules.specs.Scopes.{handed}
+use Rattle.p416_syntax.specs.Scopes.{handed}
 use Rattle.p416_signature.specs.internal.Gathered.{seen_listed}
 use Rattle.p416_signature.proofs.Acting.{given_found}
 use Rattle.p416_signature.proofs.actions.given_with.Goals as goal

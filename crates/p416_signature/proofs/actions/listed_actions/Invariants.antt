@@ -1,5 +1,5 @@
 use Rattle.std.proofs.Common.{◌≡◌, ◌++◌, map, filter_map, drop}
-use Rattle.p416_rules.specs.Declarations.{top_names}
+use Rattle.p416_syntax.specs.Declarations.{top_names}
 use Rattle.p416_scopes.specs.Seen.{seen_scope}
 use Rattle.p416_signature.specs.internal.Gathered.{listed_row, seen_listed}
 use Rattle.p416_signature.proofs.actions.listed_actions.Given as goal

@@ -1,5 +1,5 @@
 use Rattle.std.proofs.Common.{◌≡◌, ◌++◌, List, map, drop}
-use Rattle.p416_rules.specs.Scopes.{Known}
+use Rattle.p416_syntax.specs.Scopes.{Known}
 use Rattle.p416_signature.specs.internal.Gathered.{row_plane, seen_listed}
 use Rattle.p416_signature.proofs.actions.planes.Given as goal
 

@@ -1,5 +1,5 @@
 use Rattle.std.proofs.Common.{◌≡◌, ◌++◌, map, drop}
-use Rattle.p416_rules.specs.Declarations.{top_names}
+use Rattle.p416_syntax.specs.Declarations.{top_names}
 use Rattle.p416_signature.specs.internal.Gathered.{row_sig, seen_listed}
 use Rattle.p416_signature.proofs.actions.row_sigs.Given as goal
 

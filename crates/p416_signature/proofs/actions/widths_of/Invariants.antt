@@ -1,7 +1,7 @@
 use Rattle.std.proofs.Common.{◌≡◌, ◌++◌, map, drop}
-use Rattle.p416_rules.specs.Scopes.{handed}
-use Rattle.p416_rules.specs.Declarations.{top_names}
-use Rattle.v1_sem.specs.Signatures.{handed_width}
+use Rattle.p416_syntax.specs.Scopes.{handed}
+use Rattle.p416_syntax.specs.Declarations.{top_names}
+use Rattle.v1_core.specs.Signatures.{handed_width}
 use Rattle.p416_signature.proofs.actions.widths_of.Given as goal
 
 abbrev pub invariant-loop-parameter : goal.invariant-loop-parameter

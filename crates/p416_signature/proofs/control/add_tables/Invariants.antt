@@ -1,5 +1,5 @@
 use Rattle.std.proofs.Common.{◌≡◌, ◌++◌, map, filter_map, drop}
-use Rattle.p416_rules.specs.Declarations.{table_in}
+use Rattle.p416_syntax.specs.Declarations.{table_in}
 use Rattle.p416_scopes.specs.Seen.{seen_scope}
 use Rattle.p416_signature.specs.internal.Gathered.{objects_seen, sig_in}
 use Rattle.p416_signature.proofs.control.add_tables.Given as goal

@@ -1,6 +1,6 @@
 use Rattle.std.proofs.Common.{rules}
-use Rattle.p416_rules.specs.Declarations.{top_names}
-use Rattle.p416_kinds.specs.Seen.{seen_kind}
+use Rattle.p416_syntax.specs.Declarations.{top_names}
+use Rattle.p416_names.specs.SeenKinds.{seen_kind}
 use Rattle.p416_scopes.specs.Seen.{seen_scope}
 use Rattle.p416_signature.proofs.Telling.{kind_is}
 use Rattle.p416_signature.proofs.keys.kind_of.Goals as goal

@@ -1,5 +1,5 @@
 use Rattle.std.proofs.Common.{◌≡◌, ◌++◌, map, flat_map, drop}
-use Rattle.v1_sem.specs.Signatures.{objects_in}
+use Rattle.v1_core.specs.Signatures.{objects_in}
 use Rattle.p416_signature.specs.internal.Seen.{seen_object}
 use Rattle.p416_signature.proofs.objects.all_objects.Given as goal
 

@@ -1,5 +1,5 @@
 use Rattle.std.proofs.Common.{◌≡◌, ◌++◌, map, filter_map, drop}
-use Rattle.v1_sem.specs.Signatures.{top_object}
+use Rattle.v1_core.specs.Signatures.{top_object}
 use Rattle.p416_signature.specs.internal.Seen.{seen_object}
 use Rattle.p416_signature.proofs.objects.top_objects.Given as goal
 

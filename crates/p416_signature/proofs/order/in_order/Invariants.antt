@@ -1,5 +1,5 @@
 use Rattle.std.proofs.Common.{◌≡◌, map, drop}
-use Rattle.v1_sem.specs.Signatures.{in_order}
+use Rattle.v1_core.specs.Signatures.{in_order}
 use Rattle.p416_signature.specs.internal.Gathered.{put_all}
 use Rattle.p416_signature.proofs.order.in_order.Given as goal
 

@@ -1,4 +1,4 @@
-use Rattle.p416_kinds.specs.Seen.{seen_kind}
+use Rattle.p416_names.specs.SeenKinds.{seen_kind}
 use Rattle.p416_size_check.proofs.Capped.{large_headers}
 use Rattle.p416_size_check.proofs.headers.has_large_headers.Goals as goal
 

@@ -1,8 +1,8 @@
 use Rattle.std.proofs.Common.{◌≡◌, ◌≤◌, map, drop, sum_by}
 use Rattle.std.specs.Prelude.{nat_lt}
-use Rattle.p416_rules.specs.Declarations.{layouts_of}
-use Rattle.p416_rules.specs.Totals.{octets_of_kind}
-use Rattle.p416_kinds.specs.Seen.{seen_kind}
+use Rattle.p416_syntax.specs.Declarations.{layouts_of}
+use Rattle.p416_syntax.specs.Totals.{octets_of_kind}
+use Rattle.p416_names.specs.SeenKinds.{seen_kind}
 use Rattle.p416_size_check.proofs.variables.have_many_octets.Given as goal
 
 abbrev pub invariant-loop-kind : goal.invariant-loop-kind

@@ -1,6 +1,6 @@
 use Rattle.std.proofs.Common.{◌≡◌, sum_by}
 use Rattle.std.specs.List.{list_any}
-use Rattle.p416_rules.specs.ParserStates.{extracts}
+use Rattle.p416_syntax.specs.ParserStates.{extracts}
 use Rattle.p416_state_check.proofs.Walked.{walked}
 use Rattle.p416_state_check.proofs.body.extracts.Given as goal
 

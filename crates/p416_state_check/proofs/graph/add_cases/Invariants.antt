@@ -1,5 +1,5 @@
 use Rattle.std.proofs.Common.{◌≡◌, drop, filter_map}
-use Rattle.p416_rules.specs.ParserStates.{case_target}
+use Rattle.p416_syntax.specs.ParserStates.{case_target}
 use Rattle.p416_state_check.specs.internal.Outside.{leading_on}
 use Rattle.p416_state_check.proofs.graph.add_cases.Given as goal
 

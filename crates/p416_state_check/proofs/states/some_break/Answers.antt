@@ -1,4 +1,4 @@
-use Rattle.p416_rules.specs.Breaks.{ParserBreaks}
+use Rattle.p416_syntax.specs.Breaks.{ParserBreaks}
 use Rattle.p416_state_check.proofs.Idle.{some_at, some_behind, none_left}
 use Rattle.p416_state_check.proofs.states.some_break.Goals as goal
 

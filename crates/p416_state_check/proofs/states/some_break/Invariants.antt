@@ -1,5 +1,5 @@
 use Rattle.std.proofs.Common.{drop}
-use Rattle.p416_rules.specs.Breaks.{SomeDeclaration, ParserBreaks}
+use Rattle.p416_syntax.specs.Breaks.{SomeDeclaration, ParserBreaks}
 use Rattle.p416_state_check.proofs.states.some_break.Given as goal
 
 -- what is broken lies ahead

@@ -1,5 +1,5 @@
 use Rattle.std.proofs.Common.{◌≡◌, drop}
-use Rattle.p416_rules.specs.Tables.{is_outside_actions}
+use Rattle.p416_syntax.specs.Tables.{is_outside_actions}
 use Rattle.p416_table_check.proofs.listed.is_outside_actions.Given as goal
 
 abbrev pub invariant-loop-listed : goal.invariant-loop-listed

@@ -2,7 +2,7 @@ use Rattle.std.proofs.Common.{◌≡◌, ◌-◌, true, drop, All}
 use Rattle.std.specs.List.{list_all}
 use Rattle.std.proofs.lemmas.Result.{IfOk-weaker}
 use Rattle.token_division.specs.Layout.{IsPieceOf}
-use Rattle.p416_lexemes.specs.Spelt.{is_spelt_lexeme16}
+use Rattle.p416_syntax.specs.SpeltLexemes.{is_spelt_lexeme16}
 use Rattle.p416_tok.specs.Front.{front}
 use Rattle.p416_tok.specs.Lexemes.{lexemes16}
 use Rattle.p416_tok.specs.Spelled.{IsSpelled}

@@ -1,6 +1,6 @@
 use Rattle.std.proofs.Common.{filter, ap, ◌∙◌}
 use Rattle.token_division.specs.Pieces.{mark_at}
-use Rattle.p416_lexemes.specs.Marks.{mark_text16, all_marks16}
+use Rattle.p416_syntax.specs.Marks.{mark_text16, all_marks16}
 use Rattle.p416_tok.specs.Beginnings.{mark_begins_with}
 use Rattle.p416_tok.proofs.Beginnings.{narrowed}
 use Rattle.p416_tok.proofs.marks.mark_of.Goals as goal

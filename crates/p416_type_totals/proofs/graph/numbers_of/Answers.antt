@@ -1,4 +1,4 @@
-use Rattle.p416_rules.specs.Unknown.{declaration_number}
+use Rattle.p416_syntax.specs.Unknown.{declaration_number}
 use Rattle.p416_type_totals.proofs.Edges.{numbers_now}
 use Rattle.p416_type_totals.proofs.graph.numbers_of.Goals as goal
 

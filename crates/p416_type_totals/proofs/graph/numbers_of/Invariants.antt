@@ -1,5 +1,5 @@
 use Rattle.std.proofs.Common.{◌≡◌, ◌++◌, map, filter_map, drop}
-use Rattle.p416_rules.specs.Unknown.{declaration_number}
+use Rattle.p416_syntax.specs.Unknown.{declaration_number}
 use Rattle.p416_type_totals.proofs.graph.numbers_of.Given as goal
 
 abbrev pub invariant-loop-name : goal.invariant-loop-name

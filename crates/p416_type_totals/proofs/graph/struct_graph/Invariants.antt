@@ -1,5 +1,5 @@
 use Rattle.std.proofs.Common.{◌≡◌, ◌++◌, map, drop}
-use Rattle.p416_rules.specs.Unknown.{held_by}
+use Rattle.p416_syntax.specs.Unknown.{held_by}
 use Rattle.p416_type_totals.proofs.graph.struct_graph.Given as goal
 
 abbrev pub invariant-loop-decl : goal.invariant-loop-decl

@@ -1,6 +1,6 @@
 use Rattle.std.proofs.Common.{◌≡◌, map, take, min, sum_by}
-use Rattle.p416_rules.specs.Declarations.{bit_field}
-use Rattle.p416_rules.specs.Totals.{field_bits}
+use Rattle.p416_syntax.specs.Declarations.{bit_field}
+use Rattle.p416_syntax.specs.Totals.{field_bits}
 use Rattle.p416_type_totals.specs.internal.Sized.{bit_limit}
 use Rattle.p416_type_totals.proofs.headers.bits_of.Given as goal
 

@@ -1,5 +1,5 @@
-use Rattle.p416_rules.specs.Declarations.{top_names, struct_field}
-use Rattle.p416_rules.specs.Totals.{field_bits}
+use Rattle.p416_syntax.specs.Declarations.{top_names, struct_field}
+use Rattle.p416_syntax.specs.Totals.{field_bits}
 use Rattle.p416_type_totals.specs.internal.Sized.{bit_limit}
 use Rattle.p416_type_totals.proofs.Summing.{sum_now}
 use Rattle.p416_type_totals.proofs.headers.typed_bits.Goals as goal

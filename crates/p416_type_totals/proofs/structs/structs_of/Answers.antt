@@ -2,8 +2,8 @@ use Rattle.std.proofs.Common.{◌≡◌, ◌∙◌, ℕ, ◌<◌, ◌≤◌, Lis
 use Rattle.digraph.specs.Components.{Condensation, AreComponents}
 use Rattle.digraph.proofs.Members.{among_place}
 use Rattle.digraph.specs.Graphs.{Among}
-use Rattle.p416_ast.specs.declared.program.Decl16.{Decl16}
-use Rattle.p416_rules.specs.Unknown.{struct_graph}
+use Rattle.p416_syntax.specs.declared.program.Decl16.{Decl16}
+use Rattle.p416_syntax.specs.Unknown.{struct_graph}
 use Rattle.p416_type_totals.specs.internal.Sized.{structs_of}
 use Rattle.p416_type_totals.proofs.Turning.{graph_length, written_more, all_written}
 use Rattle.p416_type_totals.proofs.structs.structs_of.Goals as goal

@@ -1,5 +1,5 @@
 use Rattle.std.proofs.Common.{◌∙◌, ap}
-use Rattle.p416_rules.specs.Declarations.{top_names, struct_field}
+use Rattle.p416_syntax.specs.Declarations.{top_names, struct_field}
 use Rattle.p416_type_totals.specs.Limit.{limit}
 use Rattle.p416_type_totals.specs.internal.Sized.{looked}
 use Rattle.p416_type_totals.proofs.Summing.{sum_now}

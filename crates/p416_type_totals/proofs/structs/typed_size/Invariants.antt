@@ -1,5 +1,5 @@
 use Rattle.std.proofs.Common.{◌≡◌, map, take}
-use Rattle.p416_rules.specs.Declarations.{top_names, struct_field}
+use Rattle.p416_syntax.specs.Declarations.{top_names, struct_field}
 use Rattle.p416_type_totals.specs.internal.Sized.{looked_fields}
 use Rattle.p416_type_totals.proofs.structs.typed_size.Given as goal
 

@@ -1,5 +1,5 @@
 use Rattle.std.proofs.Common.{ap, ◌∙◌}
-use Rattle.p416_rules.specs.Tables.{has_shared_names}
+use Rattle.p416_syntax.specs.Tables.{has_shared_names}
 use Rattle.p416_types.proofs.Exactly.{t9_found, t9_outside, t9_else}
 use Rattle.p416_types.proofs.each.breaks_t9.Goals as goal
 

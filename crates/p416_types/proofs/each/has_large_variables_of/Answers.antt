@@ -1,8 +1,8 @@
 use Rattle.std.proofs.Common.{List, sym, ap, ◌∙◌}
-use Rattle.p416_ast.specs.declared.program.Decl16.{Decl16}
-use Rattle.p416_rules.specs.Declarations.{layouts_of}
-use Rattle.p416_rules.specs.Totals.{has_large_variables}
-use Rattle.p416_rules.specs.Breaks.{program_uses}
+use Rattle.p416_syntax.specs.declared.program.Decl16.{Decl16}
+use Rattle.p416_syntax.specs.Declarations.{layouts_of}
+use Rattle.p416_syntax.specs.Totals.{has_large_variables}
+use Rattle.p416_syntax.specs.Breaks.{program_uses}
 use Rattle.p416_types.proofs.Exactly.{held_is}
 use Rattle.p416_types.proofs.each.has_large_variables_of.Goals as goal
 

@@ -1,6 +1,6 @@
 use Rattle.std.proofs.Common.{ℕ, List, ap, ◌∙◌}
-use Rattle.p416_rules.specs.Names.{Name}
-use Rattle.p416_rules.specs.Main.{positions_from}
+use Rattle.p416_syntax.specs.Names.{Name}
+use Rattle.p416_syntax.specs.Main.{positions_from}
 use Rattle.p416_types.proofs.Leaving.{found_one, outside_one}
 use Rattle.p416_types.proofs.seen.see_one.Goals as goal
 

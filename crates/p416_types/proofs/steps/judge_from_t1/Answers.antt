@@ -1,8 +1,8 @@
 use Rattle.std.proofs.Common.{refl}
-use Rattle.p416_rules.specs.declared.rule.ProgramRule.TheVariants.{T1, T2, T3}
-use Rattle.p416_rules.specs.Unknown.{is_misnamed}
-use Rattle.p416_rules.specs.Sizes.{leaves_size}
-use Rattle.p416_rules.specs.Types.{is_mistyped}
+use Rattle.p416_syntax.specs.declared.rule.ProgramRule.TheVariants.{T1, T2, T3}
+use Rattle.p416_syntax.specs.Unknown.{is_misnamed}
+use Rattle.p416_syntax.specs.Sizes.{leaves_size}
+use Rattle.p416_syntax.specs.Types.{is_mistyped}
 use Rattle.p416_expression_uses.specs.First.{use_rule}
 use Rattle.p416_types.specs.internal.Steps.{uses_from_t4}
 use Rattle.p416_types.proofs.Exactly.{t1, t2, t3}

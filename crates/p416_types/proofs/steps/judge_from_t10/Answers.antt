@@ -1,5 +1,5 @@
 use Rattle.std.proofs.Common.{[], ◌∷◌}
-use Rattle.p416_rules.specs.declared.rule.ProgramRule.TheVariants.{T10, T11, T12}
+use Rattle.p416_syntax.specs.declared.rule.ProgramRule.TheVariants.{T10, T11, T12}
 use Rattle.p416_types.proofs.Exactly.{t10_found}
 use Rattle.p416_types.proofs.Orders.{told_first, told_second, told_third, keeps_three}
 use Rattle.p416_types.proofs.steps.judge_from_t10.Goals as goal

@@ -1,8 +1,8 @@
 use Rattle.std.proofs.Common.{refl}
-use Rattle.p416_rules.specs.declared.rule.ProgramRule.TheVariants.{T4, T5, T6}
-use Rattle.p416_rules.specs.Literals.{overflows}
-use Rattle.p416_rules.specs.Writes.{writes_constant}
-use Rattle.p416_rules.specs.Arguments.{is_miscounted}
+use Rattle.p416_syntax.specs.declared.rule.ProgramRule.TheVariants.{T4, T5, T6}
+use Rattle.p416_syntax.specs.Literals.{overflows}
+use Rattle.p416_syntax.specs.Writes.{writes_constant}
+use Rattle.p416_syntax.specs.Arguments.{is_miscounted}
 use Rattle.p416_expression_uses.specs.First.{use_rule}
 use Rattle.p416_types.specs.internal.Steps.{uses_from_t7}
 use Rattle.p416_types.proofs.Exactly.{t4, t5, t6}

@@ -1,6 +1,6 @@
 use Rattle.std.proofs.Common.{[], ◌∷◌}
-use Rattle.p416_rules.specs.declared.rule.ProgramRule.TheVariants.{T7, T8, T9}
-use Rattle.p416_rules.specs.Breaks.{IsBroken}
+use Rattle.p416_syntax.specs.declared.rule.ProgramRule.TheVariants.{T7, T8, T9}
+use Rattle.p416_syntax.specs.Breaks.{IsBroken}
 use Rattle.p416_types.proofs.Leaving.{left_of_t9}
 use Rattle.p416_types.proofs.Orders.{exactly_false, told_first, told_second, told_third, keeps_three}
 use Rattle.p416_types.proofs.steps.judge_from_t7.Goals as goal

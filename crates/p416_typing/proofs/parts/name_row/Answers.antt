@@ -1,6 +1,6 @@
 use Rattle.std.proofs.Common.{sym, ap, ◌∙◌}
-use Rattle.p416_rules.specs.Declarations.{top_names}
-use Rattle.p416_rules.specs.Expressions.{sort_kind, sort_signature}
+use Rattle.p416_syntax.specs.Declarations.{top_names}
+use Rattle.p416_syntax.specs.Expressions.{sort_kind, sort_signature}
 use Rattle.p416_scopes.specs.Seen.{seen_scope}
 use Rattle.p416_typing.proofs.Stacked.{name_known}
 use Rattle.p416_typing.proofs.parts.name_row.Goals as goal

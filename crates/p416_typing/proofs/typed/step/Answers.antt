@@ -1,6 +1,6 @@
 use Rattle.std.proofs.Common.{◌∷◌, map, sym, ap, ◌∙◌}
-use Rattle.p416_ast.specs.Tree.{member}
-use Rattle.p416_rules.specs.Declarations.{top_names}
+use Rattle.p416_syntax.specs.Tree.{member}
+use Rattle.p416_syntax.specs.Declarations.{top_names}
 use Rattle.p416_scopes.specs.Seen.{seen_scope}
 use Rattle.p416_typing.specs.Seen.{seen_row}
 use Rattle.p416_typing.specs.internal.Steps.{kind_row, pushed}

@@ -1,5 +1,5 @@
 use Rattle.std.proofs.Common.{◌+◌}
-use Rattle.p416_rules.specs.Statements.{declared_in, nesting, statement_uses}
+use Rattle.p416_syntax.specs.Statements.{declared_in, nesting, statement_uses}
 use Rattle.p416_scopes.specs.Seen.{seen_scope}
 use Rattle.p416_uses.proofs.BodyUses.{body_told}
 use Rattle.p416_uses.proofs.bodies.see_body.Goals as goal

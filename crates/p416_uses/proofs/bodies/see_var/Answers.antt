@@ -1,8 +1,8 @@
 use Rattle.std.proofs.Common.{[]}
 use Rattle.std.specs.Option.{option_map_or}
-use Rattle.p416_rules.specs.Scopes.{kind_of_type}
-use Rattle.p416_rules.specs.Calls.{value}
-use Rattle.p416_rules.specs.Uses.{of_variable, type_uses, uses}
+use Rattle.p416_syntax.specs.Scopes.{kind_of_type}
+use Rattle.p416_syntax.specs.Calls.{value}
+use Rattle.p416_syntax.specs.Uses.{of_variable, type_uses, uses}
 use Rattle.p416_scopes.specs.Seen.{seen_scope}
 use Rattle.p416_expression_uses.proofs.Finding.{after_then}
 use Rattle.p416_uses.proofs.bodies.see_var.Goals as goal

@@ -1,5 +1,5 @@
 use Rattle.std.proofs.Common.{◌≡◌, ◌++◌, map, filter_map, drop}
-use Rattle.p416_rules.specs.Declarations.{counters_in, table_in}
+use Rattle.p416_syntax.specs.Declarations.{counters_in, table_in}
 use Rattle.p416_uses.proofs.controls.counter_names.Given as goal
 
 abbrev pub invariant-loop-declared : goal.invariant-loop-declared

@@ -1,5 +1,5 @@
 use Rattle.std.proofs.Common.{rules}
-use Rattle.p416_rules.specs.Declarations.{top_scope}
+use Rattle.p416_syntax.specs.Declarations.{top_scope}
 use Rattle.p416_scopes.specs.Seen.{seen_scope}
 use Rattle.p416_uses.proofs.ControlUses.{control_told}
 use Rattle.p416_uses.proofs.controls.see_control.Goals as goal

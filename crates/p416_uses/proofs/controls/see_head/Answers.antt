@@ -1,4 +1,4 @@
-use Rattle.p416_rules.specs.Declarations.{top_names, top_scope}
+use Rattle.p416_syntax.specs.Declarations.{top_names, top_scope}
 use Rattle.p416_scopes.specs.Seen.{seen_scope}
 use Rattle.p416_uses.proofs.ControlUses.{control_named}
 use Rattle.p416_uses.proofs.controls.see_head.Goals as goal

@@ -1,4 +1,4 @@
-use Rattle.p416_rules.specs.Declarations.{local_uses}
+use Rattle.p416_syntax.specs.Declarations.{local_uses}
 use Rattle.p416_scopes.specs.Seen.{seen_scope}
 use Rattle.p416_uses.proofs.Loops.{scoped_on}
 use Rattle.std.proofs.Common.{◌∙◌}

@@ -1,6 +1,6 @@
 use Rattle.std.proofs.Common.{◌≡◌, flat_map, drop}
-use Rattle.p416_rules.specs.Scopes.{in_apply}
-use Rattle.p416_rules.specs.Declarations.{local_uses}
+use Rattle.p416_syntax.specs.Scopes.{in_apply}
+use Rattle.p416_syntax.specs.Declarations.{local_uses}
 use Rattle.p416_scopes.specs.Seen.{seen_part, seen_scope}
 use Rattle.p416_listed_check.specs.Listings.{AreGiven}
 use Rattle.p416_expression_uses.specs.Found.{after_all}

@@ -1,5 +1,5 @@
 use Rattle.std.proofs.Common.{◌+◌, map, refl, ap}
-use Rattle.p416_kinds.specs.Seen.{seen_kind}
+use Rattle.p416_names.specs.SeenKinds.{seen_kind}
 use Rattle.p416_scopes.specs.Seen.{seen_scope}
 use Rattle.p416_uses.proofs.Loops.{parts_on}
 use Rattle.p416_uses.proofs.keysets.see_parts.Goals as goal

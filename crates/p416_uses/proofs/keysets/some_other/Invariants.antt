@@ -1,7 +1,7 @@
 use Rattle.std.proofs.Common.{◌≡◌, map, drop}
 use Rattle.std.specs.List.{list_any}
-use Rattle.p416_rules.specs.Types.{compares_other}
-use Rattle.p416_kinds.specs.Seen.{seen_kind}
+use Rattle.p416_syntax.specs.Types.{compares_other}
+use Rattle.p416_names.specs.SeenKinds.{seen_kind}
 use Rattle.p416_uses.specs.Parts.{paired}
 use Rattle.p416_uses.proofs.keysets.some_other.Given as goal
 

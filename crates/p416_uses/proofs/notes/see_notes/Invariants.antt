@@ -1,6 +1,6 @@
 use Rattle.std.proofs.Common.{◌≡◌, map, flat_map, drop}
-use Rattle.p416_rules.specs.Uses.{a_number}
-use Rattle.p416_rules.specs.Declarations.{list_numbers, note_uses}
+use Rattle.p416_syntax.specs.Uses.{a_number}
+use Rattle.p416_syntax.specs.Declarations.{list_numbers, note_uses}
 use Rattle.p416_expression_uses.specs.Found.{after_all}
 use Rattle.p416_uses.proofs.notes.see_notes.Given as goal
 

@@ -1,5 +1,5 @@
 use Rattle.std.proofs.Common.{◌≡◌, map, drop}
-use Rattle.p416_rules.specs.Uses.{a_number}
+use Rattle.p416_syntax.specs.Uses.{a_number}
 use Rattle.p416_expression_uses.specs.Found.{after_all}
 use Rattle.p416_uses.proofs.notes.see_numbers.Given as goal
 

@@ -1,4 +1,4 @@
-use Rattle.p416_rules.specs.Declarations.{note_uses, instance_uses}
+use Rattle.p416_syntax.specs.Declarations.{note_uses, instance_uses}
 use Rattle.p416_scopes.specs.Seen.{seen_scope}
 use Rattle.p416_expression_uses.proofs.Finding.{after_then}
 use Rattle.p416_uses.proofs.objects.see_object.Goals as goal

@@ -1,5 +1,5 @@
 use Rattle.std.proofs.Common.{◌≡◌, ◌++◌, map, drop}
-use Rattle.p416_rules.specs.Declarations.{state_name}
+use Rattle.p416_syntax.specs.Declarations.{state_name}
 use Rattle.p416_uses.proofs.parsers.push_states.Given as goal
 
 abbrev pub invariant-loop-state : goal.invariant-loop-state

@@ -1,7 +1,7 @@
 use Rattle.std.proofs.Common.{◌∷◌, map, flat_map}
-use Rattle.p416_rules.specs.Uses.{a_keyset}
-use Rattle.p416_rules.specs.Declarations.{compared_uses, keyset_parts, with_keys, target_uses}
-use Rattle.p416_kinds.specs.Seen.{seen_kind}
+use Rattle.p416_syntax.specs.Uses.{a_keyset}
+use Rattle.p416_syntax.specs.Declarations.{compared_uses, keyset_parts, with_keys, target_uses}
+use Rattle.p416_names.specs.SeenKinds.{seen_kind}
 use Rattle.p416_scopes.specs.Seen.{seen_scope}
 use Rattle.p416_expression_uses.proofs.Finding.{after_then, one_then}
 use Rattle.p416_uses.proofs.parsers.see_case.Goals as goal

@@ -1,6 +1,6 @@
 use Rattle.std.proofs.Common.{rules}
-use Rattle.p416_rules.specs.Calls.{select_key}
-use Rattle.p416_rules.specs.Uses.{uses}
+use Rattle.p416_syntax.specs.Calls.{select_key}
+use Rattle.p416_syntax.specs.Uses.{uses}
 use Rattle.p416_scopes.specs.Seen.{seen_scope}
 use Rattle.p416_uses.proofs.Loops.{flat_on, kinds_on}
 use Rattle.p416_uses.proofs.parsers.see_keys.Goals as goal

@@ -1,5 +1,5 @@
-use Rattle.p416_rules.specs.Statements.{declared_in, label_uses}
-use Rattle.p416_rules.specs.Uses.{names_of_scope}
+use Rattle.p416_syntax.specs.Statements.{declared_in, label_uses}
+use Rattle.p416_syntax.specs.Uses.{names_of_scope}
 use Rattle.p416_scopes.specs.Seen.{seen_scope}
 use Rattle.p416_uses.proofs.Turns.{then_one}
 use Rattle.p416_uses.proofs.statements.see_case.Goals as goal

@@ -1,5 +1,5 @@
 use Rattle.std.proofs.Common.{◌∙◌, List, flat_map, refl, ap}
-use Rattle.p416_rules.specs.Statements.{Visit, visit_uses}
+use Rattle.p416_syntax.specs.Statements.{Visit, visit_uses}
 use Rattle.p416_scopes.specs.Seen.{seen_scope}
 use Rattle.p416_listed_check.specs.Listings.{tables_in}
 use Rattle.p416_expression_uses.specs.Found.{after_all}

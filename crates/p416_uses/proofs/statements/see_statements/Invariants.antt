@@ -1,5 +1,5 @@
 use Rattle.std.proofs.Common.{◌≡◌, flat_map, length}
-use Rattle.p416_rules.specs.Statements.{statement_uses, visit_uses}
+use Rattle.p416_syntax.specs.Statements.{statement_uses, visit_uses}
 use Rattle.p416_scopes.specs.Seen.{seen_scope}
 use Rattle.p416_visits.specs.Left.{left_in, scope_behind}
 use Rattle.p416_listed_check.specs.Listings.{AreListed, tables_in}

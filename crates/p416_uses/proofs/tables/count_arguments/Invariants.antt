@@ -1,5 +1,5 @@
 use Rattle.std.proofs.Common.{◌≡◌, ◌+◌}
-use Rattle.p416_rules.specs.Expressions.{argument_count}
+use Rattle.p416_syntax.specs.Expressions.{argument_count}
 use Rattle.p416_uses.proofs.tables.count_arguments.Given as goal
 
 abbrev pub invariant-loop-before : goal.invariant-loop-before

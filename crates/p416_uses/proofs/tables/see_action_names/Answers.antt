@@ -1,4 +1,4 @@
-use Rattle.p416_rules.specs.Declarations.{action_name_uses}
+use Rattle.p416_syntax.specs.Declarations.{action_name_uses}
 use Rattle.p416_scopes.specs.Seen.{seen_scope}
 use Rattle.p416_uses.proofs.Loops.{flat_on}
 use Rattle.p416_uses.proofs.tables.see_action_names.Goals as goal

@@ -1,6 +1,6 @@
 use Rattle.std.proofs.Common.{[], option_copied}
 use Rattle.std.specs.Option.{option_map_or}
-use Rattle.p416_rules.specs.Declarations.{action_name_uses, given_uses, parameters_of}
+use Rattle.p416_syntax.specs.Declarations.{action_name_uses, given_uses, parameters_of}
 use Rattle.p416_scopes.specs.Seen.{seen_scope}
 use Rattle.p416_expression_uses.proofs.Finding.{after_then}
 use Rattle.p416_uses.proofs.tables.see_default.Goals as goal

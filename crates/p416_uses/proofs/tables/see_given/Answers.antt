@@ -1,6 +1,6 @@
 use Rattle.p416_scopes.specs.Seen.{seen_scope}
 use Rattle.p416_names.specs.Seen.{seen_sort}
-use Rattle.p416_rules.specs.Declarations.{top_names, sort_parameters}
+use Rattle.p416_syntax.specs.Declarations.{top_names, sort_parameters}
 use Rattle.p416_uses.proofs.TableUses.{given_told}
 use Rattle.p416_uses.proofs.tables.see_given.Goals as goal
 

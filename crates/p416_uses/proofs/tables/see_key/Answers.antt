@@ -1,7 +1,7 @@
 use Rattle.std.proofs.Common.{rules}
-use Rattle.p416_rules.specs.Calls.{table_key}
-use Rattle.p416_rules.specs.Uses.{uses}
-use Rattle.p416_rules.specs.Declarations.{is_exact, note_uses}
+use Rattle.p416_syntax.specs.Calls.{table_key}
+use Rattle.p416_syntax.specs.Uses.{uses}
+use Rattle.p416_syntax.specs.Declarations.{is_exact, note_uses}
 use Rattle.p416_scopes.specs.Seen.{seen_scope}
 use Rattle.p416_expression_uses.proofs.Finding.{after_then}
 use Rattle.p416_uses.proofs.tables.see_key.Goals as goal

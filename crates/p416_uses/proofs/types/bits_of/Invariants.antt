@@ -1,6 +1,6 @@
 use Rattle.std.proofs.Common.{◌≡◌, ◌+◌, ◌*◌, ◌≤◌, drop, sum_by}
 use Rattle.std.specs.List.{list_any}
-use Rattle.p416_rules.specs.Sizes.{bits_of_field, has_bad_width}
+use Rattle.p416_syntax.specs.Sizes.{bits_of_field, has_bad_width}
 use Rattle.p416_uses.proofs.types.bits_of.Given as goal
 
 abbrev pub invariant-loop-field : goal.invariant-loop-field

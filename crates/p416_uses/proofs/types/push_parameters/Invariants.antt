@@ -1,5 +1,5 @@
 use Rattle.std.proofs.Common.{◌≡◌, ◌++◌, map, drop}
-use Rattle.p416_rules.specs.Declarations.{parameter_name}
+use Rattle.p416_syntax.specs.Declarations.{parameter_name}
 use Rattle.p416_uses.proofs.types.push_parameters.Given as goal
 
 abbrev pub invariant-loop-parameter : goal.invariant-loop-parameter

@@ -1,5 +1,5 @@
-use Rattle.p416_rules.specs.Uses.{of_field, type_uses}
-use Rattle.p416_rules.specs.Declarations.{note_uses}
+use Rattle.p416_syntax.specs.Uses.{of_field, type_uses}
+use Rattle.p416_syntax.specs.Declarations.{note_uses}
 use Rattle.p416_scopes.specs.Seen.{seen_scope}
 use Rattle.p416_expression_uses.proofs.Finding.{after_then}
 use Rattle.p416_uses.proofs.types.see_field.Goals as goal

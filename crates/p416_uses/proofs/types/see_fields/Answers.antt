@@ -1,4 +1,4 @@
-use Rattle.p416_rules.specs.Declarations.{struct_field_uses}
+use Rattle.p416_syntax.specs.Declarations.{struct_field_uses}
 use Rattle.p416_scopes.specs.Seen.{seen_scope}
 use Rattle.p416_uses.proofs.Loops.{flat_on}
 use Rattle.p416_uses.proofs.types.see_fields.Goals as goal

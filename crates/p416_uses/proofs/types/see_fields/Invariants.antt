@@ -1,5 +1,5 @@
 use Rattle.std.proofs.Common.{◌≡◌, flat_map, drop}
-use Rattle.p416_rules.specs.Declarations.{struct_field_uses}
+use Rattle.p416_syntax.specs.Declarations.{struct_field_uses}
 use Rattle.p416_scopes.specs.Seen.{seen_scope}
 use Rattle.p416_expression_uses.specs.Found.{after_all}
 use Rattle.p416_uses.proofs.types.see_fields.Given as goal

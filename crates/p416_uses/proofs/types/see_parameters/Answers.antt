@@ -1,4 +1,4 @@
-use Rattle.p416_rules.specs.Declarations.{parameter_uses}
+use Rattle.p416_syntax.specs.Declarations.{parameter_uses}
 use Rattle.p416_scopes.specs.Seen.{seen_scope}
 use Rattle.p416_expression_uses.specs.Seen.{seen_type_place}
 use Rattle.p416_uses.proofs.Loops.{flat_on}

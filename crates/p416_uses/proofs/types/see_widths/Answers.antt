@@ -1,4 +1,4 @@
-use Rattle.p416_rules.specs.Declarations.{field_width}
+use Rattle.p416_syntax.specs.Declarations.{field_width}
 use Rattle.p416_uses.proofs.Loops.{map_on}
 use Rattle.p416_uses.proofs.types.see_widths.Goals as goal
 

@@ -1,5 +1,5 @@
 use Rattle.std.proofs.Common.{◌≡◌, map, drop}
-use Rattle.p416_rules.specs.Declarations.{field_width}
+use Rattle.p416_syntax.specs.Declarations.{field_width}
 use Rattle.p416_expression_uses.specs.Found.{after_all}
 use Rattle.p416_uses.proofs.types.see_widths.Given as goal
 

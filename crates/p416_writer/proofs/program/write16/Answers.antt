@@ -1,5 +1,5 @@
 use Rattle.std.proofs.Common.{◌≡◌, IfOk, subst}
-use Rattle.p416_ast.specs.declared.program.Syntax16.{Syntax16}
+use Rattle.p416_syntax.specs.declared.program.Syntax16.{Syntax16}
 use Rattle.p416_reader.specs.Reading.{Reads16}
 use Rattle.p416_writer.proofs.program.write16.Goals as goal
 

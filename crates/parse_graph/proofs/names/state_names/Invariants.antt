@@ -1,5 +1,5 @@
 use Rattle.std.proofs.Common.{◌≡◌, ◌++◌, map, drop}
-use Rattle.p414_rules.specs.ParserGraph.{states, state_name}
+use Rattle.p414_syntax.specs.ParserGraph.{states, state_name}
 use Rattle.parse_graph.proofs.names.state_names.Given as goal
 
 abbrev pub invariant-loop-decl : goal.invariant-loop-decl

@@ -1,5 +1,5 @@
 use Rattle.std.proofs.Common.{◌≡◌, take, flat_map}
-use Rattle.p414_rules.specs.ParserGraph.{extracted_by}
+use Rattle.p414_syntax.specs.ParserGraph.{extracted_by}
 use Rattle.parse_graph.proofs.program.extracts_of.Given as goal
 
 abbrev pub invariant-loop-statement : goal.invariant-loop-statement

@@ -1,5 +1,5 @@
 use Rattle.std.proofs.Common.{◌≡◌, ◌++◌, drop, filter_map}
-use Rattle.p414_rules.specs.ParserGraph.{state_number, case_target_of}
+use Rattle.p414_syntax.specs.ParserGraph.{state_number, case_target_of}
 use Rattle.parse_graph.proofs.program.next_of_cases.Given as goal
 
 abbrev pub invariant-loop-case : goal.invariant-loop-case

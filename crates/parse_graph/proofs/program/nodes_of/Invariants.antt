@@ -1,5 +1,5 @@
 use Rattle.std.proofs.Common.{◌≡◌, ◌++◌, map, drop}
-use Rattle.p414_rules.specs.ParserGraph.{states}
+use Rattle.p414_syntax.specs.ParserGraph.{states}
 use Rattle.parse_graph.specs.Programs.{node_of}
 use Rattle.parse_graph.proofs.program.nodes_of.Given as goal
 

@@ -1,5 +1,5 @@
 use Rattle.std.proofs.Common.{subst}
-use Rattle.p414_ast.specs.declared.syntax.Syntax14.{Syntax14}
+use Rattle.p414_syntax.specs.declared.syntax.Syntax14.{Syntax14}
 use Rattle.std.proofs.lemmas.Result.{err_from_is_err_and}
 use Rattle.file_work.proofs.Phases.{blames_as}
 use Rattle.program_commands.specs.Lines.{PrintsOrder}

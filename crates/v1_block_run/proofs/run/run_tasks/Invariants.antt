@@ -1,5 +1,5 @@
 use Rattle.std.proofs.Common.{◌≤◌, ◌∷◌, drop, length}
-use Rattle.v1_ready_externs.specs.Seen.{moment}
+use Rattle.v1_statement_run.specs.Seen.{moment}
 use Rattle.v1_block_run.specs.Tasks.{finish, load}
 use Rattle.v1_block_run.proofs.Looping.{Running}
 use Rattle.v1_block_run.proofs.run.run_tasks.Given as goal

@@ -1,8 +1,8 @@
 use Rattle.std.proofs.Common.{◌++◌, map, ap, ◌∙◌, List}
-use Rattle.p416_ast.specs.declared.parts.Param.{Param}
-use Rattle.p416_rules.specs.Declarations.{parameter_name}
-use Rattle.v1_sem.specs.Surroundings.{rooted}
-use Rattle.v1_sem.specs.Blocks.{owners_of}
+use Rattle.p416_syntax.specs.declared.parts.Param.{Param}
+use Rattle.p416_syntax.specs.Declarations.{parameter_name}
+use Rattle.v1_core.specs.Surroundings.{rooted}
+use Rattle.v1_core.specs.Blocks.{owners_of}
 use Rattle.v1_ready_program.specs.Seen.{seen_seats}
 use Rattle.v1_block_laws.specs.Variables.{control_roots}
 use Rattle.v1_block_seats.specs.internal.Wanted.{named_root}

@@ -1,6 +1,6 @@
 use Rattle.std.proofs.Common.{◌≡◌, ◌+◌, ◌++◌, length, map, flat_map, drop}
 use Rattle.p416_scopes.specs.Seen.{seen_scope}
-use Rattle.v1_sem.specs.Slots.{local_kinds}
+use Rattle.v1_core.specs.Slots.{local_kinds}
 use Rattle.v1_block_laws.specs.Variables.{locals_from}
 use Rattle.v1_block_seats.specs.Seen.{seen_variable}
 use Rattle.v1_block_seats.specs.Numbers.{actions_from}

@@ -1,6 +1,6 @@
 use Rattle.std.proofs.Common.{◌≡◌, ◌++◌, map, drop}
-use Rattle.p416_rules.specs.Declarations.{top_names, struct_field}
-use Rattle.p416_kinds.specs.Seen.{seen_kind}
+use Rattle.p416_syntax.specs.Declarations.{top_names, struct_field}
+use Rattle.p416_names.specs.SeenKinds.{seen_kind}
 use Rattle.v1_layout.specs.Left.{kind_of_field}
 use Rattle.v1_layout.proofs.fields.typed_kinds.Given as goal
 

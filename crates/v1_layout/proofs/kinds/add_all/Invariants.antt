@@ -1,7 +1,7 @@
 use Rattle.std.proofs.Common.{◌≡◌, ◌++◌, map, drop}
 use Rattle.std.specs.Prelude.{flat_map}
-use Rattle.p416_kinds.specs.Seen.{seen_kind}
-use Rattle.v1_sem.specs.Slots.{kinds_of}
+use Rattle.p416_names.specs.SeenKinds.{seen_kind}
+use Rattle.v1_core.specs.Slots.{kinds_of}
 use Rattle.v1_layout.proofs.kinds.add_all.Given as goal
 
 abbrev pub invariant-loop-next : goal.invariant-loop-next

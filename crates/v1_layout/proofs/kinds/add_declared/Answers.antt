@@ -1,5 +1,5 @@
 use Rattle.std.proofs.Common.{◌≡◌, ap, ◌∙◌}
-use Rattle.p416_rules.specs.Main.{positions_from}
+use Rattle.p416_syntax.specs.Main.{positions_from}
 use Rattle.v1_layout.proofs.Told.{declared_parser, declared_control}
 use Rattle.v1_layout.proofs.kinds.add_declared.Goals as goal
 

@@ -1,8 +1,8 @@
 use Rattle.std.proofs.Common.{◌≡◌, map, drop}
-use Rattle.p416_rules.specs.Declarations.{layouts_of}
-use Rattle.p416_kinds.specs.Seen.{seen_kind}
-use Rattle.v1_frames.specs.Layouts.{no_parts}
-use Rattle.v1_frame_values.specs.Programs.{with_values}
+use Rattle.p416_syntax.specs.Declarations.{layouts_of}
+use Rattle.p416_names.specs.SeenKinds.{seen_kind}
+use Rattle.v1_core.specs.Layouts.{no_parts}
+use Rattle.v1_core.specs.Programs.{with_values}
 use Rattle.v1_layout.proofs.program.layout_of_kinds.Given as goal
 
 abbrev pub invariant-loop-kind : goal.invariant-loop-kind

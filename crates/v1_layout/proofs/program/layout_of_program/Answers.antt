@@ -1,8 +1,8 @@
 use Rattle.std.proofs.Common.{◌≡◌, map, subst, ap, ◌∙◌, IfOk}
-use Rattle.p416_rules.specs.Declarations.{layouts_of}
-use Rattle.p416_kinds.specs.Seen.{seen_kind}
-use Rattle.v1_frames.specs.Layouts.{Layout, no_parts}
-use Rattle.v1_frame_values.specs.Programs.{frame_kinds, with_values, layout16}
+use Rattle.p416_syntax.specs.Declarations.{layouts_of}
+use Rattle.p416_names.specs.SeenKinds.{seen_kind}
+use Rattle.v1_core.specs.Layouts.{Layout, no_parts}
+use Rattle.v1_core.specs.Programs.{frame_kinds, with_values, layout16}
 use Rattle.v1_layout.proofs.program.layout_of_program.Goals as goal
 
 -- src/program.rt:38:1

@@ -1,8 +1,8 @@
 use Rattle.std.proofs.Common.{◌≡◌}
-use Rattle.p416_rules.specs.Declarations.{layouts_of}
-use Rattle.p416_kinds.specs.Seen.{seen_kind}
-use Rattle.v1_frame_values.specs.Seats.{form_of}
-use Rattle.v1_frame_values.specs.Programs.{with_value}
+use Rattle.p416_syntax.specs.Declarations.{layouts_of}
+use Rattle.p416_names.specs.SeenKinds.{seen_kind}
+use Rattle.v1_core.specs.Seats.{form_of}
+use Rattle.v1_core.specs.Programs.{with_value}
 use Rattle.v1_layout.specs.Left.{laid_out, steps}
 use Rattle.v1_layout.proofs.values.add_value.Given as goal
 

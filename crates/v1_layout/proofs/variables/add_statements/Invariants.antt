@@ -1,9 +1,9 @@
 use Rattle.std.proofs.Common.{◌≡◌, ◌++◌, map, length}
 use Rattle.std.specs.Prelude.{filter_map}
-use Rattle.p416_kinds.specs.Seen.{seen_kind}
+use Rattle.p416_names.specs.SeenKinds.{seen_kind}
 use Rattle.p416_scopes.specs.Seen.{seen_scope}
 use Rattle.p416_visits.specs.Left.{left_in, scope_behind}
-use Rattle.v1_sem.specs.Slots.{visited_kind, kinds_in}
+use Rattle.v1_core.specs.Slots.{visited_kind, kinds_in}
 use Rattle.v1_layout.proofs.variables.add_statements.Given as goal
 
 abbrev pub invariant-loop-visits : goal.invariant-loop-visits

@@ -1,8 +1,8 @@
 use Rattle.std.proofs.Common.{◌≡◌, ◌++◌, map, drop}
 use Rattle.std.specs.Prelude.{flat_map}
-use Rattle.p416_kinds.specs.Seen.{seen_kind}
+use Rattle.p416_names.specs.SeenKinds.{seen_kind}
 use Rattle.p416_scopes.specs.Seen.{seen_scope}
-use Rattle.v1_sem.specs.Slots.{state_kinds}
+use Rattle.v1_core.specs.Slots.{state_kinds}
 use Rattle.v1_layout.proofs.variables.add_states.Given as goal
 
 abbrev pub invariant-loop-state : goal.invariant-loop-state

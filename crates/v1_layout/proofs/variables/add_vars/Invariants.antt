@@ -1,7 +1,7 @@
 use Rattle.std.proofs.Common.{◌≡◌, ◌++◌, map, drop}
-use Rattle.p416_kinds.specs.Seen.{seen_kind}
+use Rattle.p416_names.specs.SeenKinds.{seen_kind}
 use Rattle.p416_scopes.specs.Seen.{seen_scope}
-use Rattle.v1_sem.specs.Slots.{var_kind}
+use Rattle.v1_core.specs.Slots.{var_kind}
 use Rattle.v1_layout.proofs.variables.add_vars.Given as goal
 
 abbrev pub invariant-loop-var : goal.invariant-loop-var

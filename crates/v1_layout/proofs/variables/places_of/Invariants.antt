@@ -1,5 +1,5 @@
 use Rattle.std.proofs.Common.{◌≡◌, ◌++◌, drop}
-use Rattle.p416_rules.specs.Main.{positions_from}
+use Rattle.p416_syntax.specs.Main.{positions_from}
 use Rattle.v1_layout.proofs.variables.places_of.Given as goal
 
 abbrev pub invariant-loop-block : goal.invariant-loop-block

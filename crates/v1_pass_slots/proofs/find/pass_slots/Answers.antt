@@ -1,7 +1,7 @@
 use Rattle.std.proofs.Common.{ℕ, ◌+◌, List, length, ap, ◌∙◌, subst}
-use Rattle.p416_ast.specs.declared.program.Decl16.{Decl16}
-use Rattle.p416_rules.specs.Declarations.{layouts_of}
-use Rattle.p416_kinds.specs.Seen.{seen_kind}
+use Rattle.p416_syntax.specs.declared.program.Decl16.{Decl16}
+use Rattle.p416_syntax.specs.Declarations.{layouts_of}
+use Rattle.p416_names.specs.SeenKinds.{seen_kind}
 use Rattle.v1_pass_slots.specs.declared.slots.PassSlots.{PassSlots}
 use Rattle.v1_pass_slots.specs.Found.{IsMetadata}
 use Rattle.v1_pass_slots.proofs.Found.{slots_found}

@@ -1,6 +1,6 @@
 use Rattle.std.proofs.Common.{◌≡◌, ◌++◌, drop}
 use Rattle.std.specs.Prelude.{flat_map}
-use Rattle.p416_rules.specs.Declarations.{list_numbers}
+use Rattle.p416_syntax.specs.Declarations.{list_numbers}
 use Rattle.v1_pass_slots.specs.Lists.{small_numbers}
 use Rattle.v1_pass_slots.proofs.lists.lists_of.Given as goal
 

@@ -1,5 +1,5 @@
 use Rattle.std.proofs.Common.{◌≡◌, ◌++◌, map, drop}
-use Rattle.p416_rules.specs.Unknown.{declared_name}
+use Rattle.p416_syntax.specs.Unknown.{declared_name}
 use Rattle.v1_pass_slots.proofs.structs.names_of.Given as goal
 
 abbrev pub invariant-loop-decl : goal.invariant-loop-decl

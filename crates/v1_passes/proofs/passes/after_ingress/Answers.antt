@@ -1,6 +1,6 @@
 use Rattle.std.proofs.Common.{sym, ap, ◌∙◌}
-use Rattle.v1_sem.specs.Values.{Value}
-use Rattle.v1_frames.specs.Cells.{Cells}
+use Rattle.v1_core.specs.Values.{Value}
+use Rattle.v1_core.specs.Cells.{Cells}
 use Rattle.v1_packets.specs.Packets.{packet_frame}
 use Rattle.v1_passes.specs.Tags.{Tagged}
 use Rattle.v1_passes.specs.internal.Steps.{kept_by}

@@ -1,6 +1,6 @@
 use Rattle.std.proofs.Common.{◌%◌, ◌^◌, ap, ◌∙◌}
 use Rattle.fabric.specs.Fabric.{Whole}
-use Rattle.v1_sem.specs.Passes.{Between}
+use Rattle.v1_core.specs.Passes.{Between}
 use Rattle.v1_passes.specs.Runs.{between_of}
 use Rattle.v1_passes.proofs.Ends.{between_same}
 use Rattle.v1_passes.proofs.Twins.{run_of}

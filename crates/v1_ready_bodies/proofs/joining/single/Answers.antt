@@ -1,5 +1,5 @@
 use Rattle.std.proofs.Common.{sym, ap, ◌∙◌}
-use Rattle.p416_kinds.specs.Seen.{seen_kind}
+use Rattle.p416_names.specs.SeenKinds.{seen_kind}
 use Rattle.p416_scopes.specs.Seen.{seen_scope}
 use Rattle.v1_ready_program.specs.Seen.{seen_seats}
 use Rattle.v1_ready_statements.specs.Statements.{assignment_ready, initial_ready, start_ready, ready_of_statement}

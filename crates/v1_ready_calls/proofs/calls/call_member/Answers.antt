@@ -1,11 +1,11 @@
 use Rattle.std.proofs.Common.{option_map, ap, ◌∙◌}
-use Rattle.p416_rules.specs.Kinds.{Kind}
-use Rattle.p416_rules.specs.Uses.{arguments_of}
+use Rattle.p416_syntax.specs.Kinds.{Kind}
+use Rattle.p416_syntax.specs.Uses.{arguments_of}
 use Rattle.p416_scopes.specs.Seen.{seen_scope}
 use Rattle.v1_ready_blocks.specs.Statements.{does}
 use Rattle.v1_ready_program.specs.Seen.{seen_seats}
 use Rattle.v1_ready_statements.specs.Called.{method_deed}
-use Rattle.v1_ready_calls.specs.Callees.{around_of}
+use Rattle.v1_ready_operands.specs.Callees.{around_of}
 use Rattle.v1_ready_calls.proofs.calls.call_member.Goals as goal
 
 pub returns-clause-statement : goal.returns-clause-statement

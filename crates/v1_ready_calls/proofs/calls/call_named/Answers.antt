@@ -1,10 +1,10 @@
 use Rattle.std.proofs.Common.{ap, ◌∙◌}
-use Rattle.p416_rules.specs.Uses.{arguments_of}
-use Rattle.p416_rules.specs.Scopes.{Sort}
+use Rattle.p416_syntax.specs.Uses.{arguments_of}
+use Rattle.p416_syntax.specs.Scopes.{Sort}
 use Rattle.p416_scopes.specs.Seen.{seen_scope}
 use Rattle.v1_ready_program.specs.Seen.{seen_seats}
 use Rattle.v1_ready_statements.specs.Called.{named_statement}
-use Rattle.v1_ready_calls.specs.Callees.{around_of}
+use Rattle.v1_ready_operands.specs.Callees.{around_of}
 use Rattle.v1_ready_calls.proofs.calls.call_named.Goals as goal
 
 pub returns-clause-statement : goal.returns-clause-statement

@@ -1,10 +1,10 @@
 use Rattle.std.proofs.Common.{sym, ap, ◌∙◌}
-use Rattle.p416_ast.specs.Tree.{Exp16}
-use Rattle.p416_ast.specs.Tree as tree
+use Rattle.p416_syntax.specs.Tree.{Exp16}
+use Rattle.p416_syntax.specs.Tree as tree
 use Rattle.p416_scopes.specs.Seen.{seen_scope}
 use Rattle.v1_ready_program.specs.Seen.{seen_seats}
 use Rattle.v1_ready_statements.specs.Called.{call_ready}
-use Rattle.v1_ready_calls.specs.Callees.{around_of}
+use Rattle.v1_ready_operands.specs.Callees.{around_of}
 use Rattle.v1_ready_calls.proofs.calls.call_of.Goals as goal
 
 pub call_by_head-requires-clause-whole : goal.call_by_head-requires-clause-whole

@@ -1,7 +1,7 @@
 use Rattle.std.proofs.Common.{ap, ◌∙◌}
 use Rattle.p416_scopes.specs.Seen.{seen_scope}
 use Rattle.v1_ready_program.specs.Seen.{seen_seats}
-use Rattle.v1_ready_calls.specs.Callees.{around_of}
+use Rattle.v1_ready_operands.specs.Callees.{around_of}
 use Rattle.v1_ready_calls.specs.internal.Calls.{ready_by}
 use Rattle.v1_ready_calls.proofs.Calling.{expression_is}
 use Rattle.v1_ready_calls.proofs.calls.ready_call.Goals as goal

@@ -2,7 +2,7 @@ use Rattle.std.proofs.Common.{sym, subst, ◌∙◌}
 use Rattle.p416_scopes.specs.Seen.{seen_scope}
 use Rattle.v1_ready_program.specs.Seen.{seen_seats}
 use Rattle.v1_ready_tables.specs.Tables.{AreNames}
-use Rattle.v1_ready_controls.proofs.Joining.{control_is}
+use Rattle.v1_ready_locals.proofs.Joining.{control_is}
 use Rattle.v1_ready_controls.proofs.Standing.{around_is, callees_are, names_are}
 use Rattle.v1_ready_controls.proofs.control.parts_of.Goals as goal
 

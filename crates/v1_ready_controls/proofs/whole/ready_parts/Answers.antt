@@ -6,13 +6,13 @@ use Rattle.v1_ready_nodes.proofs.Growing.{grows_further}
 use Rattle.v1_ready_statements.specs.Statements.{ready_of_statement}
 use Rattle.v1_ready_statements.specs.Blocks.{all_of, body_ready, parameter_slots}
 use Rattle.v1_block_run.specs.Blocks.{seen_parameters}
-use Rattle.v1_ready_calls.specs.Callees.{seen_action}
+use Rattle.v1_ready_operands.specs.Callees.{seen_action}
 use Rattle.v1_ready_bodies.specs.Seen.{seen_statement}
 use Rattle.v1_ready_bodies.specs.Variables.{variables_ready}
 use Rattle.v1_ready_tables.specs.Seen.{seen_tables}
 use Rattle.v1_ready_tables.specs.Tables.{table_by}
-use Rattle.v1_ready_controls.specs.Seen.{seen_bodies}
-use Rattle.v1_ready_controls.proofs.Joining.{actions_kept, actions_wider, tables_kept, tables_wider, parts_are, tables_here, body_here}
+use Rattle.v1_ready_locals.specs.Seen.{seen_bodies}
+use Rattle.v1_ready_locals.proofs.Joining.{actions_kept, actions_wider, tables_kept, tables_wider, parts_are, tables_here, body_here}
 use Rattle.v1_ready_controls.proofs.whole.ready_parts.Goals as goal
 
 pub returns-clause-parts : goal.returns-clause-parts

@@ -3,7 +3,7 @@ use Rattle.p416_scopes.specs.Seen.{seen_scope}
 use Rattle.v1_ready_program.specs.Seen.{seen_seats}
 use Rattle.v1_ready_bodies.specs.Seen.{seen_statement}
 use Rattle.v1_ready_bodies.specs.Variables.{variables_ready}
-use Rattle.v1_ready_controls.proofs.Joining.{body_told}
+use Rattle.v1_ready_locals.proofs.Joining.{body_told}
 use Rattle.v1_ready_controls.proofs.whole.whole_body.Goals as goal
 
 pub returns-clause-body : goal.returns-clause-body

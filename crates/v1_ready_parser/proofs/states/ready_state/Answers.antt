@@ -1,5 +1,5 @@
 use Rattle.std.proofs.Common.{ap, ◌∙◌}
-use Rattle.p416_rules.specs.Statements.{behind}
+use Rattle.p416_syntax.specs.Statements.{behind}
 use Rattle.p416_scopes.specs.Seen.{seen_scope}
 use Rattle.v1_ready_program.specs.Seen.{seen_seats}
 use Rattle.v1_ready_selects.specs.Transitions.{transition_ready}

@@ -1,5 +1,5 @@
 use Rattle.std.proofs.Common.{◌≡◌, ◌++◌, map, length}
-use Rattle.p416_kinds.specs.Seen.{seen_kind}
+use Rattle.p416_names.specs.SeenKinds.{seen_kind}
 use Rattle.v1_ready_places.specs.internal.Chains.{seen_left}
 use Rattle.v1_ready_places.proofs.chain.left_kinds.Given as goal
 

@@ -1,7 +1,7 @@
 use Rattle.std.proofs.Common.{◌≡◌, map, option_map, IfOk, sym, ap, subst, ◌∙◌}
-use Rattle.p416_ast.specs.Subtrees.{subexpressions}
-use Rattle.p416_rules.specs.Declarations.{top_names}
-use Rattle.p416_kinds.specs.Seen.{seen_kind}
+use Rattle.p416_syntax.specs.Subtrees.{subexpressions}
+use Rattle.p416_syntax.specs.Declarations.{top_names}
+use Rattle.p416_names.specs.SeenKinds.{seen_kind}
 use Rattle.p416_scopes.specs.Seen.{seen_scope}
 use Rattle.p416_typing.specs.Rows.{left_of}
 use Rattle.v1_ready_program.specs.Seen.{seen_seats}

@@ -1,6 +1,6 @@
 use Rattle.std.proofs.Common.{◌++◌, length, ap, ◌∙◌}
 use Rattle.std.proofs.lemmas.Result.{on_ok_weaker}
-use Rattle.p416_ast.specs.Heads.{of_exp_head}
+use Rattle.p416_syntax.specs.Heads.{of_exp_head}
 use Rattle.v1_ready_program.specs.internal.Ways.{way_at}
 use Rattle.v1_ready_program.specs.internal.Coded.{seen_ways, seen_asks}
 use Rattle.v1_ready_program.specs.internal.Passes.{filled_parts}

@@ -1,5 +1,5 @@
 use Rattle.std.proofs.Common.{refl, ◌∙◌, arith}
-use Rattle.v1_ready_expressions.specs.Kept.{trees}
+use Rattle.v1_core.specs.Kept.{trees}
 use Rattle.v1_ready_program.proofs.Valuing.{built_turn, keeps_more}
 use Rattle.v1_ready_program.proofs.expressions.build.Goals as goal
 

@@ -1,5 +1,5 @@
 use Rattle.std.proofs.Common.{◌≡◌, ◌≤◌, length, map, drop}
-use Rattle.v1_ready_expressions.specs.Kept.{trees}
+use Rattle.v1_core.specs.Kept.{trees}
 use Rattle.v1_ready_program.specs.Seen.{Keeps}
 use Rattle.v1_ready_program.specs.internal.Coded.{seen_plan, seen_values, AreValuesIn}
 use Rattle.v1_ready_program.specs.internal.Passes.{built}

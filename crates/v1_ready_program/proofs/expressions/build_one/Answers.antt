@@ -1,5 +1,5 @@
 use Rattle.std.proofs.Common.{◌∷◌, length, sym, ap, subst, ◌∙◌}
-use Rattle.v1_ready_expressions.specs.Kept.{trees}
+use Rattle.v1_core.specs.Kept.{trees}
 use Rattle.v1_ready_program.specs.internal.Coded.{seen_plan, seen_values, AreValuesIn}
 use Rattle.v1_ready_program.specs.internal.Passes.{parts_in, behind_parts, made}
 use Rattle.v1_ready_program.proofs.Valuing.{values_kept, values_wider}

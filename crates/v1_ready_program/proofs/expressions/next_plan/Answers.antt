@@ -1,8 +1,8 @@
 use Rattle.std.proofs.Common.{◌++◌, length, refl, sym, ap, ◌∙◌}
 use Rattle.node_lists.proofs.Growth as growth
-use Rattle.p416_ast.specs.Heads.{of_exp_head}
-use Rattle.p416_rules.specs.Declarations.{top_names}
-use Rattle.p416_kinds.specs.Seen.{seen_kind}
+use Rattle.p416_syntax.specs.Heads.{of_exp_head}
+use Rattle.p416_syntax.specs.Declarations.{top_names}
+use Rattle.p416_names.specs.SeenKinds.{seen_kind}
 use Rattle.p416_scopes.specs.Seen.{seen_scope}
 use Rattle.p416_typing.specs.Rows.{row_of}
 use Rattle.v1_ready_program.specs.Seen.{seen_seats}

@@ -1,9 +1,9 @@
 use Rattle.std.proofs.Common.{◌≡◌, [], ◌∷◌, length, map, sym, ap, subst, ◌∙◌}
 use Rattle.std.proofs.lemmas.List.{length-map}
-use Rattle.p416_ast.specs.Subtrees.{subexpressions}
+use Rattle.p416_syntax.specs.Subtrees.{subexpressions}
 use Rattle.p416_calls.specs.Seen.{seen_place}
 use Rattle.p416_scopes.specs.Seen.{seen_scope}
-use Rattle.v1_ready_expressions.specs.Kept.{trees}
+use Rattle.v1_core.specs.Kept.{trees}
 use Rattle.v1_ready_forms.specs.Ways.{its_value}
 use Rattle.v1_ready_forms.specs.Expressions.{ready_of_exp}
 use Rattle.v1_ready_program.specs.Seen.{seen_seats}

@@ -1,5 +1,5 @@
 use Rattle.std.proofs.Common.{◌≡◌, ◌++◌, map, drop}
-use Rattle.p416_kinds.specs.Seen.{seen_kind}
+use Rattle.p416_names.specs.SeenKinds.{seen_kind}
 use Rattle.v1_ready_selects.specs.Rows.{rows_of_cases}
 use Rattle.v1_ready_selects.proofs.cases.rows_of_cases.Given as goal
 

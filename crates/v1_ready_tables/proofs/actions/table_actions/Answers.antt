@@ -1,7 +1,7 @@
 use Rattle.std.proofs.Common.{map, filter_map, ap, ◌∙◌}
-use Rattle.p416_kinds.specs.Seen.{referred}
+use Rattle.p416_names.specs.SeenKinds.{referred}
 use Rattle.p416_scopes.specs.Seen.{seen_scope}
-use Rattle.v1_sem.specs.Signatures.{in_order}
+use Rattle.v1_core.specs.Signatures.{in_order}
 use Rattle.v1_ready_statements.specs.Blocks.{all_of}
 use Rattle.v1_ready_tables.specs.internal.Listed.{seen_listed, listed_in, row_plane, number_among}
 use Rattle.v1_ready_tables.proofs.Telling.{numbers_are, placed_are}

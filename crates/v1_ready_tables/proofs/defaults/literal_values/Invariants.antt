@@ -1,6 +1,6 @@
 use Rattle.std.proofs.Common.{◌≡◌, ◌++◌, map, length}
-use Rattle.p416_rules.specs.Totals.{size_value}
-use Rattle.p416_rules.specs.Uses.{arguments_of}
+use Rattle.p416_syntax.specs.Totals.{size_value}
+use Rattle.p416_syntax.specs.Uses.{arguments_of}
 use Rattle.v1_ready_tables.proofs.defaults.literal_values.Given as goal
 
 abbrev pub invariant-loop-argument : goal.invariant-loop-argument

@@ -1,5 +1,5 @@
 use Rattle.std.proofs.Common.{sym, ap, ◌∙◌}
-use Rattle.p416_ast.specs.Heads.{of_exp_head}
+use Rattle.p416_syntax.specs.Heads.{of_exp_head}
 use Rattle.v1_ready_tests.specs.internal.Coded.{all_over}
 use Rattle.v1_ready_tests.specs.internal.Passes.{behind_made}
 use Rattle.v1_ready_tests.proofs.made.take_parts.Goals as goal

@@ -1,7 +1,7 @@
 use Rattle.std.proofs.Common.{◌≡◌, [], ◌∷◌, length, map, sym, ap, ◌∙◌}
 use Rattle.std.proofs.lemmas.List.{length-map}
 use Rattle.name_numbers.specs.Names.{find_name}
-use Rattle.p416_ast.specs.Subtrees.{subexpressions}
+use Rattle.p416_syntax.specs.Subtrees.{subexpressions}
 use Rattle.p416_calls.specs.Seen.{seen_place}
 use Rattle.p416_scopes.specs.Seen.{seen_scope}
 use Rattle.v1_ready_forms.specs.Ways.{its_value}

@@ -1,6 +1,6 @@
 use Rattle.std.proofs.Common.{◌≡◌, ◌++◌, map, drop}
-use Rattle.p416_rules.specs.Expressions.{kind_of}
-use Rattle.p416_kinds.specs.Seen.{seen_kind}
+use Rattle.p416_syntax.specs.Expressions.{kind_of}
+use Rattle.p416_names.specs.SeenKinds.{seen_kind}
 use Rattle.p416_scopes.specs.Seen.{seen_scope}
 use Rattle.v1_ready_transitions.proofs.transitions.key_kinds.Given as goal
 

@@ -1,10 +1,10 @@
 use Rattle.std.proofs.Common.{◌≡◌, ◌+◌, ◌<◌, Some, option_map, map, drop, length, sym, ap, subst, ◌∙◌, arith}
 use Rattle.std.specs.Prelude.{IfSome}
 use Rattle.std.proofs.lemmas.List.Elements.{All-push}
-use Rattle.p416_rules.specs.Calls.{select_key}
+use Rattle.p416_syntax.specs.Calls.{select_key}
 use Rattle.p416_scopes.specs.Seen.{seen_scope}
-use Rattle.v1_ready_expressions.specs.Nodes.{ready_at}
-use Rattle.v1_ready_expressions.specs.Kept.{trees}
+use Rattle.v1_core.specs.Nodes.{ready_at}
+use Rattle.v1_core.specs.Kept.{trees}
 use Rattle.v1_ready_forms.specs.Expressions.{ready_of_exp}
 use Rattle.v1_ready_program.specs.Seen.{seen_seats}
 use Rattle.v1_ready_program.proofs.Valuing.{keeps_more}

@@ -1,7 +1,7 @@
 use Rattle.std.proofs.Common.{◌≡◌, length, map, drop}
 use Rattle.p416_scopes.specs.Seen.{seen_scope}
-use Rattle.v1_ready_expressions.specs.Nodes.{ready_at}
-use Rattle.v1_ready_expressions.specs.Kept.{trees}
+use Rattle.v1_core.specs.Nodes.{ready_at}
+use Rattle.v1_core.specs.Kept.{trees}
 use Rattle.v1_ready_program.specs.Seen.{seen_seats, Keeps}
 use Rattle.v1_ready_selects.specs.Selects.{ArePlaces}
 use Rattle.v1_ready_selects.specs.Transitions.{keys_ready}

@@ -1,5 +1,5 @@
 use Rattle.std.proofs.Common.{◌≡◌, drop}
-use Rattle.v1_sem.specs.Blocks.{control_called}
+use Rattle.v1_core.specs.Blocks.{control_called}
 use Rattle.v1_ready_whole.proofs.blocks.control_called.Given as goal
 
 abbrev pub invariant-loop-decl : goal.invariant-loop-decl

@@ -1,6 +1,6 @@
 use Rattle.std.proofs.Common.{◌≡◌, ◌++◌, map, filter_map, drop}
-use Rattle.p416_rules.specs.Declarations.{table_in}
-use Rattle.p416_rules.specs.Tables.{table_plane}
+use Rattle.p416_syntax.specs.Declarations.{table_in}
+use Rattle.p416_syntax.specs.Tables.{table_plane}
 use Rattle.v1_ready_whole.proofs.names.add_tables.Given as goal
 
 abbrev pub invariant-loop-local : goal.invariant-loop-local

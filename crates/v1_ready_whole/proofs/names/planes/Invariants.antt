@@ -1,5 +1,5 @@
 use Rattle.std.proofs.Common.{◌≡◌, ◌++◌, map, flat_map, drop}
-use Rattle.p416_rules.specs.Tables.{table_plane, tables_of}
+use Rattle.p416_syntax.specs.Tables.{table_plane, tables_of}
 use Rattle.v1_ready_whole.proofs.names.planes.Given as goal
 
 abbrev pub invariant-loop-decl : goal.invariant-loop-decl

@@ -1,5 +1,5 @@
 use Rattle.std.proofs.Common.{◌≡◌, ◌++◌, map, drop}
-use Rattle.v1_ready_controls.specs.Owned.{seen_own}
+use Rattle.v1_ready_locals.specs.Owned.{seen_own}
 use Rattle.v1_ready_whole.specs.internal.Counted.{counted}
 use Rattle.v1_ready_whole.proofs.parser.own_variables.Given as goal
 

@@ -1,5 +1,5 @@
 use Rattle.std.proofs.Common.{map, ap, ◌∙◌}
-use Rattle.p416_rules.specs.Main.{positions_from}
+use Rattle.p416_syntax.specs.Main.{positions_from}
 use Rattle.v1_block_laws.specs.Variables.{parser_roots, own_names}
 use Rattle.v1_block_seats.specs.Seen.{seen_variable}
 use Rattle.v1_ready_forms.specs.Named.{seats_in}

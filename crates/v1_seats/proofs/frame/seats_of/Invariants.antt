@@ -1,6 +1,6 @@
 use Rattle.std.proofs.Common.{◌≡◌, ◌++◌, map, drop}
-use Rattle.p416_kinds.specs.Seen.{seen_kind}
-use Rattle.v1_frame_values.specs.Programs.{first_start}
+use Rattle.p416_names.specs.SeenKinds.{seen_kind}
+use Rattle.v1_core.specs.Programs.{first_start}
 use Rattle.v1_seats.specs.Seen.{seen_start, seen_seat}
 use Rattle.v1_seats.specs.Frame.{seats_from}
 use Rattle.v1_seats.proofs.frame.seats_of.Given as goal

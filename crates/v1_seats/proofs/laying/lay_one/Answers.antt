@@ -1,6 +1,6 @@
 use Rattle.std.proofs.Common.{List, map, subst, ap, ◌∙◌, IfOk}
-use Rattle.p416_rules.specs.Scopes.{fields_in}
-use Rattle.v1_frame_values.specs.Seats.{Form}
+use Rattle.p416_syntax.specs.Scopes.{fields_in}
+use Rattle.v1_core.specs.Seats.{Form}
 use Rattle.v1_seats.specs.internal.Rows.{form_of_kind, IsLaid, name_at}
 use Rattle.v1_seats.proofs.Naming.{forms_named}
 use Rattle.v1_seats.proofs.laying.lay_one.Goals as goal

@@ -1,5 +1,5 @@
 use Rattle.std.proofs.Common.{length, refl, arith}
-use Rattle.p416_rules.specs.Scopes.{fields_in}
+use Rattle.p416_syntax.specs.Scopes.{fields_in}
 use Rattle.v1_seats.specs.Seen.{seen_start}
 use Rattle.v1_seats.proofs.Stepping.{element_there}
 use Rattle.v1_seats.proofs.members.element_of.Goals as goal

@@ -1,7 +1,7 @@
 use Rattle.std.proofs.Common.{subst}
-use Rattle.p416_rules.specs.Scopes.{fields_in}
-use Rattle.p416_kinds.specs.Seen.{seen_kind}
-use Rattle.v1_frame_values.specs.Seats.{form_of}
+use Rattle.p416_syntax.specs.Scopes.{fields_in}
+use Rattle.p416_names.specs.SeenKinds.{seen_kind}
+use Rattle.v1_core.specs.Seats.{form_of}
 use Rattle.v1_seats.specs.Seen.{seen_start}
 use Rattle.v1_seats.specs.internal.Rows.{Finds}
 use Rattle.v1_seats.proofs.Stepping.{field_there}

@@ -1,5 +1,5 @@
 use Rattle.std.proofs.Common.{◌-◌, map, subst, arith}
-use Rattle.p416_rules.specs.Scopes.{fields_in}
+use Rattle.p416_syntax.specs.Scopes.{fields_in}
 use Rattle.v1_seats.specs.Seen.{seen_start}
 use Rattle.v1_seats.specs.internal.Rows.{Finds}
 use Rattle.v1_seats.proofs.Stepping.{member_missing, member_there}

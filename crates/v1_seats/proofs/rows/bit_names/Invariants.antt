@@ -1,5 +1,5 @@
 use Rattle.std.proofs.Common.{◌≡◌, ◌++◌, map, drop}
-use Rattle.p416_rules.specs.Declarations.{field_name}
+use Rattle.p416_syntax.specs.Declarations.{field_name}
 use Rattle.v1_seats.proofs.rows.bit_names.Given as goal
 
 abbrev pub invariant-loop-field : goal.invariant-loop-field

@@ -1,5 +1,5 @@
 use Rattle.std.proofs.Common.{◌+◌, map, take, sym, subst, arith}
-use Rattle.p416_rules.specs.Declarations.{layouts_of}
+use Rattle.p416_syntax.specs.Declarations.{layouts_of}
 use Rattle.v1_seats.specs.internal.Rows.{AreRows}
 use Rattle.v1_seats.proofs.Turns.{row_turn}
 use Rattle.v1_seats.proofs.rows.rows_of.Goals as goal

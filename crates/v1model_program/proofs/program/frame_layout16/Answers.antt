@@ -1,7 +1,7 @@
 use Rattle.std.proofs.Common.{◌≡◌, IfOk, subst}
-use Rattle.p416_ast.specs.declared.program.Syntax16.{Syntax16}
-use Rattle.v1_frames.specs.Layouts.{Layout}
-use Rattle.v1_frame_values.specs.Programs.{layout16}
+use Rattle.p416_syntax.specs.declared.program.Syntax16.{Syntax16}
+use Rattle.v1_core.specs.Layouts.{Layout}
+use Rattle.v1_core.specs.Programs.{layout16}
 use Rattle.v1model_program.proofs.program.frame_layout16.Goals as goal
 
 pub returns : goal.returns

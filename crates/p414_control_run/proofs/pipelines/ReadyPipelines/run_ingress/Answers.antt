@@ -1,5 +1,5 @@
 use Rattle.std.proofs.Common.{ap, ◌∙◌}
-use Rattle.p414_rules.specs.ControlExpansion.{control_number, ingress}
+use Rattle.p414_syntax.specs.ControlExpansion.{control_number, ingress}
 use Rattle.p414_ready_tables.specs.Loaded.{Loaded}
 use Rattle.p414_control_run.proofs.pipelines.ReadyPipelines.run_ingress.Goals as goal
 

@@ -1,5 +1,5 @@
 use Rattle.std.proofs.Common.{◌≡◌, map, take}
-use Rattle.p414_rules.specs.Fields.{field_bits}
+use Rattle.p414_syntax.specs.Fields.{field_bits}
 use Rattle.p414_layout.specs.Placed.{place_width, ArePlaced}
 use Rattle.p414_layout.proofs.fields.FieldPlaces.new.Given as goal
 

@@ -1,4 +1,4 @@
-use Rattle.p414_ast.specs.References.{referred}
+use Rattle.p414_syntax.specs.References.{referred}
 use Rattle.p414_names.proofs.Sets.{added_by}
 use Rattle.p414_names.proofs.name_set.NameSet.add.Goals as goal
 

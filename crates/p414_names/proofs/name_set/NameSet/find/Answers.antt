@@ -1,7 +1,7 @@
 use Rattle.std.proofs.Common.{◌∙◌, sym, ap}
 use Rattle.std.specs.Str.{bytes_eq}
-use Rattle.p414_ast.specs.References.{referred}
-use Rattle.p414_rules.specs.Names.{find_name}
+use Rattle.p414_syntax.specs.References.{referred}
+use Rattle.p414_syntax.specs.Names.{find_name}
 use Rattle.p414_names.proofs.Sets.{position_map}
 use Rattle.p414_names.proofs.name_set.NameSet.find.Goals as goal
 

@@ -1,7 +1,7 @@
 use Rattle.std.proofs.Common.{◌∙◌, sym, ap}
 use Rattle.std.specs.Str.{bytes_eq}
-use Rattle.p414_ast.specs.References.{referred}
-use Rattle.p414_rules.specs.Names.{has_name}
+use Rattle.p414_syntax.specs.References.{referred}
+use Rattle.p414_syntax.specs.Names.{has_name}
 use Rattle.p414_names.proofs.Sets.{any_map}
 use Rattle.p414_names.proofs.name_set.NameSet.has.Goals as goal
 

@@ -1,4 +1,4 @@
-use Rattle.p414_ast.specs.Views.{length_is}
+use Rattle.p414_syntax.specs.Views.{length_is}
 use Rattle.std.proofs.lemmas.Result.{on_ok_weaker}
 use Rattle.p414_reader.proofs.Kept.{tail_over}
 use Rattle.p414_reader.proofs.forest.Forest.add_length.Goals as goal

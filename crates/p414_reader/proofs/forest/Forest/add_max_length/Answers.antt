@@ -1,4 +1,4 @@
-use Rattle.p414_ast.specs.Views.{max_length_is}
+use Rattle.p414_syntax.specs.Views.{max_length_is}
 use Rattle.std.proofs.lemmas.Result.{on_ok_weaker}
 use Rattle.p414_reader.proofs.Kept.{tail_over}
 use Rattle.p414_reader.proofs.forest.Forest.add_max_length.Goals as goal

@@ -1,4 +1,4 @@
-use Rattle.p414_ast.specs.Tree.{apply_branches}
+use Rattle.p414_syntax.specs.Tree.{apply_branches}
 use Rattle.std.proofs.lemmas.Result.{on_ok_weaker}
 use Rattle.p414_reader.proofs.Kept.{stmt_over}
 use Rattle.p414_reader.proofs.forest.Forest.apply_branches.Goals as goal

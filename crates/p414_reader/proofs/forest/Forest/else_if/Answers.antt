@@ -1,4 +1,4 @@
-use Rattle.p414_ast.specs.Tree.{else_if}
+use Rattle.p414_syntax.specs.Tree.{else_if}
 use Rattle.std.proofs.lemmas.Result.{on_ok_weaker}
 use Rattle.p414_reader.proofs.Kept.{stmt_over}
 use Rattle.p414_reader.proofs.forest.Forest.else_if.Goals as goal

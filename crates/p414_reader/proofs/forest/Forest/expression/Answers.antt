@@ -1,5 +1,5 @@
 use Rattle.std.proofs.Common.{ap, ◌∷◌, ◌∙◌}
-use Rattle.p414_ast.specs.Tree.{Expr}
+use Rattle.p414_syntax.specs.Tree.{Expr}
 use Rattle.std.proofs.lemmas.Result.{on_ok_weaker}
 use Rattle.p414_reader.proofs.Kept.{with_exprs, leaf_of}
 use Rattle.p414_reader.proofs.forest.Forest.expression.Goals as goal

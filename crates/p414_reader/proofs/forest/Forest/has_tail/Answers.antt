@@ -1,10 +1,10 @@
 use Rattle.std.proofs.Common.{◌≡◌, List, [], ◌∷◌, map, refl, ap, ap₂, ◌∙◌}
-use Rattle.p414_ast.specs.declared.headers.TypeTail.{TypeTail}
-use Rattle.p414_ast.specs.declared.headers.TypeTail.TheVariants.{Length, MaxLength}
-use Rattle.p414_ast.specs.Tree.{Trees}
-use Rattle.p414_ast.specs.Views.{tail_tree}
-use Rattle.p414_ast.specs.Written.{tail_word}
-use Rattle.p414_ast.specs.Conditions.{is_among}
+use Rattle.p414_syntax.specs.declared.headers.TypeTail.{TypeTail}
+use Rattle.p414_syntax.specs.declared.headers.TypeTail.TheVariants.{Length, MaxLength}
+use Rattle.p414_syntax.specs.Tree.{Trees}
+use Rattle.p414_syntax.specs.Views.{tail_tree}
+use Rattle.p414_syntax.specs.Written.{tail_word}
+use Rattle.p414_syntax.specs.Conditions.{is_among}
 use Rattle.predictive_parser.specs.Values.{newest}
 use Rattle.p414_reader.specs.internal.Forest.{Rooted, tail_text}
 use Rattle.p414_reader.proofs.Kept.{map_newest}

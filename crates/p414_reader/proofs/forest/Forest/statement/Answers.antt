@@ -1,5 +1,5 @@
 use Rattle.std.proofs.Common.{ap, ◌∷◌, ◌∙◌}
-use Rattle.p414_ast.specs.Tree.{Stmt}
+use Rattle.p414_syntax.specs.Tree.{Stmt}
 use Rattle.std.proofs.lemmas.Result.{on_ok_weaker}
 use Rattle.p414_reader.proofs.Kept.{with_stmts, stmt_leaf_of}
 use Rattle.p414_reader.proofs.forest.Forest.statement.Goals as goal

@@ -1,5 +1,5 @@
 use Rattle.std.proofs.Common.{arith}
-use Rattle.p414_ast.specs.Tree as tree
+use Rattle.p414_syntax.specs.Tree as tree
 use Rattle.std.proofs.lemmas.Result.{on_ok_weaker}
 use Rattle.p414_reader.proofs.Kept.{stmt_over_two}
 use Rattle.p414_reader.proofs.forest.Forest.then.Goals as goal

@@ -1,4 +1,4 @@
-use Rattle.p414_ast.specs.Tree.{unary}
+use Rattle.p414_syntax.specs.Tree.{unary}
 use Rattle.std.proofs.lemmas.Result.{on_ok_weaker}
 use Rattle.p414_reader.proofs.Kept.{over_one}
 use Rattle.p414_reader.proofs.forest.Forest.unary.Goals as goal

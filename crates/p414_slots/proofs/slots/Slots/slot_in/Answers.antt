@@ -1,5 +1,5 @@
 use Rattle.std.proofs.Common.{ap, ◌∙◌}
-use Rattle.p414_rules.specs.Names.{Name}
+use Rattle.p414_syntax.specs.Names.{Name}
 use Rattle.p414_slots.specs.Shown.{kept_slot}
 use Rattle.p414_slots.specs.internal.Found.{ref_to, slot_found}
 use Rattle.p414_slots.proofs.Finding.{slot_kept}

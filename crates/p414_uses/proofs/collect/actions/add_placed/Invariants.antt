@@ -1,6 +1,6 @@
 use Rattle.std.proofs.Common.{◌≡◌, ◌++◌, map, drop}
-use Rattle.p414_rules.specs.Names.{has_name}
-use Rattle.p414_rules.specs.Uses.{uses_of_args}
+use Rattle.p414_syntax.specs.Names.{has_name}
+use Rattle.p414_syntax.specs.Uses.{uses_of_args}
 use Rattle.p414_uses.specs.Shown.{shown_use}
 use Rattle.p414_uses.proofs.collect.actions.add_placed.Given as goal
 

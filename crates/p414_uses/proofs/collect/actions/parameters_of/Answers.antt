@@ -1,5 +1,5 @@
 use Rattle.std.proofs.Common.{◌≡◌, ◌||◌, ◌∙◌, ◌∷◌, ◌+◌, List, drop, sym, ap}
-use Rattle.p414_rules.specs.Names.{Name, has_name}
+use Rattle.p414_syntax.specs.Names.{Name, has_name}
 use Rattle.p414_uses.proofs.Adding.{kept_on, next_name}
 use Rattle.p414_uses.proofs.collect.actions.parameters_of.Goals as goal
 

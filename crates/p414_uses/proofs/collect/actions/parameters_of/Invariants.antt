@@ -1,5 +1,5 @@
 use Rattle.std.proofs.Common.{◌≡◌, ◌||◌, drop}
-use Rattle.p414_rules.specs.Names.{Name, has_name}
+use Rattle.p414_syntax.specs.Names.{Name, has_name}
 use Rattle.p414_uses.proofs.collect.actions.parameters_of.Given as goal
 
 abbrev pub invariant-loop-name : goal.invariant-loop-name

@@ -1,6 +1,6 @@
 use Rattle.std.proofs.Common.{◌≡◌, ◌++◌, map, drop}
 use Rattle.std.specs.List.{flat_map}
-use Rattle.p414_rules.specs.Uses.{uses_of_item}
+use Rattle.p414_syntax.specs.Uses.{uses_of_item}
 use Rattle.p414_uses.specs.Shown.{shown_use}
 use Rattle.p414_uses.proofs.collect.lists.add_items.Given as goal
 

@@ -1,5 +1,5 @@
 use Rattle.std.proofs.Common.{◌≡◌, ◌++◌, map, drop}
-use Rattle.p414_rules.specs.Uses.{of_sort}
+use Rattle.p414_syntax.specs.Uses.{of_sort}
 use Rattle.p414_uses.specs.Shown.{shown_use}
 use Rattle.p414_uses.proofs.collect.lists.add_names.Given as goal
 

@@ -1,5 +1,5 @@
 use Rattle.std.proofs.Common.{◌≡◌, ◌++◌, map, drop, None}
-use Rattle.p414_rules.specs.Uses.{uses_of_statements}
+use Rattle.p414_syntax.specs.Uses.{uses_of_statements}
 use Rattle.std.proofs.Common.{option_copied}
 use Rattle.p414_uses.specs.Shown.{shown_use}
 use Rattle.p414_uses.proofs.collect.parsers.add_statements.Given as goal

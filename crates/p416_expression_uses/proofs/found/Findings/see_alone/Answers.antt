@@ -1,6 +1,6 @@
 use Rattle.std.specs.Prelude.{map, option_to_list}
 use Rattle.std.specs.Option.{option_map}
-use Rattle.p416_kinds.specs.Seen.{referred}
+use Rattle.p416_names.specs.SeenKinds.{referred}
 use Rattle.p416_calls.specs.Seen.{seen_place}
 use Rattle.p416_scopes.specs.Seen.{seen_scope}
 use Rattle.p416_expression_uses.specs.Seen.{seen_counted}

@@ -1,6 +1,6 @@
 use Rattle.std.proofs.Common.{◌∙◌, sym, ap}
 use Rattle.std.specs.Str.{bytes_eq}
-use Rattle.p416_rules.specs.Names.{has_name}
+use Rattle.p416_syntax.specs.Names.{has_name}
 use Rattle.p416_name_set.proofs.Sets.{any_map}
 use Rattle.p416_name_set.proofs.name_set.NameSet.has.Goals as goal
 

@@ -1,5 +1,5 @@
 use Rattle.std.proofs.Common.{sym, ◌∙◌}
-use Rattle.p416_rules.specs.Declarations.{top_names}
+use Rattle.p416_syntax.specs.Declarations.{top_names}
 use Rattle.p416_names.proofs.Found.{declared_there}
 use Rattle.p416_names.proofs.top.Top.declared.Goals as goal
 

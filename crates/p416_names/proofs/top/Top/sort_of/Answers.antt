@@ -1,6 +1,6 @@
 use Rattle.std.proofs.Common.{sym, ap, ◌∙◌}
 use Rattle.std.specs.Option.{option_map}
-use Rattle.p416_rules.specs.Declarations.{top_names}
+use Rattle.p416_syntax.specs.Declarations.{top_names}
 use Rattle.p416_names.specs.Seen.{seen_sort}
 use Rattle.p416_names.proofs.Found.{declared_past, built_in_past}
 use Rattle.p416_names.proofs.top.Top.sort_of.Goals as goal

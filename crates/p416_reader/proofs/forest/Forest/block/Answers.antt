@@ -1,4 +1,4 @@
-use Rattle.p416_ast.specs.Tree as tree
+use Rattle.p416_syntax.specs.Tree as tree
 use Rattle.std.proofs.lemmas.Result.{on_ok_weaker}
 use Rattle.p416_reader.proofs.Kept.{stmt_over}
 use Rattle.p416_reader.proofs.forest.Forest.block.Goals as goal

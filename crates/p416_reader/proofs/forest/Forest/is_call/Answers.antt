@@ -1,5 +1,5 @@
 use Rattle.std.proofs.Common.{sym, ap, ◌∙◌}
-use Rattle.p416_ast.specs.Conditions.{is_call}
+use Rattle.p416_syntax.specs.Conditions.{is_call}
 use Rattle.p416_reader.specs.internal.Actions.{first_exp}
 use Rattle.p416_reader.specs.internal.Forest.{Rooted}
 use Rattle.p416_reader.proofs.Newest.{newest_below, newest_exp}

@@ -1,5 +1,5 @@
 use Rattle.std.proofs.Common.{arith}
-use Rattle.p416_ast.specs.Tree as tree
+use Rattle.p416_syntax.specs.Tree as tree
 use Rattle.std.proofs.lemmas.Result.{on_ok_weaker}
 use Rattle.p416_reader.proofs.Kept.{over_two}
 use Rattle.p416_reader.proofs.forest.Forest.lookahead.Goals as goal

@@ -1,5 +1,5 @@
 use Rattle.std.proofs.Common.{ap, ◌∷◌, ◌∙◌}
-use Rattle.p416_ast.specs.Tree.{Stmt16}
+use Rattle.p416_syntax.specs.Tree.{Stmt16}
 use Rattle.std.proofs.lemmas.Result.{on_ok_weaker}
 use Rattle.p416_reader.proofs.Kept.{with_stmts, stmt_leaf_of}
 use Rattle.p416_reader.proofs.forest.Forest.statement.Goals as goal

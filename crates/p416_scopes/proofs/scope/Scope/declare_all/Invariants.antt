@@ -1,6 +1,6 @@
 use Rattle.std.proofs.Common.{◌≡◌, map, reverse, length, take}
-use Rattle.p416_rules.specs.Scopes.{inside}
-use Rattle.p416_rules.specs.Declarations.{top_names}
+use Rattle.p416_syntax.specs.Scopes.{inside}
+use Rattle.p416_syntax.specs.Declarations.{top_names}
 use Rattle.p416_scopes.specs.Seen.{seen_scope, seen_declared}
 use Rattle.p416_scopes.proofs.scope.Scope.declare_all.Given as goal
 

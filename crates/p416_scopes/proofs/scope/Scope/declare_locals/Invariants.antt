@@ -1,6 +1,6 @@
 use Rattle.std.proofs.Common.{◌≡◌, map, reverse}
-use Rattle.p416_rules.specs.Scopes.{inside}
-use Rattle.p416_rules.specs.Declarations.{top_names, known_local}
+use Rattle.p416_syntax.specs.Scopes.{inside}
+use Rattle.p416_syntax.specs.Declarations.{top_names, known_local}
 use Rattle.p416_scopes.specs.Seen.{seen_scope}
 use Rattle.p416_scopes.proofs.scope.Scope.declare_locals.Given as goal
 

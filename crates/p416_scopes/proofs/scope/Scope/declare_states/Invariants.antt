@@ -1,6 +1,6 @@
 use Rattle.std.proofs.Common.{◌≡◌, map, reverse}
-use Rattle.p416_rules.specs.Scopes.{inside}
-use Rattle.p416_rules.specs.Declarations.{known_state}
+use Rattle.p416_syntax.specs.Scopes.{inside}
+use Rattle.p416_syntax.specs.Declarations.{known_state}
 use Rattle.p416_scopes.specs.Seen.{seen_scope}
 use Rattle.p416_scopes.proofs.scope.Scope.declare_states.Given as goal
 

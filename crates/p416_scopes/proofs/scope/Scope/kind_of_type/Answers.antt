@@ -1,6 +1,6 @@
 use Rattle.std.proofs.Common.{ap, ◌∙◌}
-use Rattle.p416_rules.specs.Declarations.{top_names}
-use Rattle.p416_rules.specs.Scopes.{sort_in}
+use Rattle.p416_syntax.specs.Declarations.{top_names}
+use Rattle.p416_syntax.specs.Scopes.{sort_in}
 use Rattle.p416_names.specs.Seen.{kind_of_named}
 use Rattle.p416_names.proofs.Found.{named_type}
 use Rattle.p416_scopes.specs.Seen.{seen_scope}

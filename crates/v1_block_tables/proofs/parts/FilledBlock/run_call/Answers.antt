@@ -1,4 +1,4 @@
-use Rattle.v1_ready_steps.specs.Steps.{ground_of}
+use Rattle.v1_statement_run.specs.Steps.{ground_of}
 use Rattle.v1_block_tables.proofs.Arriving.{parameters_over}
 use Rattle.v1_block_tables.proofs.parts.FilledBlock.run_call.Goals as goal
 

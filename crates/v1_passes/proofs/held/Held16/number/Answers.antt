@@ -1,5 +1,5 @@
 use Rattle.std.proofs.Common.{◌<◌, length, subst, sym, ap, ◌∙◌}
-use Rattle.v1_frames.specs.Cells.{Cells, slot_value}
+use Rattle.v1_core.specs.Cells.{Cells, slot_value}
 use Rattle.v1_passes.proofs.Numbers.{slot_in, number_held}
 use Rattle.v1_passes.proofs.held.Held16.number.Goals as goal
 

@@ -1,6 +1,6 @@
 use Rattle.std.proofs.Common.{◌<◌, ◌^◌, length, subst, sym, ap, ◌∙◌}
 use Rattle.std.specs.Prelude.{slice_index}
-use Rattle.v1_frames.specs.Cells.{Cells, with_slot}
+use Rattle.v1_core.specs.Cells.{Cells, with_slot}
 use Rattle.v1_passes.proofs.Numbers.{slot_in, number_fits, number_left}
 use Rattle.v1_passes.proofs.held.Held16.put.Goals as goal
 

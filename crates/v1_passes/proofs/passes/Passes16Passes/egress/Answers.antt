@@ -1,5 +1,5 @@
 use Rattle.std.proofs.Common.{option_map, subst, ap, ◌∙◌}
-use Rattle.v1_frames.specs.Cells.{Cells}
+use Rattle.v1_core.specs.Cells.{Cells}
 use Rattle.v1_packets.specs.Packets.{packet_frame, egress_begun}
 use Rattle.v1_passes.specs.Moments.{moment_at}
 use Rattle.v1_passes.specs.Runs.{between_of}

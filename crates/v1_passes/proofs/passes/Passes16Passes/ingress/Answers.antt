@@ -1,5 +1,5 @@
 use Rattle.std.proofs.Common.{option_map, sym, ap, ◌∙◌}
-use Rattle.v1_frames.specs.Cells.{Cells}
+use Rattle.v1_core.specs.Cells.{Cells}
 use Rattle.v1_passes.specs.Runs.{between_of}
 use Rattle.v1_passes.specs.internal.Steps.{clone_kept}
 use Rattle.v1_packets.specs.Packets.{packet_frame}

@@ -1,5 +1,5 @@
 use Rattle.std.proofs.Common.{sym, ap, ◌∙◌}
-use Rattle.v1_frames.specs.Cells.{Cells}
+use Rattle.v1_core.specs.Cells.{Cells}
 use Rattle.v1_packets.specs.Packets.{packet_frame}
 use Rattle.v1_passes.specs.Runs.{between_of}
 use Rattle.v1_passes.proofs.Ends.{fits_at, between_same, reparse_gives}

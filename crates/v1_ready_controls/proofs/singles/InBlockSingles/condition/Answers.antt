@@ -1,6 +1,6 @@
 use Rattle.std.proofs.Common.{ap, ◌∙◌}
-use Rattle.p416_rules.specs.Kinds.{boolean}
-use Rattle.p416_rules.specs.Calls.{value}
+use Rattle.p416_syntax.specs.Kinds.{boolean}
+use Rattle.p416_syntax.specs.Calls.{value}
 use Rattle.p416_scopes.specs.Seen.{seen_scope}
 use Rattle.v1_ready_program.specs.Seen.{seen_seats}
 use Rattle.v1_ready_statements.specs.Around.{table_found}

@@ -1,6 +1,6 @@
 use Rattle.std.proofs.Common.{◌≡◌, map, drop}
-use Rattle.v1_ready_expressions.specs.Nodes.{ready_at}
-use Rattle.v1_ready_expressions.specs.Kept.{trees}
+use Rattle.v1_core.specs.Nodes.{ready_at}
+use Rattle.v1_core.specs.Kept.{trees}
 use Rattle.v1_ready_selects.specs.Selects.{keys_of}
 use Rattle.v1_ready_selects.specs.Seen.{seen_scalars, behind}
 use Rattle.v1_ready_selects.proofs.selects.SelectKeys.evaluate.Given as goal

@@ -1,5 +1,5 @@
 use Rattle.std.proofs.Common.{sym, ap, ◌∙◌, slice_get}
-use Rattle.p416_rules.specs.Declarations.{layouts_of}
+use Rattle.p416_syntax.specs.Declarations.{layouts_of}
 use Rattle.v1_seats.proofs.Naming.{row_at}
 use Rattle.v1_seats.proofs.rows.Rows.at.Goals as goal
 

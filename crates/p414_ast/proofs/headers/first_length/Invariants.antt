@@ -1,8 +1,0 @@
-use Rattle.std.proofs.Common.{◌≡◌, drop, map}
-use Rattle.p414_ast.specs.Views.{tail_tree}
-use Rattle.p414_ast.specs.Attributes.{length_of}
-use Rattle.p414_ast.proofs.headers.first_length.Given as goal
-
-abbrev pub invariant-loop-tail : goal.invariant-loop-tail
-invariant-loop-tail l =
-    length_of (map (tail_tree l.nodes) (drop l.tail-index l.tails)) ≡ length_of (map (tail_tree l.nodes) l.tails)

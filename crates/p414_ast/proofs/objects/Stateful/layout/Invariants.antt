@@ -1,6 +1,0 @@
-use Rattle.std.proofs.Common.{◌≡◌, drop}
-use Rattle.p414_ast.specs.Attributes.{layout_of}
-use Rattle.p414_ast.proofs.objects.Stateful.layout.Given as goal
-
-abbrev pub invariant-loop-attribute : goal.invariant-loop-attribute
-invariant-loop-attribute l = layout_of (drop l.attribute-index l.self.attributes) ≡ layout_of l.self.attributes

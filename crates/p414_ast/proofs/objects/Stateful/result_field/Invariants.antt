@@ -1,6 +1,0 @@
-use Rattle.std.proofs.Common.{◌≡◌, drop}
-use Rattle.p414_ast.specs.Attributes.{result_field_of}
-use Rattle.p414_ast.proofs.objects.Stateful.result_field.Given as goal
-
-abbrev pub invariant-loop-attribute : goal.invariant-loop-attribute
-invariant-loop-attribute l = result_field_of (drop l.attribute-index l.self.attributes) ≡ result_field_of l.self.attributes

@@ -1,6 +1,0 @@
-use Rattle.std.proofs.Common.{◌≡◌, drop}
-use Rattle.p414_ast.specs.Attributes.{actions_of}
-use Rattle.p414_ast.proofs.tables.Table.actions.Given as goal
-
-abbrev pub invariant-loop-attribute : goal.invariant-loop-attribute
-invariant-loop-attribute l = actions_of (drop l.attribute-index l.self.attributes) ≡ actions_of l.self.attributes

@@ -1,6 +1,0 @@
-use Rattle.std.proofs.Common.{◌≡◌, drop}
-use Rattle.p414_ast.specs.Attributes.{min_size_of}
-use Rattle.p414_ast.proofs.tables.Table.min_size.Given as goal
-
-abbrev pub invariant-loop-attribute : goal.invariant-loop-attribute
-invariant-loop-attribute l = min_size_of (drop l.attribute-index l.self.attributes) ≡ min_size_of l.self.attributes

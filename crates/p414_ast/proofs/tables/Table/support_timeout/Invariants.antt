@@ -1,6 +1,0 @@
-use Rattle.std.proofs.Common.{◌≡◌, drop}
-use Rattle.p414_ast.specs.Attributes.{support_timeout_of}
-use Rattle.p414_ast.proofs.tables.Table.support_timeout.Given as goal
-
-abbrev pub invariant-loop-attribute : goal.invariant-loop-attribute
-invariant-loop-attribute l = support_timeout_of (drop l.attribute-index l.self.attributes) ≡ support_timeout_of l.self.attributes

@@ -1,0 +1,4 @@
+pub mod AllMarks
+pub mod Grow
+pub mod Spelt
+pub mod Blocks

@@ -1,0 +1,6 @@
+use Rattle.std.proofs.Common.{◌≡◌, drop}
+use Rattle.p414_syntax.specs.Attributes.{is_signed_of}
+use Rattle.p414_syntax.proofs.objects.Stateful.is_signed.Given as goal
+
+abbrev pub invariant-loop-attribute : goal.invariant-loop-attribute
+invariant-loop-attribute l = is_signed_of (drop l.attribute-index l.self.attributes) ≡ is_signed_of l.self.attributes

@@ -1,0 +1,6 @@
+use Rattle.std.proofs.Common.{◌≡◌, drop}
+use Rattle.p414_syntax.specs.Attributes.{default_action_of}
+use Rattle.p414_syntax.proofs.tables.Table.default_action.Given as goal
+
+abbrev pub invariant-loop-attribute : goal.invariant-loop-attribute
+invariant-loop-attribute l = default_action_of (drop l.attribute-index l.self.attributes) ≡ default_action_of l.self.attributes

@@ -1,2 +1,0 @@
-pub mod NodeTrees
-pub mod Grouping

@@ -1,6 +1,0 @@
-use Rattle.std.proofs.Common.{◌≡◌, drop}
-use Rattle.p416_ast.specs.Properties.{name_note_of}
-use Rattle.p416_ast.proofs.parts.name_note.Given as goal
-
-abbrev pub invariant-loop-note : goal.invariant-loop-note
-invariant-loop-note l = name_note_of (drop l.note-index l.notes) ≡ name_note_of l.notes

@@ -1,2 +1,0 @@
--- What private functions name.
-pub mod Parts

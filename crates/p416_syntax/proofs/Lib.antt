@@ -1,0 +1,3 @@
+pub mod AllMarks
+pub mod NodeTrees
+pub mod Grouping

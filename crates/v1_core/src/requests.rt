@@ -1,0 +1,50 @@
+// What a block asks for.
+ghost use Rattle.std.specs.Prelude.{◌≡◌};
+ghost use Rattle.v1_core.specs.internal.Parts.{request_in, with_request_in};
+
+use fabric::RequestKind;
+
+/// The last request of each kind: the session of a clone, which is 0 for another kind, and the field list.
+#[derive(Clone, Copy, Drop)]
+pub struct Requests {
+    pub clone_i2e: Option<(u32, u8)>,
+    pub clone_e2e: Option<(u32, u8)>,
+    pub resubmit: Option<(u32, u8)>,
+    pub recirculate: Option<(u32, u8)>,
+}
+
+/// The last request of a kind.
+pub fn get(requests: Requests, kind: RequestKind) -> Option<(u32, u8)>
+    ensures { result ≡ request_in requests kind }
+{
+    match kind {
+        RequestKind::CloneI2E => requests.clone_i2e,
+        RequestKind::CloneE2E => requests.clone_e2e,
+        RequestKind::Resubmit => requests.resubmit,
+        RequestKind::Recirculate => requests.recirculate,
+    }
+}
+
+/// The requests with another one of a kind.
+pub fn with(requests: Requests, kind: RequestKind, request: Option<(u32, u8)>) -> Requests
+    ensures { result ≡ with_request_in requests kind request }
+{
+    match kind {
+        RequestKind::CloneI2E => Requests {
+            clone_i2e: request,
+            ..requests
+        },
+        RequestKind::CloneE2E => Requests {
+            clone_e2e: request,
+            ..requests
+        },
+        RequestKind::Resubmit => Requests {
+            resubmit: request,
+            ..requests
+        },
+        RequestKind::Recirculate => Requests {
+            recirculate: request,
+            ..requests
+        },
+    }
+}

@@ -1,0 +1,2 @@
+-- What private functions and proofs name.
+pub mod Looked

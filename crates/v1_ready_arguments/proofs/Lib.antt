@@ -1,2 +1,0 @@
-mod Arguing
-pub mod Giving

@@ -1,4 +1,0 @@
-mod Coming
-mod Assigning
-mod Heading
-mod Calling

@@ -1,1 +1,0 @@
--- What statements without others in them do is said by `done` of v1_ready_blocks.

@@ -1,4 +1,0 @@
-mod Cutting
-mod Keeping
-mod Elements
-mod Looking

@@ -1,0 +1,13 @@
+use Rattle.std.proofs.Common.{option_map, ap, ◌∙◌}
+use Rattle.p416_syntax.specs.Uses.{arguments_of}
+use Rattle.p416_scopes.specs.Seen.{seen_scope}
+use Rattle.v1_ready_blocks.specs.Statements.{does}
+use Rattle.v1_ready_program.specs.Seen.{seen_seats}
+use Rattle.v1_ready_operands.proofs.Naming.{update_at}
+use Rattle.v1_ready_functions.proofs.functions.call_update.Goals as goal
+
+pub returns-clause-statement : goal.returns-clause-statement
+returns-clause-statement c =
+    let s = seen_scope c.args.around.scope.now in
+    let seats = seen_seats c.args.around.seats.now in
+    c.in_ok-statement.ensures.statement ∙ ap (option_map does) (update_at c.args.callees c.requires.callees s seats (arguments_of c.args.given.now) c.args.payload)

@@ -1,0 +1,5 @@
+pub mod Owning
+mod Leaving
+mod Acting
+pub mod Starting
+pub mod Joining

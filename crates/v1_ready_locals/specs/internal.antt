@@ -1,0 +1,2 @@
+-- What private functions name.
+pub mod Zipped

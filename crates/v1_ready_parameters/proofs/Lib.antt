@@ -1,3 +1,0 @@
-mod Leaving
-mod Entering
-mod Turning

@@ -1,2 +1,0 @@
--- How a parameter is brought in.
-pub mod Bringing

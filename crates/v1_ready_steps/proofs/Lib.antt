@@ -1,4 +1,0 @@
-mod Reading
-mod Testing
-mod Sourcing
-mod Passing

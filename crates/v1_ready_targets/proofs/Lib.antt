@@ -1,5 +1,0 @@
-mod Cutting
-mod Turns
-mod Packing
-mod Joining
-mod Windows

@@ -1,6 +1,0 @@
-use Rattle.v1_ready_blocks.specs.Places.{made_invalid}
-use Rattle.v1_ready_targets.proofs.Turns.{Making}
-use Rattle.v1_ready_targets.proofs.ranges.make_invalid.Given as goal
-
-abbrev pub invariant-loop-i : goal.invariant-loop-i
-invariant-loop-i l = Making made_invalid l.count l.from l.i l.fn.frame l.frame

@@ -1,3 +1,0 @@
--- What calls ask of the parts of a frame.
-pub mod Parts
-pub mod Windows

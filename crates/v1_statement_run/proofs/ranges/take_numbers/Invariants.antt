@@ -1,0 +1,6 @@
+use Rattle.v1_ready_blocks.specs.Places.{number_taken}
+use Rattle.v1_statement_run.proofs.Turns.{Taking}
+use Rattle.v1_statement_run.proofs.ranges.take_numbers.Given as goal
+
+abbrev pub invariant-loop-i : goal.invariant-loop-i
+invariant-loop-i l = Taking number_taken l.count l.from l.to l.i l.source l.fn.frame l.frame
