@@ -1,0 +1,28 @@
+-- What primitives do one after another, under both rules.
+use Rattle.std.specs.Prelude.{ℕ, List, [], ◌∷◌, map}
+use Rattle.p414_syntax.specs.declared.syntax.Decl.{Decl}
+use Rattle.p414_syntax.specs.declared.syntax.Rule14.{Rule14}
+use Rattle.p414_syntax.specs.declared.syntax.Rule14.TheVariants.{Sequential, Parallel}
+use Rattle.p414_syntax.specs.Arguments.{Invocation}
+use Rattle.p414_sem.specs.Expanded.{Expanded}
+use Rattle.p414_sem.specs.Operations.{Primitive, primitive_of}
+use Rattle.p414_sem.specs.Effects.{Moment as Moment14, effects, all_fallen}
+
+abbrev pub after : List Decl → List ℕ → Moment14 → Primitive → Moment14 → Moment14
+after ds arguments r p m = all_fallen m (effects ds arguments r p)
+
+abbrev pub after_sequence : List Decl → List ℕ → List Primitive → Moment14 → Moment14
+after_sequence ds arguments [] m = m
+after_sequence ds arguments (p ∷ ps) m = after_sequence ds arguments ps (after ds arguments m p m)
+
+abbrev pub after_parallel : List Decl → List ℕ → Moment14 → List Primitive → Moment14 → Moment14
+after_parallel ds arguments r [] m = m
+after_parallel ds arguments r (p ∷ ps) m = after_parallel ds arguments r ps (after ds arguments r p m)
+
+abbrev pub after_rule : List Decl → Rule14 → List ℕ → List Primitive → Moment14 → Moment14
+after_rule ds Sequential arguments ps m = after_sequence ds arguments ps m
+after_rule ds Parallel arguments ps m = after_parallel ds arguments m ps m
+
+-- what the calls of primitives are
+abbrev pub primitives_of : List Decl → Expanded → List Invocation → List Primitive
+primitives_of ds x all = map (primitive_of ds x) all

@@ -1,0 +1,37 @@
+-- Types and fields: Members, Types, TypesFit, Headers, Octets, Totals, Cells. Names at the top and in controls: Found, Lookups, Order, Lines, Listed,
+-- Apart, Variables. Objects and tables: Objects, Numbers, Tables, TablesFit, Signatures. Blocks: Parser, Initials, States, Controls, Pipelines, Whole.
+pub mod Members
+pub mod Accepted
+pub mod Types
+pub mod Preserved
+pub mod TypesFit
+pub mod Found
+pub mod Initials
+pub mod States
+pub mod Parser
+pub mod Order
+pub mod Objects
+pub mod Numbers
+pub mod Controls
+pub mod Listed
+pub mod Whole
+pub mod Apart
+pub mod Lookups
+pub mod Lines
+pub mod Tables
+pub mod Pipelines
+pub mod Variables
+pub mod Texts
+pub mod Signatures
+pub mod Rules
+pub mod Cells
+pub mod Totals
+pub mod Octets
+pub mod Ordered
+pub mod Headers
+pub mod Keeps
+pub mod Counters
+pub mod TableSignatures
+pub mod Keys
+pub mod Fitting
+pub mod TablesFit

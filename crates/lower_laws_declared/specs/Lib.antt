@@ -1,0 +1,7 @@
+-- Read StateLayout first: the layout and the words of a program. Parser: the states that are written. Objects: objects by number.
+-- Controls: what a control declares, and the parts of a program. Rules: what the rules of P4_16 ask of declarations.
+pub mod Layout
+pub mod Parser
+pub mod Objects
+pub mod Controls
+pub mod Rules

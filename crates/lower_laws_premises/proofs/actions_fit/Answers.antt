@@ -1,0 +1,5 @@
+use Rattle.lower_laws_premises.proofs.Laws as laws
+use Rattle.lower_laws_premises.proofs.actions_fit.Goals as goal
+
+pub returns : goal.returns
+returns c = laws.actions_fit

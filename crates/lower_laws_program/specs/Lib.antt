@@ -1,0 +1,9 @@
+-- Program is what is put together; TypesFit what the types give; Fits what all parts give, and what a program carries. Scopes, Controls and
+-- Frames: what blocks see. Laws: what is proved.
+pub mod Program
+pub mod TypesFit
+pub mod Scopes
+pub mod Fits
+pub mod Controls
+pub mod Frames
+pub mod Laws

@@ -1,0 +1,34 @@
+-- Instances and writes: States, Instances, Writing, Effects. What actions, controls and the parser keep: Folds, Keeping, Parsing, Passes, Preserved.
+-- What is there and how wide it is: Members, Named, Widths, Standing, Premises. Bounds: Bounded, Enough. Tables: Filling, Chosen, Tables.
+pub mod States
+pub mod Instances
+pub mod Writing
+pub mod Named
+pub mod Folds
+pub mod Effects
+pub mod Tables
+pub mod Bits
+pub mod Parsing
+pub mod Reading
+pub mod Preserved
+pub mod Passes
+pub mod Members
+pub mod Expansion
+pub mod Rules
+pub mod Declared
+pub mod Written
+pub mod Used
+pub mod Placed
+pub mod Accepted
+pub mod Keeping
+pub mod Writable
+pub mod Smaller
+pub mod Enough
+pub mod Bounded
+pub mod Standing
+pub mod Premises
+pub mod Filling
+pub mod Chosen
+pub mod Widths
+pub mod Items
+pub mod Whole

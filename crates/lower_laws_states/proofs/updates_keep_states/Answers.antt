@@ -1,0 +1,5 @@
+use Rattle.lower_laws_states.proofs.Whole as laws
+use Rattle.lower_laws_states.proofs.updates_keep_states.Goals as goal
+
+pub returns : goal.returns
+returns c = laws.updates_keep_states

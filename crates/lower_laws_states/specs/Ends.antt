@@ -1,0 +1,33 @@
+-- What a pass hands on: held values and preserved sets of the program, and octets, ports and sessions that fit.
+use Rattle.std.specs.Prelude.{List, ◌<◌, ◌^◌, All, IfSome}
+use Rattle.p4x_bits.specs.BitLists.{IsOctets}
+use Rattle.state_store.specs.Ports.{IsPort}
+use Rattle.fabric.specs.declared.items.IngressEnd.{IngressEnd}
+use Rattle.fabric.specs.declared.items.IngressNext.{IngressNext}
+use Rattle.fabric.specs.declared.items.IngressNext.TheVariants as after_ingress
+use Rattle.fabric.specs.declared.items.EgressEnd.{EgressEnd}
+use Rattle.fabric.specs.declared.items.EgressNext.{EgressNext}
+use Rattle.fabric.specs.declared.items.EgressNext.TheVariants as after_egress
+use Rattle.p414_syntax.specs.declared.syntax.Decl.{Decl}
+use Rattle.p414_sem.specs.Fitting.{IsHeld, IsPreserved, FitsEvent}
+use Rattle.p414_sem.specs.Passes.{Preserved, Held, Ended}
+
+abbrev pub FitsNext : List Decl → IngressNext Preserved Held → Type 0
+FitsNext ds (after_ingress.Resubmit q) = IsPreserved ds q
+FitsNext ds after_ingress.Drop = Unit {0}
+FitsNext ds (after_ingress.Go port held) = IsPort port × IsHeld ds held
+
+pub record FitsIngressEnd (ds : List Decl) (e : Ended (IngressEnd Preserved Held)) : Type 0 where
+  pub clone : IfSome e.answer.clone (λ c. (c.0 < 2 ^ 32) × IsPreserved ds c.1)
+  pub next : FitsNext ds e.answer.next
+  pub events : All FitsEvent e.events
+
+abbrev pub FitsLeaving : List Decl → EgressNext Preserved → Type 0
+FitsLeaving ds after_egress.Drop = Unit {0}
+FitsLeaving ds (after_egress.Recirculate octets q) = IsOctets octets × IsPreserved ds q
+FitsLeaving ds (after_egress.Send octets) = IsOctets octets
+
+pub record FitsEgressEnd (ds : List Decl) (e : Ended (EgressEnd Preserved Held)) : Type 0 where
+  pub clone : IfSome e.answer.clone (λ c. (c.0 < 2 ^ 32) × IsHeld ds c.1)
+  pub end : FitsLeaving ds e.answer.end
+  pub events : All FitsEvent e.events

@@ -1,0 +1,6 @@
+-- Read Sums first, what is written for calculated fields; Alike is what passes ask of all controls; Whole what is asked of the blocks that verify
+-- and update; Laws what is proved.
+pub mod Sums
+pub mod Alike
+pub mod Whole
+pub mod Laws
