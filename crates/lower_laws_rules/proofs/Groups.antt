@@ -49,7 +49,7 @@ use Rattle.p416_syntax.specs.Statements.{behind, visits, visit_uses, own_uses, l
 use Rattle.p416_syntax.specs.Unknown.{is_unknown_member}
 use Rattle.p416_syntax.specs.Declarations.{parameter_name, layouts_of, list_numbers, note_uses, field_width, struct_field_uses, instance_uses, object_uses, var_uses, parameter_uses, body_uses, target_name, target_uses, simple_uses, keyset_parts, compared_uses, with_keys, case_uses, transition_uses, state_uses, parser_scope, action_scope, action_uses, is_exact, key_uses, declared_name, action_name_uses, parameters_of, default_place, given_uses, defaults_of, table_uses, control_scope, local_uses, declaration_uses}
 use Rattle.p416_syntax.specs.Breaks.{scope_of, uses_in, program_uses}
-use Rattle.lower_laws_rules.specs.Keeping.{Fine, AllFine}
+use Rattle.lower_laws_rules.specs.Keeping.{Fine, AllFine, names_group}
 use Rattle.lower_laws_rules.specs.Whole.{EachKeeps, ProgramKeeps}
 use Rattle.lower_laws_rules.proofs.Lists.{neither}
 use Rattle.lower_laws_rules.proofs.Layouts.{standard_found}
@@ -240,11 +240,6 @@ module _ (layouts : List Layout) where
       let roots = flat_map (parameter_uses s of_block_parameter) c.parameters in
       let locals = flat_map (local_uses (control_scope s c)) c.locals in
       (tt, (tt, two (roots ++ locals) (body_uses (control_scope s c) 1 c.body) (two roots locals (params_have s of_block_parameter c.parameters) (flat (local_uses (control_scope s c)) (local_has (control_scope s c) is) c.locals)) (body_has (control_scope s c) is 1 c.body)))
-
--- a member `mcast_grp` of standard metadata
-abbrev pub names_group : Use → Bool
-names_group (an_expression s p (member e word)) = is_same_kind standard (kind_of s e) && bytes_eq word (codes "mcast_grp")
-names_group u = false
 
 same_is : (k : Kind) → is_same_kind standard k ≡ true → k ≡ standard
 same_is (struct b) e = ap (λ (t : Name). struct t) (sym ((bytes_eq-Decides standard_name b).0 e))

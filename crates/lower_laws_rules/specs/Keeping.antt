@@ -1,9 +1,11 @@
 -- That what is judged breaks no rule, all rules together.
-use Rattle.std.specs.Prelude.{◌≡◌, ℕ, ◌≤◌, Bool, true, false, not, ◌&&◌, List, [], ◌∷◌, flat_map, None, nat_lt}
+use Rattle.std.specs.Prelude.{codes, ◌≡◌, ℕ, ◌≤◌, Bool, true, false, not, ◌&&◌, List, [], ◌∷◌, flat_map, None, nat_lt}
+use Rattle.std.specs.Str.{bytes_eq}
 use Rattle.std.specs.List.{list_any}
-use Rattle.p416_syntax.specs.Tree.{Exp16, no_arguments, Stmt16}
+use Rattle.p416_syntax.specs.Tree.{Exp16, member, no_arguments, Stmt16}
 use Rattle.p416_syntax.specs.Names.{Name}
-use Rattle.p416_syntax.specs.Kinds.{Kind}
+use Rattle.p416_syntax.specs.Kinds.{Kind, is_same_kind}
+use Rattle.p416_syntax.specs.BuiltIn.{standard}
 use Rattle.p416_syntax.specs.Scopes.{Scope}
 use Rattle.p416_syntax.specs.Calls.{Place, literal_of, any_literal, callee}
 use Rattle.p416_syntax.specs.Expressions.{kind_of, can_write}
@@ -45,6 +47,11 @@ abbrev pub is_deep : Use → Bool
 is_deep (an_expression s p e) = nat_lt 400 (depth e)
 is_deep (a_body d) = nat_lt 400 d
 is_deep _ = false
+
+-- a member `mcast_grp` of standard metadata
+abbrev pub names_group : Use → Bool
+names_group (an_expression s p (member e word)) = is_same_kind standard (kind_of s e) && bytes_eq word (codes "mcast_grp")
+names_group u = false
 
 -- so with what T12 asks: nothing nests too deep, and the variables and parameters that its sums count are of these kinds
 pub record Keeps (us : List Use) (held : List Kind) : Type 0 where

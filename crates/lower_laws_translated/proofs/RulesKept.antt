@@ -9,9 +9,9 @@ use Rattle.p416_syntax.specs.Breaks.{BreaksNone, program_rules}
 use Rattle.p416_syntax.specs.Breaks.{program_uses}
 use Rattle.v1_core.specs.Frames.{of_headers, of_metadata}
 use Rattle.lower_laws_program.specs.Program.{Parts, syntax_of, root_struct}
-use Rattle.lower_laws_rules.specs.Keeping.{is_deep}
+use Rattle.lower_laws_rules.specs.Keeping.{is_deep, names_group}
 use Rattle.lower_laws_rules.specs.Whole.{ProgramKeeps}
-use Rattle.lower_laws_rules.proofs.Groups.{names_group, program_unnamed}
+use Rattle.lower_laws_rules.proofs.Groups.{program_unnamed}
 use Rattle.lower_laws_rules.proofs.Program.{program_breaks_none, program_shallow}
 use Rattle.lower_laws_block_rules.specs.Joined.{decl_held}
 use Rattle.std.specs.List.{list_any}

@@ -11,8 +11,7 @@ use Rattle.p414_sem.specs.Expanded.{Expanded, IsExpanded}
 use Rattle.p416_syntax.specs.declared.program.Syntax16.{Syntax16}
 use Rattle.p416_syntax.specs.Breaks.{BreaksNone as BreaksNone16, program_rules as program_rules16, program_uses}
 use Rattle.p416_syntax.specs.Spelt.{is_spelt16}
-use Rattle.lower_laws_rules.specs.Keeping.{is_deep}
-use Rattle.lower_laws_rules.proofs.Groups.{names_group}
+use Rattle.lower_laws_rules.specs.Keeping.{is_deep, names_group}
 use Rattle.lower_laws_program.specs.Program.{syntax_of}
 use Rattle.lower_laws_program.specs.Fits.{Carries}
 use Rattle.lower_laws_translated.specs.Translated.{translated}
