@@ -12,7 +12,7 @@ use state_store::DROP_PORT;
 use std::alloc::Global;
 
 /// A packet that leaves.
-#[derive(Debug, Drop)]
+#[derive(Drop)]
 pub struct Leaving {
     /// The number of its arrival, from 0.
     pub arrival: u64,

@@ -12,6 +12,7 @@ use std::rt::Files;
 const ROW: &str = "row";
 
 /// What is kept from order to order.
+#[derive(Drop)]
 pub struct Rows<'a, 'l, 'r, R> {
     rt: &'r R,
     /// All lines.
@@ -23,18 +24,6 @@ pub struct Rows<'a, 'l, 'r, R> {
     /// A file that outputs are compared with; none where it is empty.
     known: &'a str,
     table: Table<'a>,
-}
-
-impl<'a, 'l, 'r, R: Drop> Drop for Rows<'a, 'l, 'r, R> {
-    fn drop(self) {
-        let Rows {
-            rt: _rt,
-            out: _out,
-            made: _made,
-            known: _known,
-            table: _table,
-        } = self;
-    }
 }
 
 /// Notes the outputs that the words name and that aren't there yet.
