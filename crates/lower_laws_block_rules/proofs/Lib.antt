@@ -46,3 +46,4 @@ pub mod Actions
 pub mod NamesOfControls
 pub mod RuledItems
 pub mod NamesSpelt
+pub mod Whole

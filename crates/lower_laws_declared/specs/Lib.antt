@@ -5,3 +5,4 @@ pub mod Parser
 pub mod Objects
 pub mod Controls
 pub mod Rules
+pub mod Laws
