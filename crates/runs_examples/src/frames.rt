@@ -68,31 +68,52 @@ fn forget(frame: &mut Frame<'_>)
     frame.clear_events();
 }
 
+/// Whether a field of an invalid header isn't written, and one of a valid header is written by itself.
+fn fields_are_written(frame: &mut Frame<'_>) -> bool
+    requires { frame.old.layout ≡ small }
+    ensures { frame.new.layout ≡ frame.old.layout }
+{
+    put(frame, 1, 5);
+    let unwritten = frame.get(1) == 0;
+    mark(frame, 0, true);
+    put(frame, 1, 5);
+    put(frame, 5, 1);
+    let valid = frame.valid(0) && !frame.valid(1) && !frame.valid(2);
+    unwritten && valid && frame.get(0) == 0 && frame.get(1) == 5 && frame.get(2) == 0
+}
+
+/// Whether the slot next to those of a header that becomes invalid isn't one of its fields.
+fn next_slot_stays(frame: &mut Frame<'_>) -> bool
+    requires { frame.old.layout ≡ small }
+    ensures { frame.new.layout ≡ frame.old.layout }
+{
+    mark(frame, 2, true);
+    put(frame, 4, 0xff);
+    mark(frame, 2, false);
+    frame.get(4) == 0 && frame.get(5) == 1
+}
+
+/// Whether a header that is made valid again keeps its fields, and one that was invalid in between doesn't.
+fn fields_begin_with_0(frame: &mut Frame<'_>) -> bool
+    requires { frame.old.layout ≡ small }
+    ensures { frame.new.layout ≡ frame.old.layout }
+{
+    mark(frame, 0, true);
+    let kept = frame.get(1) == 5;
+    mark(frame, 0, false);
+    mark(frame, 0, true);
+    kept && frame.get(1) == 0
+}
+
 /// Whether fields are there exactly where their header is.
 fn fields_follow_their_header(frame: &mut Frame<'_>) -> bool
     requires { frame.old.layout ≡ small }
     ensures { frame.new.layout ≡ frame.old.layout }
 {
-    // A field of an invalid header isn't written.
-    put(frame, 1, 5);
-    let unwritten = frame.get(1) == 0;
-    // A field is written by itself.
-    mark(frame, 0, true);
-    put(frame, 1, 5);
-    put(frame, 5, 1);
-    let valid = frame.valid(0) && !frame.valid(1) && !frame.valid(2);
-    let alone = frame.get(0) == 0 && frame.get(1) == 5 && frame.get(2) == 0;
-    // The slot next to those of a header isn't one of its fields.
-    mark(frame, 2, true);
-    put(frame, 4, 0xff);
-    mark(frame, 2, false);
-    let beside = frame.get(4) == 0 && frame.get(5) == 1;
-    // A header that is made valid again keeps its fields, and one that was invalid in between doesn't.
-    mark(frame, 0, true);
-    let kept = frame.get(1) == 5;
-    mark(frame, 0, false);
-    mark(frame, 0, true);
-    unwritten && valid && alone && beside && kept && frame.get(1) == 0
+    let written = fields_are_written(frame);
+    let stays = next_slot_stays(frame);
+    let begins = fields_begin_with_0(frame);
+    written && stays && begins
 }
 
 /// Whether a frame has header 0 with this in slot 2, this place of its stack, and this request to resubmit.
