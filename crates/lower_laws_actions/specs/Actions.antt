@@ -1,4 +1,5 @@
--- What is asked of an action of a block, as it is written for an action of P4_14 and a table with a direct counter.
+-- What is asked of an action of a block, as it is written for an action of P4_14 and a table with a direct counter
+-- (this project's own; P4_14 1.0.5, "Actions", "Counters"; P4_16 1.2, "Actions"; `v1model.p4`, `direct_counter`).
 use Rattle.std.specs.Prelude.{List, None, Option, Some, true, ℕ, ◌≡◌, [], map, ◌∷◌}
 use Rattle.p414_syntax.specs.declared.syntax.Decl.{Decl}
 use Rattle.p414_syntax.specs.declared.syntax.Rule14.{Rule14}
@@ -20,6 +21,7 @@ use Rattle.lower_laws_actions.specs.Mirror.{body_stmt}
 use Rattle.lower_laws_actions.specs.Runs.{primitives_of}
 use Rattle.v1_core.specs.Frames.{of_headers, of_metadata, of_standard}
 
+-- the table has no direct counter, or it is an object of the block
 abbrev pub CounterIs : Lowering → Option ℕ → Type 0
 CounterIs c None = Unit {0}
 CounterIs c (Some number) = IsObject c direct_counter number

@@ -1,4 +1,5 @@
--- Which primitives a block can have.
+-- Which primitives a block can have (this project's own; P4_14 1.0.5, "Primitive Actions", "Field Lists", "Counters",
+-- "Meters", "Registers"; the bound of 128 bits and the mark of 8 bits are this project's own, too).
 use Rattle.std.specs.Prelude.{◌≡◌, ℕ, ◌<◌, ◌^◌, suc, Bool, true, false, ◌&&◌, pos, negsuc, unwrap_or, Option, Some, None, List, [], ◌∷◌, length}
 use Rattle.fabric.specs.declared.items.RequestKind.{RequestKind}
 use Rattle.fabric.specs.declared.items.RequestKind.TheVariants.{CloneI2E, CloneE2E, Resubmit, Recirculate}
@@ -21,11 +22,13 @@ IsObject c kind object = (object < length c.objects) × ((object_at c.objects ob
 
 -- a literal of at most 128 bits, and one that isn't negative
 
+-- a literal's magnitude is below 2 ^ 128
 abbrev pub IsSmall : Source → Type 0
 IsSmall (number (pos k)) = k < 2 ^ 128
 IsSmall (number (negsuc k)) = suc k < 2 ^ 128
 IsSmall _ = Unit {0}
 
+-- and it isn't negative
 abbrev pub IsNatural : Source → Type 0
 IsNatural (number (pos k)) = k < 2 ^ 128
 IsNatural (number (negsuc k)) = ⊥
@@ -37,10 +40,13 @@ ItemFits c ds (item.Number n) = n.value < 2 ^ unwrap_or n.width 0
 ItemFits c ds (item.Field r) = IsSlot c.layout (slot_of ds r) × (bits_of_ref ds r ≡ width_in (words_of c) (slot_of ds r))
 ItemFits c ds _ = ⊥
 
+-- all items of a hash fit
 abbrev pub ItemsFit : Lowering → List Decl → List Item → Type 0
 ItemsFit c ds [] = Unit {0}
 ItemsFit c ds (i ∷ items) = ItemFits c ds i × ItemsFit c ds items
 
+-- the operands of a term fit, and so do the register and the items that it names; a shift and a hash have no negative
+-- operands
 abbrev pub TermFits : Lowering → List Decl → Term → Type 0
 TermFits c ds (just a) = SourceFits c a
 TermFits c ds (on_mask a mask) = SourceFits c a × SourceFits c mask
@@ -81,6 +87,8 @@ pub record IsStack (c : Lowering) (i : ℕ) : Type 0 where
   pub shown : shown_in c i ≡ as_stack called fields
   pub root : HasRoot c.layout of_headers
 
+-- A primitive names fields, headers, stacks and objects that the block has, with the widths that these have; a header
+-- is copied to one with the same fields, and a stack moves by a number of 32 bits.
 abbrev pub PrimitiveFits : Lowering → List Decl → Primitive → Type 0
 PrimitiveFits c ds (write sums t term) = IsSlot c.layout t.slot × (t.width ≡ width_in (words_of c) t.slot) × TermFits c ds term × KeptFits (sums && t.saturating) term
 PrimitiveFits c ds (add_header part) = IsHeaderPart c.layout part
@@ -94,6 +102,7 @@ PrimitiveFits c ds (push i n) = IsStack c i × (n < 2 ^ 32)
 PrimitiveFits c ds (pop i n) = IsStack c i × (n < 2 ^ 32)
 PrimitiveFits c ds nothing = Unit {0}
 
+-- all these primitives fit
 abbrev pub AllFit : Lowering → List Decl → List Primitive → Type 0
 AllFit c ds [] = Unit {0}
 AllFit c ds (p ∷ ps) = PrimitiveFits c ds p × AllFit c ds ps

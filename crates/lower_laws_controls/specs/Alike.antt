@@ -1,4 +1,6 @@
--- What the statements of a control ask of its tables, and which statements are those of the program.
+-- What the statements of a control ask of its tables, and which statements are those of the program (this project's
+-- own; P4_14 1.0.5, "Packet Processing and Control Flow", "Table Declarations"; P4_16 1.2, "Match-action unit
+-- invocation", "Switch statement").
 use Rattle.std.specs.Prelude.{◌≡◌, Bool, true, false, ◌||◌, List, [], Option, Some, None}
 use Rattle.std.specs.Str.{bytes_eq}
 use Rattle.p414_syntax.specs.declared.node.Label.{Label}
@@ -27,6 +29,7 @@ ActionsAgree copy None None = Unit {0}
 ActionsAgree copy (Some a) (Some q) = copy a ≡ Some q
 ActionsAgree copy _ _ = ⊥
 
+-- what both tables come to: a hit or a miss, the action that ran, and the moment
 pub record AppliedAgrees (g : StateLayout) (aside : Aside) (copy : Name → Option Name) (x : Applied14) (y : Applied) : Type 0 where
   pub hit : y.hit ≡ x.hit
   pub action : ActionsAgree copy x.action y.action
@@ -40,20 +43,24 @@ pub record TableStands (c : Lowering) (s : Scope) (d : Setting14) (k : Plan) (t 
 
 -- branches
 
+-- the same action, or `default` twice
 abbrev pub is_same_label : Label → Label → Bool
 is_same_label (label.Action a) (label.Action b) = bytes_eq a b
 is_same_label label.Default label.Default = true
 is_same_label _ _ = false
 
+-- these branches have this label
 abbrev pub has_same : Label → Stmt → Bool
 has_same l (branch before k body) = is_same_label l k || has_same l before
 has_same l _ = false
 
+-- `hit` or `miss`
 abbrev pub IsOutcome : Label → Type 0
 IsOutcome label.Hit = Unit {0}
 IsOutcome label.Miss = Unit {0}
 IsOutcome _ = ⊥
 
+-- an action or `default`
 abbrev pub IsActionLabel : Label → Type 0
 IsActionLabel label.Default = Unit {0}
 IsActionLabel (label.Action a) = Unit {0}
@@ -66,10 +73,12 @@ LabelFits at_hit before l = IsOutcome l
 LabelFits at_miss before l = IsOutcome l
 LabelFits (at_actions t) before l = IsActionLabel l × (has_same l before ≡ false)
 
+-- statements by themselves
 abbrev pub IsBlock : Way → Type 0
 IsBlock block = Unit {0}
 IsBlock _ = ⊥
 
+-- branches
 abbrev pub IsNotBlock : Way → Type 0
 IsNotBlock block = ⊥
 IsNotBlock _ = Unit {0}

@@ -1,5 +1,6 @@
--- Blocks between which moments stand, the variables with which a block begins and which end with it, and what stands for a
--- control of P4_14.
+-- Blocks between which moments stand, the variables with which a block begins and which end with it, and what stands
+-- for a control of P4_14 (this project's own; P4_14 1.0.5, "Packet Processing and Control Flow"; P4_16 1.2, "Control
+-- blocks", "Variable declarations").
 use Rattle.std.specs.Prelude.{◌≡◌, List, [], None, codes}
 use Rattle.std.specs.List.{AllZip}
 use Rattle.state_store.specs.Ports.{drop_port}
@@ -31,6 +32,7 @@ pub record VariableIs (s : Scope) (v : Var) (l : Local) : Type 0 where
   pub type : Name
   pub struct_is : kind_of_type s.names v.of ≡ struct type
 
+-- the variables of a block, each so
 abbrev pub VariablesAre : Scope → List Var → List Local → Type 0
 VariablesAre s vars ls = AllZip (VariableIs s) vars ls
 

@@ -1,4 +1,5 @@
--- How packets stand between passes, and the store between packets.
+-- How packets stand between passes, and the store between packets (this project's own; P4_14 1.0.5, "Standard Intrinsic
+-- Metadata", "Packet Processing and Control Flow"; `v1model.p4`, `standard_metadata_t`, `V1Switch`).
 use Rattle.std.specs.Prelude.{◌≡◌, ℕ, suc, ◌<◌, ◌^◌, Bool, true, false, List, codes}
 use Rattle.state_store.specs.declared.shapes.Shape.{Shape}
 use Rattle.fabric.specs.Twins.{Fit}
@@ -35,6 +36,7 @@ pub record FrameStands (g : StateLayout) (s : State) (f : Frame) : Type 0 where
 
 -- what is held
 
+-- a packet without an exception: its frame, what wasn't parsed, and the port of its arrival
 pub record HeldAlive (g : StateLayout) (s : State) (k : Held) : Type 0 where
   pub stands : FrameStands g s k.frame
   pub unparsed : k.unparsed ≡ s.unparsed
@@ -46,10 +48,12 @@ pub record HeldFailed (k : Held) : Type 0 where
   pub number : ℕ
   pub error : ErrorIs k.frame (suc number)
 
+-- a packet that failed or didn't
 abbrev pub HeldAs : StateLayout → Bool → State → Held → Type 0
 HeldAs g false s k = HeldAlive g s k
 HeldAs g true s k = HeldFailed k
 
+-- what both programs hold of a packet
 abbrev pub HeldAlike : StateLayout → Held14 → Held → Type 0
 HeldAlike g h k = HeldAs g h.failed h.state k
 
