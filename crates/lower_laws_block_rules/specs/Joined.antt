@@ -1,4 +1,6 @@
--- What is asked of all declarations of a program together, where each keeps the rules by itself.
+-- What is asked of all declarations of a program together, where each keeps the rules by itself (this project's own,
+-- the limits, too; P4_16 1.2, "Derived types", "Tables", "Control-plane API annotations"; `v1model.p4`, the stateful
+-- objects).
 use Rattle.std.specs.Prelude.{◌≡◌, ◌+◌, ◌≤◌, true, false, List, [], map, flat_map, sum_by}
 use Rattle.std.specs.List.{AllByRecursion}
 use Rattle.p416_syntax.specs.declared.program.Decl16.{Decl16}

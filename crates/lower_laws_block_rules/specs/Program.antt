@@ -1,4 +1,6 @@
--- What the rules ask of the blocks of a program that is put together, beside what its meaning asks of them.
+-- What the rules ask of the blocks of a program that is put together, beside what its meaning asks of them (this
+-- project's own, the limits, too; P4_14 1.0.5, "Parser Specification", "Packet Processing and Control Flow", "Checksums
+-- and Hash-value Generators"; P4_16 1.2, "Packet parsing", "Control blocks").
 use Rattle.std.specs.Prelude.{◌≡◌, ℕ, ◌<◌, ◌≤◌, Bool, false, List, ◌∷◌, [], length, map, filter_map}
 use Rattle.std.specs.List.{AllByRecursion}
 use Rattle.p414_syntax.specs.declared.parsers.Parser.{Parser}
@@ -42,6 +44,7 @@ LayoutWide g = (i k : ℕ) → i < length g.names.instances → k < length (fiel
 abbrev pub fixed_roots : RootNames
 fixed_roots = record { packet = packet_called; headers = root_name of_headers; metadata = root_name of_metadata; standard = root_name of_standard }
 
+-- the same as a list
 abbrev pub parser_fixed : List Name
 parser_fixed = packet_called ∷ root_name of_headers ∷ root_name of_metadata ∷ root_name of_standard ∷ []
 

@@ -1,4 +1,5 @@
--- What is asked of the names of the six blocks for them to be spelt.
+-- What is asked of the names of the six blocks for them to be spelt (this project's own; P4_16 1.2, "Lexical
+-- constructs", "P4 grammar").
 use Rattle.std.specs.Prelude.{List, [], ◌∷◌}
 use Rattle.std.specs.List.{AllByRecursion}
 use Rattle.p414_syntax.specs.declared.parsers.Parser.{Parser}
@@ -36,6 +37,7 @@ LocalNamed c ds s k (local.Action a) here = SpeltAction a
 LocalNamed c ds s k (local.Table u) here = TableNamed ds (k.copy here.0.name) (k.table here.0.name) here.1 here.0
 LocalNamed c ds s k (local.Instance notes i) here = Unit {0}
 
+-- all declarations are so
 abbrev pub AllNamed : (c : Lowering) (ds : List Decl) (s : Scope) (k : Plan) (ls : List Local) → AllByRecursion (LocalHere c ds s k) ls → Type 0
 AllNamed c ds s k [] all = Unit {0}
 AllNamed c ds s k (l ∷ ls) all = LocalNamed c ds s k l all.0 × AllNamed c ds s k ls all.1

@@ -1,4 +1,6 @@
--- What the rules ask of the statements of a control, where calls of controls are expanded.
+-- What the rules ask of the statements of a control, where calls of controls are expanded (this project's own, the
+-- limits, too; P4_14 1.0.5, "Packet Processing and Control Flow", "Summary of P4 BNF"; P4_16 1.2, "Statements", "Switch
+-- statement").
 use Rattle.std.specs.Prelude.{◌≡◌, ◌≤◌, true, List, map, Option, Some}
 use Rattle.p414_syntax.specs.Conditions.{StmtPlace, block, statement, behind_if, branches, is_if}
 use Rattle.p414_syntax.specs.Tree.{Stmt, no_statements as nothing14, then as then14, apply, apply_branches, if_then as if14, no_else, else_block, else_if, no_branches, branch}

@@ -1,6 +1,6 @@
--- Which names stay, and what the others become (this project's own). A name that can't stay begins as it did and ends in
--- `_`, a letter, a number and `_`: the letter tells what sort of thing it names, the number which of them. A name that
--- stays never ends in a digit and `_`.
+-- Which names stay, and what the others become (this project's own; P4_14 1.0.5, "Summary of P4 BNF"; P4_16 1.2,
+-- "Lexical constructs"). A name that can't stay begins as it did and ends in `_`, a letter, a number and `_`: the
+-- letter tells what sort of thing it names, the number which of them. A name that stays never ends in a digit and `_`.
 use Rattle.std.specs.Prelude.{ℕ, ◌-◌, Bool, not, ◌&&◌, nat_eq, nat_le, if◌then◌else◌, [], ◌∷◌, ◌++◌, length, take, slice_index, decimal}
 use Rattle.token_division.specs.Octets.{is_decimal}
 use Rattle.p414_syntax.specs.Names.{Name, has_name}

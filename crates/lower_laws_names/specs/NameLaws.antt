@@ -1,4 +1,5 @@
--- Laws of the new names (this project's own). `repeats16` is what the rules of P4_16 ask of the names of a scope.
+-- Laws of the new names (this project's own; P4_16 1.2, "Name resolution", "Lexical constructs"). `repeats16` is what
+-- the rules of P4_16 ask of the names of a scope.
 use Rattle.std.specs.Prelude.{◌≡◌, ◌≢◌, ℕ, ◌^◌, ◌<◌, ◌≤◌, true, false, List, [], ◌∷◌, ◌++◌, length, map, codes}
 use Rattle.std.specs.List.{list_any}
 use Rattle.p414_syntax.specs.SpeltLexemes.{is_identifier}
@@ -37,6 +38,7 @@ pub record SortsDiffer : Type 0 where
 abbrev pub parser_words : List Name
 parser_words = codes "packet" ∷ codes "hdr" ∷ codes "meta" ∷ codes "sm" ∷ []
 
+-- a state of the program has each of these names
 abbrev pub AreStates : List Decl → List Name → Type 0
 AreStates ds [] = Unit {0}
 AreStates ds (n ∷ names) = IsNumbered ds sort.Parse n × AreStates ds names

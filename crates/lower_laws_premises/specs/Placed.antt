@@ -1,4 +1,6 @@
--- In which pipeline an action stands: a table of that pipeline lists it. A table that no pipeline applies counts as one of ingress.
+-- In which pipeline an action stands: a table of that pipeline lists it. A table that no pipeline applies counts as one
+-- of ingress (this project's own; P4_14 1.0.5, "Table Declarations", "Packet Processing and Control Flow";
+-- `v1model.p4`, `V1Switch`).
 use Rattle.std.specs.Prelude.{ℕ, Bool, true, false, List, [], ◌∷◌, filter_map, Contains}
 use Rattle.p414_syntax.specs.declared.syntax.Decl.{Decl}
 use Rattle.p414_syntax.specs.Arguments.{action_number}

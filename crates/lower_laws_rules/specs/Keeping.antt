@@ -1,4 +1,5 @@
--- That what is judged breaks no rule, all rules together.
+-- That what is judged breaks no rule, all rules together (this project's own, as the rules T1 to T12 are; P4_16 1.2,
+-- "Expressions", "Statements", "Name resolution").
 use Rattle.std.specs.Prelude.{codes, ◌≡◌, ℕ, ◌≤◌, Bool, true, false, not, ◌&&◌, List, [], ◌∷◌, flat_map, None, nat_lt}
 use Rattle.std.specs.Str.{bytes_eq}
 use Rattle.std.specs.List.{list_any}
@@ -35,10 +36,12 @@ pub record Fine (u : Use) : Type 0 where
   pub t10 : is_outside_block u ≡ false
   pub calls : called_action u ≡ None
 
+-- each is so
 abbrev pub AllFine : List Use → Type 0
 AllFine [] = Unit {0}
 AllFine (u ∷ us) = Fine u × AllFine us
 
+-- the same as a record
 pub record Fines (us : List Use) : Type 0 where
   pub each : AllFine us
 
