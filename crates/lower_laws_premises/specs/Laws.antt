@@ -1,5 +1,5 @@
 -- What holds of each action of a P4_14 program that is read from a text and breaks no rule, under a lowering that shows
--- the program (laws of this project's own; P4_14 1.0.5, "Actions", "Primitive Actions"; P4_16 1.2, "Actions", "Invoking
+-- the program (this project's own; P4_14 1.0.5, "Actions", "Primitive Actions"; P4_16 1.2, "Actions", "Invoking
 -- actions").
 use Rattle.std.specs.Prelude.{◌≡◌, ℕ, suc, ◌<◌, Bool, true, length, map, Option}
 use Rattle.std.specs.List.{AllByRecursion}

@@ -1,5 +1,6 @@
--- What declarations ask for, and the whole program (this project's own, the limits, too; P4_16 1.2, "Header types",
--- "Header stacks", "Derived types", "Tables", "Control-plane API annotations", "Control blocks", "Packet parsing").
+-- What declarations ask for, so that they break no rule (this project's own, the limits, too; P4_16 1.2, "Header
+-- types", "Header stacks", "Derived types", "Tables", "Control-plane API annotations", "Control blocks", "Packet
+-- parsing").
 use Rattle.std.specs.Prelude.{◌≡◌, ◌⊎◌, ℕ, ◌<◌, ◌≤◌, ◌^◌, ◌%◌, true, false, List, [], ◌∷◌, map, flat_map, filter_map, sum_by, codes, Option, Some, None}
 use Rattle.std.specs.List.{AllByRecursion, AllZip}
 use Rattle.digraph.specs.Expansions.{HasCycle}
@@ -60,7 +61,7 @@ pub record Listed : Type 0 where
 abbrev pub plane_of : Listed → Name
 plane_of l = l.plane
 
--- the scope knows the action so
+-- the scope knows the action so: under this text, with parameters of these widths
 abbrev pub IsListed : Scope → Name → Listed → Type 0
 IsListed s text l = sort_of s text ≡ an_action l.plane (map bits_given l.widths)
 

@@ -1,4 +1,4 @@
--- What holds of each program of P4_14 that breaks no rule, whatever runs (laws of this project's own; P4_14 1.0.5,
+-- What holds of each program of P4_14 that breaks no rule, whatever runs (this project's own; P4_14 1.0.5,
 -- "Actions", "Parser Specification", "Table Declarations", "Packet Processing and Control Flow").
 use Rattle.std.specs.Prelude.{◌≡◌, ℕ, ◌<◌, ◌^◌, List, length, Some, IfSome}
 use Rattle.std.specs.List.{AllByRecursion}
