@@ -30,13 +30,13 @@ CounterIs c (Some number) = IsObject c direct_counter number
 abbrev pub body_world : Surroundings → ℕ → World
 body_world b calls = record { around = b; act = act_at b calls; apply = no_table_applies }
 
--- the block has all three parameters
+-- the block has the parameters of headers, of metadata and of standard metadata
 pub record HasAll (c : Lowering) : Type 0 where
   pub headers : HasRoot c.layout of_headers
   pub metadata : HasRoot c.layout of_metadata
   pub standard : HasRoot c.layout of_standard
 
--- copies are asked for where they are needed
+-- the parameters of the block have copies where the primitives need them under this rule
 abbrev pub RuleFits : Lowering → List Decl → Rule14 → List Primitive → Type 0
 RuleFits c ds rule ps = needs_copies ds rule ps ≡ true → Copies c × HasAll c
 

@@ -32,7 +32,7 @@ pub data Part : Type 0 where
 
 -- what is read
 
--- an operand reads the field that it is
+-- what an operand reads: the field that it is, or nothing
 abbrev pub source_reads : Source → List Part
 source_reads (field slot) = number_of slot ∷ []
 source_reads _ = []
@@ -47,7 +47,7 @@ abbrev pub item_reads : List Decl → Item → List Part
 item_reads ds (item.Field r) = number_of (slot_of ds r) ∷ []
 item_reads ds _ = []
 
--- a term that goes to the field at this slot
+-- what a term reads that goes to the field at this slot
 abbrev pub term_reads : List Decl → Slot → Term → List Part
 term_reads ds slot (just a) = source_reads a
 term_reads ds slot (on_mask a mask) = number_of slot ∷ both_read a mask
@@ -135,7 +135,7 @@ is_moved stack (whole_of header) = stack == header.instance
 is_moved stack (elements_of instance) = stack == instance
 is_moved stack (cells_of object) = false
 
--- A part changes with a cell of a register.
+-- A part changes with a cell of a register (P4_14, "Registers").
 abbrev pub is_stored : ℕ → Part → Bool
 is_stored object (cells_of other) = object == other
 is_stored object _ = false

@@ -16,7 +16,7 @@ use Rattle.v1_core.specs.Frames.{of_headers}
 use Rattle.lower_laws_base.specs.Context.{Lowering, words_of, instances_of, HasRoot, shown_in, object_at, IsSlot, IsHeaderPart, SourceFits}
 use Rattle.lower_laws_base.specs.Mirror.{width_in}
 
--- an object of this kind
+-- the object with this number is one of this kind (`v1model.p4`, the stateful objects)
 abbrev pub IsObject : Lowering → ObjectKind → ℕ → Type 0
 IsObject c kind object = (object < length c.objects) × ((object_at c.objects object).kind ≡ kind)
 
@@ -28,7 +28,7 @@ IsSmall (number (pos k)) = k < 2 ^ 128
 IsSmall (number (negsuc k)) = suc k < 2 ^ 128
 IsSmall _ = Unit {0}
 
--- and it isn't negative
+-- a literal isn't negative, and below 2 ^ 128
 abbrev pub IsNatural : Source → Type 0
 IsNatural (number (pos k)) = k < 2 ^ 128
 IsNatural (number (negsuc k)) = ⊥
@@ -60,7 +60,7 @@ TermFits c ds (left_shift a b) = SourceFits c a × SourceFits c b × IsNatural a
 TermFits c ds (right_shift a b) = SourceFits c a × SourceFits c b × IsNatural a × IsNatural b
 TermFits c ds (hashed base calculation bound) = SourceFits c base × SourceFits c bound × IsNatural base × IsNatural bound × ItemsFit c ds calculation.items
 
--- A sum or a difference that saturates.
+-- Only a sum or a difference saturates, of literals that aren't too great.
 abbrev pub KeptFits : Bool → Term → Type 0
 KeptFits false term = Unit {0}
 KeptFits true (sum a b) = IsSmall a × IsSmall b
@@ -72,14 +72,14 @@ abbrev pub ListFits : Lowering → Option ℕ → Type 0
 ListFits c None = MarksNone c.layout.names.marks 0
 ListFits c (Some list) = (number : ℕ) × (mark_of c.layout.names.marks list ≡ Some number) × (number < 2 ^ 8)
 
--- only a clone has a session
+-- only a clone has a session (P4_14, "Clone")
 abbrev pub SessionFits : Lowering → RequestKind → Source → Type 0
 SessionFits c CloneI2E session = SourceFits c session
 SessionFits c CloneE2E session = SourceFits c session
 SessionFits c Resubmit session = session ≡ number (pos 0)
 SessionFits c Recirculate session = session ≡ number (pos 0)
 
--- a stack that the block reaches
+-- the instance with this number is a stack that the block reaches
 pub record IsStack (c : Lowering) (i : ℕ) : Type 0 where
   pub called : Name
   pub fields : List NamedField

@@ -31,7 +31,7 @@ use Rattle.lower_laws_base.specs.Mirror.{plain, sized, instance_exp, part_exp, s
 
 -- numbers
 
--- an operator on two sources at a width
+-- an operator on two sources, each at this width ("Operations on fixed-width bit types (unsigned integers)")
 abbrev pub both_exp : Words → At → BinaryOperator → ℕ → Source → Source → Exp16
 both_exp w at op width a b = binary op (source_exp w at width a) (source_exp w at width b)
 
@@ -49,7 +49,7 @@ needed_from (suc more) width n = if nat_lt n (2 ^ width) then width else needed_
 unfoldable pub needed : ℕ → ℕ
 needed n = needed_from 127 1 n
 
--- a source's magnitude as a source
+-- a literal below 0 without its sign; any other source as it is
 abbrev pub absolute : Source → Source
 absolute (number (negsuc k)) = number (pos (suc k))
 absolute a = a
@@ -92,7 +92,7 @@ stop_exp width wide e =
 abbrev pub wide_of : Words → ℕ → Source → Source → ℕ
 wide_of w width a b = max width (max (own_width w a) (own_width w b))
 
--- a sum of two numbers with signs, where true is below 0
+-- a sum of two numbers with signs, where true is below 0, kept within the width
 abbrev pub signs_exp : Words → At → ℕ → Source → Source → Bool → Bool → Exp16
 signs_exp w at width a b false false = let wide = wide_of w width a b in stop_exp width wide (both_exp w at SaturatingAdd wide (absolute a) (absolute b))
 signs_exp w at width a b false true = let wide = wide_of w width a b in stop_exp width wide (both_exp w at SaturatingSubtract wide (absolute a) (absolute b))
@@ -105,7 +105,8 @@ stopped_exp w at width (sum a b) = signs_exp w at width a b (is_negative a) (is_
 stopped_exp w at width (difference a b) = signs_exp w at width a b (is_negative a) (not (is_negative b))
 stopped_exp w at width _ = no_arguments
 
--- what a field of this width gets; K is the number of the primitive
+-- what a field of this width gets of a term; K is the number of the primitive (P4_14, "Primitive Actions", of which
+-- each term is one)
 abbrev pub term_exp : Words → At → ℕ → Target → Term → Exp16
 term_exp w at K t (just a) = source_exp w at t.width a
 term_exp w at K t (on_mask a mask) = masked_exp (source_exp w at t.width (field t.slot)) (source_exp w at t.width a) (source_exp w at t.width mask)
@@ -119,7 +120,8 @@ term_exp w at K t (left_shift a b) = binary ShiftLeft (source_exp w at t.width a
 term_exp w at K t (right_shift a b) = resized (own_width w a) t.width (binary ShiftRight (own_exp w at a) (own_exp w at b))
 term_exp w at K t (hashed base calculation bound) = name (w.spare K 0)
 
--- what is written to a field
+-- what is written to a field: a sum or a difference that saturates (P4_14, "Header Type Declarations", `saturating`),
+-- or the term at the field's width
 abbrev pub write_exp : Words → At → ℕ → Bool → Target → Term → Exp16
 write_exp w at K sums t term = if sums && t.saturating then stopped_exp w at t.width term else term_exp w at K t (signed term)
 
@@ -143,7 +145,7 @@ two_arguments e f = argument (argument no_arguments e) f
 abbrev pub function_stmt : Name → Exp16 → Stmt16
 function_stmt text given = expression (call (name text) given)
 
--- the bits of a result by itself
+-- the bits that an algorithm gives by itself (P4_14, "Checksums and Hash-value Generators")
 abbrev pub algorithm_width : Name → ℕ
 algorithm_width algorithm =
     if bytes_eq algorithm (codes "csum16") then 16
@@ -156,7 +158,7 @@ item_exp ds w at (item.Number n) = literal (sized (unwrap_or n.width 0) n.value)
 item_exp ds w at (item.Field r) = slot_exp w at (slot_of ds r)
 item_exp ds w at _ = no_arguments
 
--- items behind others
+-- the items of a hash as arguments behind others
 abbrev pub items_exp : List Decl → Words → At → Exp16 → List Item → Exp16
 items_exp ds w at given [] = given
 items_exp ds w at given (i ∷ items) = items_exp ds w at (argument given (item_exp ds w at i)) items
@@ -258,7 +260,7 @@ request_stmt w at Recirculate session list = function_stmt (codes "recirculate_p
 
 -- stacks
 
--- a stack moves by so many elements ("Operations on header stacks")
+-- a stack moves by so many elements ("Operations on header stacks", `push_front`, `pop_front`)
 abbrev pub stack_stmt : Words → ℕ → Name → ℕ → Stmt16
 stack_stmt w i word n =
     expression (call (member (instance_exp w now (shown_at w.names.instances i)) word) (one_argument (literal (sized 32 n))))
@@ -269,7 +271,7 @@ stack_copied w now i = []
 stack_copied w entry i =
     assign (instance_exp w now (shown_at w.names.instances i)) (instance_exp w entry (shown_at w.names.instances i)) ∷ []
 
--- elements from a place on, so many
+-- so many elements of a stack from a place on become valid ("Operations on headers", `setValid`)
 abbrev pub elements_set : Words → ℕ → ℕ → ℕ → List Stmt16
 elements_set w i e zero = []
 elements_set w i e (suc n) =
@@ -280,7 +282,7 @@ elements_set w i e (suc n) =
 abbrev pub push_stmts : Words → At → ℕ → ℕ → List Stmt16
 push_stmts w at i n = stack_copied w at i ++ stack_stmt w i (codes "push_front") n ∷ elements_set w i 0 (min n (w.size_of i))
 
--- `pop`: the stack moves to the front
+-- `pop`: the stack moves to the front (P4_14, "Primitive Actions"; "Operations on header stacks", `pop_front`)
 abbrev pub pop_stmts : Words → At → ℕ → ℕ → List Stmt16
 pop_stmts w at i n = stack_copied w at i ++ stack_stmt w i (codes "pop_front") n ∷ []
 
@@ -301,7 +303,7 @@ rest w at K nothing = []
 
 -- bodies
 
--- statements behind others
+-- statements one after another behind others
 abbrev pub behind_stmts : Stmt16 → List Stmt16 → Stmt16
 behind_stmts x [] = x
 behind_stmts x (y ∷ ys) = behind_stmts ((then) x y) ys

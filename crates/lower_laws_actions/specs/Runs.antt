@@ -28,6 +28,6 @@ abbrev pub after_rule : List Decl → Rule14 → List ℕ → List Primitive →
 after_rule ds Sequential arguments ps m = after_sequence ds arguments ps m
 after_rule ds Parallel arguments ps m = after_parallel ds arguments m ps m
 
--- what the calls of primitives are
+-- the primitives that the calls of an expanded action are
 abbrev pub primitives_of : List Decl → Expanded → List Invocation → List Primitive
 primitives_of ds x all = map (primitive_of ds x) all

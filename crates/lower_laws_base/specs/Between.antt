@@ -23,7 +23,7 @@ every o = true
 abbrev pub between : StateLayout → StateLayout
 between g = record { names = g.names; size_of = g.size_of; has = every; members = g.members; variables = []; shapes = g.shapes }
 
--- these errors, nothing emitted, no entry hit
+-- the rest of a moment between two blocks: these errors, nothing emitted, no entry hit
 abbrev pub quiet : ℕ → ℕ → Aside
 quiet error checksum = record { error = error; checksum = checksum; emitted = []; hit = None }
 
@@ -44,7 +44,7 @@ ErrorIs f n = member_in f.standard (codes "parser_error") ≡ an_error n
 abbrev pub ChecksumIs : Frame → ℕ → Type 0
 ChecksumIs f n = member_in f.standard (codes "checksum_error") ≡ a_number 1 n
 
--- a frame of any packet
+-- a frame of any packet, whatever its headers and metadata hold, without variables
 pub record IsAny (f : Frame) : Type 0 where
   pub numbers : (which : Standard) → (n : ℕ) × (member_in f.standard (standard_word which) ≡ a_number (standard_width which) n)
   pub variables : f.variables ≡ no_members

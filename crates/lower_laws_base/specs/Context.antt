@@ -37,25 +37,25 @@ pub record Local : Type 0 where
 abbrev pub no_local : Local
 no_local = record { called = []; kind = unknown }
 
--- the one at this place
+-- the parameter or variable at this place of the list
 abbrev pub local_at : List Local → ℕ → Local
 local_at ls j = slice_index_or ls j no_local
 
--- the value at this place
+-- the value at this place of the list
 abbrev pub value_at : List Value → ℕ → Value
 value_at vs j = slice_index_or vs j no_value
 
--- what they hold, as it stands in a frame
+-- what parameters and variables hold, as they stand in a frame
 abbrev pub inner_of : List Local → List Value → Value
 inner_of [] vs = no_members
 inner_of (l ∷ ls) [] = no_members
 inner_of (l ∷ ls) (v ∷ vs) = a_member l.called v (inner_of ls vs)
 
--- no two have one name
+-- no two parameters or variables have one name
 abbrev pub AreDistinct : List Local → Type 0
 AreDistinct ls = (j k : ℕ) → j < length ls → k < length ls → j ≢ k → (local_at ls j).called ≢ (local_at ls k).called
 
--- none has this name
+-- no parameter or variable has this name
 abbrev pub HasNone : List Local → Name → Type 0
 HasNone ls text = (j : ℕ) → j < length ls → (local_at ls j).called ≢ text
 
@@ -94,7 +94,7 @@ no_object = record { called = []; kind = counter; width = 0 }
 abbrev pub object_at : List ObjectName → ℕ → ObjectName
 object_at objects j = slice_index_or objects j no_object
 
--- its cells are of this shape
+-- the cells of an object are of this shape
 abbrev pub IsShapeOf : ObjectName → Shape → Type 0
 IsShapeOf o (Counter kind cells) = o.kind ≡ counter
 IsShapeOf o (Direct kind cells) = o.kind ≡ direct_counter
@@ -133,7 +133,7 @@ pub record Lowering : Type 0 where
   pub packet : Option PacketName
   pub world : World
 
--- the words of what stands around statements
+-- the words among what stands around statements
 abbrev pub words_of : Lowering → Words
 words_of c = record {
   names = c.layout.names;
@@ -160,7 +160,7 @@ instance_kind (as_header called fields) type size = header type
 instance_kind (as_stack called fields) type size = stack type size
 instance_kind (as_metadata called fields) type size = struct type
 
--- an element of a stack, a header or metadata
+-- the kind of an element: a header, also where it is one of a stack, or a struct of metadata
 abbrev pub element_kind : Shown → Name → Kind
 element_kind (as_header called fields) type = header type
 element_kind (as_stack called fields) type = header type
@@ -201,7 +201,7 @@ pub record IsCopied (c : Lowering) (o : Owner) : Type 0 where
   pub within : place < length c.layout.variables
   pub stands : local_at c.layout.variables place ≡ record { called = c.copy o; kind = struct (c.root_type o) }
 
--- each parameter has a copy of its own
+-- each parameter of the block has a copy of its own
 pub record Copies (c : Lowering) : Type 0 where
   pub copied : (o : Owner) → HasRoot c.layout o → IsCopied c o
   pub differ : (o p : Owner) → HasRoot c.layout o → HasRoot c.layout p → c.copy o ≡ c.copy p → o ≡ p
@@ -220,7 +220,7 @@ pub data Item : Type 0 where
   an_enumeration : (of : Enumeration) → Item
   the_packet : Item
 
--- the block sees this
+-- the block sees this item
 abbrev pub IsItem : Lowering → Item → Type 0
 IsItem c (a_root o) = HasRoot c.layout o
 IsItem c (a_copy o) = IsCopied c o
@@ -236,7 +236,7 @@ enumeration_name counter_type = codes "CounterType"
 enumeration_name meter_type = codes "MeterType"
 enumeration_name clone_type = codes "CloneType"
 
--- the name of the packet
+-- a packet by its name
 abbrev pub packet_name : PacketName → Name
 packet_name p = p.called
 
@@ -244,7 +244,7 @@ packet_name p = p.called
 abbrev pub packet_sort : PacketName → Sort
 packet_sort p = a_value p.kind false
 
--- the name of what a block sees
+-- the name of an item that a block sees
 abbrev pub item_name : Lowering → Item → Name
 item_name c (a_root o) = c.root o
 item_name c (a_copy o) = c.copy o
@@ -253,7 +253,7 @@ item_name c (a_function called) = called
 item_name c (an_enumeration e) = enumeration_name e
 item_name c the_packet = option_map_or packet_name c.packet []
 
--- what this name stands for
+-- what the name of an item stands for
 abbrev pub item_sort : Lowering → Item → Sort
 item_sort c (a_root o) = a_value (struct (c.root_type o)) (c.can_write o)
 item_sort c (a_copy o) = a_value (struct (c.root_type o)) true
@@ -286,7 +286,7 @@ pub record Sees (c : Lowering) (s : Scope) (ls : List Local) : Type 0 where
   pub distinct : AreDistinct ls
   pub apart : (x : Item) → IsItem c x → HasNone ls (item_name c x)
 
--- a name that nothing has that statements see
+-- a name that nothing has that statements see (P4_16, "Name resolution")
 pub record IsFresh (c : Lowering) (ls : List Local) (called : Name) : Type 0 where
   pub locals : HasNone ls called
   pub items : (x : Item) → IsItem c x → called ≢ item_name c x
@@ -339,7 +339,7 @@ HasMembers (x ∷ xs) v = ⊥
 abbrev pub IsWhole : Value → Type 0
 IsWhole v = (x : Value) → fitted v x ≡ x
 
--- some parameter or variable holds this
+-- some parameter or variable of statements holds this value
 pub record Holds (ls : List Local) (vs : List Value) (l : Local) (v : Value) : Type 0 where
   pub place : ℕ
   pub within : place < length ls
@@ -376,7 +376,7 @@ pub record HasVariables (ls : List Local) (f : Frame) : Type 0 where
   pub is : f.variables ≡ inner_of ls values
   pub whole : (j : ℕ) → j < length ls → IsWhole (value_at values j)
 
--- a store of the program's objects
+-- a store of the program's objects, by their shapes
 pub record Stored (shapes : List Shape) (store : Contents) : Type 0 where
   pub shapes_are : store.shapes ≡ shapes
   pub is_store : IsStore store
@@ -417,13 +417,13 @@ pub record Looks (c : Lowering) (s : Scope) (ls : List Local) (vs : List Value) 
   pub has : HasAt c at
   pub seen : Seen c at r f
 
--- a source of the program
+-- an operand that the block can have: its field or its parameter is there
 abbrev pub SourceFits : Lowering → Source → Type 0
 SourceFits c (number z) = Unit {0}
 SourceFits c (field slot) = IsSlot c.layout slot
 SourceFits c (parameter j) = j < length c.parameters
 
--- a header or an element of a stack
+-- a header or an element of a stack that the block reaches, and no metadata
 abbrev pub IsHeaderPart : StateLayout → Element → Type 0
 IsHeaderPart g at = IsPart g at × (is_metadata (shown_on g at.instance) ≡ false)
 

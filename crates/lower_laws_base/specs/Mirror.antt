@@ -43,15 +43,16 @@ slot_exp w at (standard which) = member (name (root_at w at of_standard)) (stand
 slot_exp w at (declared i e k) =
     member (element_exp w at (shown_at w.names.instances i) e) (field_at (fields_of (shown_at w.names.instances i)) k).called
 
--- the bits of a field
+-- the bits of the field at a slot
 abbrev pub width_in : Words → Slot → ℕ
 width_in w slot = slot_width w.names.instances slot
 
--- bits of a width as bits of another one
+-- bits of a width as bits of another one ("Casts")
 abbrev pub resized : ℕ → ℕ → Exp16 → Exp16
 resized own width e = if own == width then e else cast (cast_to.Bit (plain width)) e
 
--- a source modulo 2 ^ width
+-- a source modulo 2 ^ width: a literal, a field or a parameter with a cast where its width is another (P4_14, "Field
+-- Value Conversions"; "Casts")
 abbrev pub source_exp : Words → At → ℕ → Source → Exp16
 source_exp w at width (number z) = literal (sized width (wrapped width z))
 source_exp w at width (field slot) = resized (width_in w slot) width (slot_exp w at slot)
@@ -64,7 +65,7 @@ source_exp w at width (parameter j) =
 abbrev pub copy_stmt : Words → Owner → Stmt16
 copy_stmt w o = assign (name (w.copy o)) (name (w.root o))
 
--- all three, behind a statement
+-- all three parameters of the block go to their copies, behind a statement
 abbrev pub copies_stmt : Words → Stmt16 → Stmt16
 copies_stmt w x = (then) ((then) ((then) x (copy_stmt w of_headers)) (copy_stmt w of_metadata)) (copy_stmt w of_standard)
 

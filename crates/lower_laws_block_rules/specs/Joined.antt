@@ -37,7 +37,7 @@ pub record RestKeeps (p : Parts) : Type 0 where
   pub cells : AllByRecursion CellsFit (flat_map cells_in (decls_of p))
   pub all_cells : cell_sum (flat_map cells_in (decls_of p)) ≤ 4194304
 
--- the six blocks
+-- each of the six blocks breaks no rule by itself
 pub record BlocksKeep (p : Parts) : Type 0 where
   pub parser : EachKeeps (syntax_of p) decl_held (decl.Parser p.parser)
   pub verify : EachKeeps (syntax_of p) decl_held (decl.Control p.verify)

@@ -18,7 +18,7 @@ use Rattle.lower_laws_block_rules.specs.Widths.{IsWidth}
 abbrev pub SelectValue : List Decl → Option Inst → PValue → Type 0
 SelectValue ds last v = (looks_too_far v ≡ false) × IsWidth (value_bits ds last v)
 
--- each value of a select is so
+-- each value of the select that ends a state is so
 abbrev pub EndHere : List Decl → Option Inst → Return → Type 0
 EndHere ds last (end_of.Select vs cases) = AllByRecursion (SelectValue ds last) vs
 EndHere ds last _ = Unit {0}

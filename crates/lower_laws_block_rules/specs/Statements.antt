@@ -46,7 +46,7 @@ pub record TableSeen (s : Scope) (k : Plan) (t : Name) : Type 0 where
   pub sort : sort_of s (k.table t) ≡ a_table (map declared_action actions) counters
   pub labels : (a text : Name) → k.copy t a ≡ Some text → (has_name actions text ≡ true) × ((plane : Name) × (parameters : List Handed) × (sort_of s text ≡ an_action plane parameters))
 
--- the new names are spelt
+-- the new names of a table, and of the copies that it lists, are spelt
 pub record TableSpelt (k : Plan) (t : Name) : Type 0 where
   pub table : SpeltName (k.table t)
   pub labels : (a text : Name) → k.copy t a ≡ Some text → SpeltName text

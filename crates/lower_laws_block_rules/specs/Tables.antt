@@ -50,7 +50,7 @@ text_of w ds copy called counter t = record {
 abbrev pub listed_as : List Decl → Name → Listed
 listed_as ds name = record { plane = name; widths = widths_of_action ds name }
 
--- the scope of the control knows the copy so
+-- the scope of the control knows the copy of an action, with its parameters
 abbrev pub IsCopyHere : List Decl → Scope → (Name → Option Name) → Name → Type 0
 IsCopyHere ds s copy name = IsListed s (copy_text copy name) (listed_as ds name)
 

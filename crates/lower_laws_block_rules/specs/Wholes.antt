@@ -45,7 +45,7 @@ use Rattle.lower_laws_block_rules.specs.Parsers.{StateHere}
 abbrev pub IsStruct : Scope → Name → Type 0
 IsStruct s text = sort_of s text ≡ a_type (struct text)
 
--- the block can write all its parameters
+-- the block can write all the parameters that it has
 abbrev pub CanWrite : Lowering → Type 0
 CanWrite c = (o : Owner) → HasRoot c.layout o → c.can_write o ≡ true
 

@@ -8,7 +8,7 @@ use Rattle.lower_laws_base.specs.Context.{Lowering, words_of, instances_of, now,
 use Rattle.lower_laws_base.specs.Mirror.{width_in}
 use Rattle.lower_laws_rules.specs.Spelling.{SpeltNames}
 
--- 1 to 128 bits
+-- a width of 1 to 128 bits
 abbrev pub IsWidth : ℕ → Type 0
 IsWidth width = (0 < width) × (width ≤ 128)
 

@@ -46,11 +46,11 @@ number_exp w ds width (unary_of o a) = unary unary16.Complement (number_exp w ds
 number_exp w ds width (binary_of o a b) = binary (namesake o) (number_exp w ds width a) (number_exp w ds width b)
 number_exp w ds width _ = no_arguments
 
--- the width of a comparison
+-- the width of a comparison: that of its widest operand
 abbrev pub width_of_both : List Decl → Expr → Expr → ℕ
 width_of_both ds a b = max (operand_width ds a) (operand_width ds b)
 
--- metadata is always valid
+-- whether a part is valid; metadata always is (P4_14, "Header and Metadata Instances")
 abbrev pub live_exp : Shown → Exp16 → Exp16
 live_exp (as_metadata called fields) e = truth true
 live_exp x e = valid_exp e
@@ -65,7 +65,7 @@ joined_exp op.And a b compared = binary And a b
 joined_exp op.Or a b compared = binary Or a b
 joined_exp _ a b compared = compared
 
--- a condition
+-- what is written for a condition (P4_14, "Packet Processing and Control Flow"; "Operations on Boolean values")
 abbrev pub truth_exp : Words → List Decl → Expr → Exp16
 truth_exp w ds (valid i) = if is_standard i.name then truth true else is_valid_exp w (element_of ds i)
 truth_exp w ds (truth14 b) = truth b
@@ -90,7 +90,7 @@ IsSum op.BitXor = Unit {0}
 IsSum op.BitOr = Unit {0}
 IsSum _ = ⊥
 
--- an operand whose parts all fit so many bits
+-- an operand of the program, whose parts all fit so many bits
 abbrev pub IsOperand : StateLayout → List Decl → Expr → Type 0
 IsOperand g ds (field r) = IsSlot g (slot_of ds r) × (slot_width g.names.instances (slot_of ds r) ≡ bits_of_ref ds r)
 IsOperand g ds (number n) = n.value < 2 ^ literal_width n

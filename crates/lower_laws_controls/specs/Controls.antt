@@ -35,17 +35,17 @@ abbrev pub is_miss : Label → Bool
 is_miss label.Miss = true
 is_miss _ = false
 
--- `hit` and `miss` stand with no other label
+-- these branches are for `hit` and `miss`, which stand with no other label
 abbrev pub has_outcome : Stmt → Bool
 has_outcome (branch before l body) = is_hit l || is_miss l
 has_outcome _ = false
 
--- no statement
+-- no statement stands there
 abbrev pub is_nothing : Stmt16 → Bool
 is_nothing no_statements = true
 is_nothing _ = false
 
--- no case
+-- no case stands there
 abbrev pub is_no_cases : Stmt16 → Bool
 is_no_cases no_cases = true
 is_no_cases _ = false

@@ -26,6 +26,6 @@ pub record ControlFits (g : StateLayout) (ds : List Decl) (P : Name → Type 0) 
   pub is : is_stmt a_block c.body ≡ true
   pub parts : PartsFit g ds P c.body
 
--- each declared control is so
+-- each declared control keeps the grammar, and its parts are of the program
 abbrev pub ControlsFit : StateLayout → List Decl → (Name → Type 0) → Type 0
 ControlsFit g ds P = (name : Name) (c : ControlTree) → control_of ds name ≡ Some c → ControlFits g ds P c

@@ -9,15 +9,16 @@ use Rattle.v1_core.specs.Frames.{Frame, of_standard}
 use Rattle.lower_laws_base.specs.Context.{Words}
 use Rattle.lower_laws_base.specs.Mirror.{sized, drop_stmt}
 
--- the parser met no error
+-- the parser met no error: `parser_error` is NoError (`v1model.p4`, `standard_metadata_t`; P4_16, "Operations on error
+-- types")
 abbrev pub error_exp : Words → Exp16
 error_exp w = binary Equal (member (name (w.root of_standard)) (codes "parser_error")) (member error (codes "NoError"))
 
--- no checksum was wrong
+-- no checksum was wrong: `checksum_error` is 0 (`v1model.p4`, `standard_metadata_t`)
 abbrev pub checksum_exp : Words → Exp16
 checksum_exp w = binary Equal (member (name (w.root of_standard)) (codes "checksum_error")) (literal (sized 1 0))
 
--- egress asks of the parser alone
+-- the condition for statements to run: ingress asks of the parser and of checksums, egress of the parser alone
 abbrev pub guard_exp : Words → Bool → Exp16
 guard_exp w checks = if checks then binary And (error_exp w) (checksum_exp w) else error_exp w
 
@@ -35,7 +36,7 @@ ErrorIs f n = member_in f.standard (codes "parser_error") ≡ an_error n
 abbrev pub ChecksumIs : Frame → ℕ → Type 0
 ChecksumIs f n = member_in f.standard (codes "checksum_error") ≡ a_number 1 n
 
--- nothing failed
+-- nothing failed that the block asks of
 pub record IsClear (checks : Bool) (f : Frame) : Type 0 where
   pub error : ErrorIs f 0
   pub checksum : checks ≡ true → ChecksumIs f 0

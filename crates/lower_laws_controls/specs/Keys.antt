@@ -27,7 +27,7 @@ abbrev pub key_exp : Words → List Decl → ReadKey → Option Literal → Exp1
 key_exp w ds (read_key.Field f) mask = masked_key w (slot_of ds f) mask
 key_exp w ds (read_key.Instance i) mask = valid_exp (part_exp w now (element_of ds i))
 
--- a key of kind `valid` is matched exactly
+-- the match kind of a key; one of kind `valid` is matched exactly (P4_14, "Table Declarations"; `core.p4`, `exact`)
 abbrev pub key_kind : ReadKey → Name → Name
 key_kind (read_key.Field f) kind = kind
 key_kind (read_key.Instance i) kind = codes "exact"
@@ -42,7 +42,7 @@ abbrev pub key_notes : Words → List Decl → ReadKey → Option Literal → Li
 key_notes w ds (read_key.Field f) (Some mask) = note.Name (slot_word w (slot_of ds f)) ∷ []
 key_notes w ds _ _ = []
 
--- a key of the table
+-- what is written for a key of the table
 abbrev pub key_of : Words → List Decl → Read → TableKey
 key_of w ds r = record { exp = key_exp w ds r.key r.mask; kind = key_kind r.key r.kind; notes = key_notes w ds r.key r.mask }
 

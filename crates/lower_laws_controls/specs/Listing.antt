@@ -21,12 +21,12 @@ use Rattle.v1_core.specs.Signatures.{handed_width, table_size as size16, direct_
 use Rattle.lower_laws_base.specs.Context.{Lowering, words_of}
 use Rattle.lower_laws_controls.specs.Keys.{key_of, KeysFit}
 
--- it holds of each
+-- it holds of each of a list
 abbrev pub Each : {A : Type 0} → (A → Type 0) → List A → Type 0
 Each P [] = Unit {0}
 Each P (x ∷ xs) = P x × Each P xs
 
--- each name where it stands first
+-- each name of a list where it stands first
 abbrev pub each_once : List Name → List Name
 each_once [] = []
 each_once (x ∷ xs) = x ∷ filter (λ y. not (bytes_eq y x)) (each_once xs)

@@ -45,7 +45,7 @@ pub record ControlIs (g : StateLayout) (c : Lowering) (d : Setting14) (b : Surro
   pub sees : Sees c b.scope []
   pub fits : StatementFits c.layout d.decls (TableFound c b.scope d b k) block body
 
--- the block of the program has such a control
+-- the block of the program at this place has such a control
 pub record BlockIs (g : StateLayout) (d : Setting14) (setting : Setting) (which : Block) (checks : Bool) (body : Stmt) : Type 0 where
   pub control : Control16
   pub at : control_at setting.syntax which ≡ Some control

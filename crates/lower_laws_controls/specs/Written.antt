@@ -22,7 +22,7 @@ use Rattle.lower_laws_base.specs.Mirror.{plain, sized}
 use Rattle.lower_laws_controls.specs.Keys.{key_of}
 use Rattle.lower_laws_controls.specs.Listing.{each_once, copy_name, widths_of_action}
 
--- no list of keys is written where none is read
+-- the property `key`; none is written where no key is read ("Tables")
 abbrev pub keys_property : List TableKey → Option Property
 keys_property [] = None
 keys_property (k ∷ keys) = Some (property.Key (k ∷ keys))
@@ -33,7 +33,7 @@ size_literal (Some n) most = Some (plain (min (2 ^ 32 - 1) n.value))
 size_literal None (Some n) = Some (plain (min (2 ^ 32 - 1) n.value))
 size_literal None None = None
 
--- the property `size`
+-- the property `size` ("Tables")
 abbrev pub size_property : Literal16 → Property
 size_property n = property.Size n
 
@@ -53,7 +53,7 @@ abbrev pub default_property : List Decl → (Name → Option Name) → Table →
 default_property ds copy t name =
     property.DefaultAction (copy_name copy name) (arguments_exp no_arguments (widths_of_action ds name) (unwrap_or (default_arguments_of t.attributes) []))
 
--- those that there are, in this order
+-- the properties that there are, in this order
 abbrev pub properties_in_order : Option Property → Property → Option Property → Option Property → Option Property → List Property
 properties_in_order keys actions size counters default =
     cons_option keys (actions ∷ cons_option size (cons_option counters (cons_option default [])))

@@ -52,7 +52,7 @@ LocalIs ds as_table (declared sort.Table n) (local.Table t) = TableIs ds as_tabl
 LocalIs ds as_table (copy k n) (local.Action a) = CopyIs ds (copy k n) n a
 LocalIs ds as_table _ _ = ⊥
 
--- so are all of them, in order
+-- the declarations of a control are what is written for these parts of the program, one by one
 abbrev pub LocalsAre : List Decl → (Name → Table16) → List Outer → List Local → Type 0
 LocalsAre ds as_table [] [] = Unit {0}
 LocalsAre ds as_table (x ∷ things) (l ∷ locals) = LocalIs ds as_table x l × LocalsAre ds as_table things locals

@@ -46,7 +46,7 @@ header_fields ds = filter_map header_member (members ds)
 abbrev pub metadata_fields : List Decl → List StructField
 metadata_fields ds = filter_map metadata_member (members ds)
 
--- the members of the three structs in order
+-- the names of the members of the three structs, in order
 abbrev pub members_in : List Decl → Owner → List Name
 members_in ds of_headers = map member_of (header_fields ds)
 members_in ds of_metadata = map member_of (metadata_fields ds)
@@ -76,7 +76,7 @@ layout_shaped ds shapes = record {
 abbrev pub program_layout : List Decl → Entries → StateLayout
 program_layout ds entries = layout_shaped ds (shapes_of (signature14 ds) entries)
 
--- the notes of a field of a metadata instance
+-- the annotations of a field of a metadata instance (`v1model.p4`, `field_list`)
 abbrev pub notes_at : List Decl → Expanded → ℕ → ℕ → List Note
 notes_at ds x k f = notes_of (marks_of_field ds x k f)
 

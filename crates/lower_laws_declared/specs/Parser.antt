@@ -27,7 +27,7 @@ by_declared false ds called = replicate 65 line ++ called
 abbrev pub state_called : List Decl → Name → Name
 state_called ds called = by_declared (is_declared sort.Parse ds called) ds called
 
--- what a parser names
+-- the words of a parser's expressions, which know no copies, objects and variables
 abbrev pub parser_base : StateLayout → Words
 parser_base g = record {
   names = g.names;
@@ -39,7 +39,7 @@ parser_base g = record {
   parameters = [];
 }
 
--- the words of the parser
+-- the words of the parser, with the packet and the states
 abbrev pub names_of_parser : StateLayout → List Decl → ParserWords
 names_of_parser g ds = record { words = parser_base g; packet = packet_called; state = state_called ds }
 
@@ -48,11 +48,11 @@ abbrev pub begun_with : Bool → List Decl → ParserWords → List State16
 begun_with true ds p = start_state ds p ∷ map (state_of ds p) (states14 ds)
 begun_with false ds p = map (state_of ds p) (states14 ds)
 
--- the states of the parser
+-- what is written for the states of the program, as the parser has them
 abbrev pub states_written : StateLayout → List Decl → List State16
 states_written g ds = begun_with (list_any gives_initials ds) ds (names_of_parser g ds)
 
--- the whole parser
+-- what is written for the parser of the program
 abbrev pub parser_written : StateLayout → List Decl → Parser16
 parser_written g ds =
     record { name = codes "P"; parameters = parser_parameters; vars = []; states = states_written g ds }

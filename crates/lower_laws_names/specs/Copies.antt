@@ -49,7 +49,7 @@ pub record Copy : Type 0 where
   pub table : Option ℕ
   pub outer : Outer
 
--- two bits are one
+-- two truth values are one
 abbrev pub is_same_bit : Bool → Bool → Bool
 is_same_bit true b = b
 is_same_bit false b = not b
@@ -72,7 +72,7 @@ abbrev pub counted_copy : Listing → Copy
 counted_copy l =
     record { action = l.action; in_egress = l.in_egress; table = Some l.table; outer = copy l.number l.action }
 
--- one copy, or none
+-- a list of one copy, or of none
 abbrev pub one_if : Bool → Copy → List Copy
 one_if true c = c ∷ []
 one_if false c = []
@@ -112,7 +112,7 @@ abbrev pub LinesFit : List Decl → List Listing → Type 0
 LinesFit ds [] = Unit {0}
 LinesFit ds (l ∷ ls) = IsNumbered ds sort.Action l.action × (l.number < 2 ^ 32) × LinesFit ds ls
 
--- a sort has each of these names
+-- a sort of the program has each of these names, under small numbers
 abbrev pub AllNumbered : List Decl → Sort → List Name → Type 0
 AllNumbered ds s [] = Unit {0}
 AllNumbered ds s (n ∷ names) = IsNumbered ds s n × AllNumbered ds s names

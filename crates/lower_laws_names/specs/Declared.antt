@@ -32,11 +32,11 @@ use Rattle.lower_laws_names.specs.Types.{Member, members, member_field, struct_f
 use Rattle.lower_laws_names.specs.Objects.{object_decl, top_decls}
 use Rattle.lower_laws_states.specs.Expansions.{Has}
 
--- it stands in a list
+-- an element stands in a list
 abbrev pub Among : {A : Type 0} → A → List A → Type 0
 Among a bs = Has bs a
 
--- the name of a declaration
+-- the name of a declaration at the top
 abbrev pub decl_name : Decl16 → Name
 decl_name d = called_of (top_name d)
 
@@ -105,7 +105,7 @@ AreShownAs ds k [] [] = Unit {0}
 AreShownAs ds k (d ∷ es) (m ∷ ms) = (m.number ≡ k) × IsShownAs ds d m.shown m.size × AreShownAs ds (k + 1) es ms
 AreShownAs ds k _ _ = ⊥
 
--- How the members stand to what is declared.
+-- The members of both structs are the declared instances, place by place, as they are shown.
 pub record MembersAreShown (ds : List Decl) : Type 0 where
   pub each : AreShownAs ds 0 (declared_in sort.Instance ds) (members ds)
   pub instances : map (λ (m : Member). m.shown) (members ds) ≡ shown_instances ds

@@ -10,7 +10,7 @@ use Rattle.lower_laws_names.specs.Words.{words, outer_words}
 abbrev pub line : ℕ
 line = 95
 
--- it ends in a digit and `_`
+-- a name ends in a digit and `_`
 abbrev pub looks_made : Name → Bool
 looks_made name = nat_eq (slice_index name (length name - 1)) line && is_decimal (slice_index name (length name - 2))
 
@@ -33,6 +33,6 @@ pub record Thing : Type 0 where
   pub name : Name
   pub stays : Bool
 
--- the new name
+-- the new name of a thing: its own if it stays, or one that is made
 abbrev pub called : Thing → Name
 called x = if x.stays then x.name else made x.letter x.number x.name

@@ -38,7 +38,7 @@ is_item ds k f _ = false
 abbrev pub holds : List Decl → Expanded → ℕ → ℕ → Marked → Bool
 holds ds x k f m = list_any (is_item ds k f) (items_in_list x m.list)
 
--- a mark by its number
+-- the number of a mark
 abbrev pub mark_number : Marked → ℕ
 mark_number m = m.number
 

@@ -34,7 +34,7 @@ pub record SortsDiffer : Type 0 where
   pub once : (ds : List Decl) (s : Sort) → length ds ≤ 2 ^ 32 → declares_twice ds ≡ false → repeats16 (map called (things_of ds s)) ≡ false
   pub declared : (ds : List Decl) (s : Sort) (n : Name) → length ds ≤ 2 ^ 32 → has_name (names_in s ds) n ≡ true → IsNumbered ds s n
 
--- the parameters of a parser
+-- the names of the parameters of a parser
 abbrev pub parser_words : List Name
 parser_words = codes "packet" ∷ codes "hdr" ∷ codes "meta" ∷ codes "sm" ∷ []
 

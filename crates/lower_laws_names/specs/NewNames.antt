@@ -46,7 +46,7 @@ copy_letter = 99
 abbrev pub variable_letter : ℕ
 variable_letter = 118
 
--- `w`: a second one
+-- `w`: a second variable of an action
 abbrev pub second_letter : ℕ
 second_letter = 119
 
@@ -59,7 +59,7 @@ sorts_before sort.Table = sort.HeaderType ∷ sort.Object ∷ []
 sorts_before sort.Action = sort.HeaderType ∷ sort.Object ∷ sort.Table ∷ []
 sorts_before _ = []
 
--- a sort has the name
+-- a sort of the program has the name
 abbrev pub has_sort : List Decl → Name → Sort → Bool
 has_sort ds name s = is_declared s ds name
 
@@ -85,7 +85,7 @@ stays ds sort.Instance name = can_stay name
 stays ds sort.Parse name = can_stay_outside name && not (is_displaced ds name)
 stays ds s name = can_stay_outside name && not (is_declared_before ds s name)
 
--- what has this name in a sort
+-- the thing that a name of a sort stands for: its letter, its number and whether the name stays
 abbrev pub thing : List Decl → Sort → Name → Thing
 thing ds s name = record {
   letter = letter_of s;
@@ -94,7 +94,7 @@ thing ds s name = record {
   stays = stays ds s name;
 }
 
--- the new name of what has a name in a sort
+-- the new name of what has this name in a sort
 abbrev pub new_name : List Decl → Sort → Name → Name
 new_name ds s name = called (thing ds s name)
 
@@ -109,7 +109,7 @@ numbered_from of number (name ∷ names) = of number name ∷ numbered_from of (
 abbrev pub numbered : (ℕ → Name → Thing) → List Name → List Thing
 numbered of names = numbered_from of 0 names
 
--- a field of a header type
+-- a field of a header type, as a thing to be named
 abbrev pub field_thing : ℕ → Name → Thing
 field_thing number name = record { letter = field_letter; number = number; name = name; stays = can_stay name }
 
@@ -121,7 +121,7 @@ new_fields fields = map called (numbered field_thing (map field_name fields))
 abbrev pub parameter_stays : List Decl → Name → Bool
 parameter_stays ds name = can_stay_outside name && not (is_declared sort.Object ds name)
 
--- a parameter of an action
+-- a parameter of an action, as a thing to be named
 abbrev pub parameter_thing : List Decl → ℕ → Name → Thing
 parameter_thing ds number name = record {
   letter = parameter_letter;
@@ -152,7 +152,7 @@ copy_thing = made_thing copy_letter
 abbrev pub variable_thing : ℕ → Thing
 variable_thing number = made_thing variable_letter number (codes "got")
 
--- its second variable
+-- the second variable of the primitive with this number
 abbrev pub second_thing : ℕ → Thing
 second_thing number = made_thing second_letter number (codes "cut")
 

@@ -28,11 +28,11 @@ use Rattle.p416_syntax.specs.Tree.{Exp16, literal}
 use Rattle.lower_laws_names.specs.NewNames.{new_name}
 use Rattle.lower_laws_names.specs.Types.{plain, type_decls}
 
--- a number of 32 bits
+-- a number of cells, as a literal of 32 bits
 abbrev pub size_exp : ℕ → Exp16
 size_exp n = let l : Literal16 = record { width = Some 32; value = n } in literal l
 
--- what is counted; what isn't told is both
+-- what a counter counts; what isn't told is both (P4_14, "Counters"; `v1model.p4`, `CounterType`)
 abbrev pub counter_member : Option CounterType14 → Member
 counter_member (Some type14.Packets) = member.CounterType counter_type.Packets
 counter_member (Some type14.Bytes) = member.CounterType counter_type.Bytes
@@ -67,6 +67,6 @@ object_decls ds = filter_map (object_decl ds) ds
 abbrev pub top_decls : List Decl → Expanded → List Decl16
 top_decls ds x = type_decls ds x ++ object_decls ds
 
--- the names of the blocks
+-- the names of the six blocks
 abbrev pub block_names : List Name
 block_names = codes "P" ∷ codes "V" ∷ codes "I" ∷ codes "E" ∷ codes "C" ∷ codes "D" ∷ []

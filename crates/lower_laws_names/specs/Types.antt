@@ -47,7 +47,7 @@ abbrev pub has_type : Name → Decl → Bool
 has_type type (decl.Header x) = bytes_eq x.header_type type
 has_type type _ = false
 
--- a header has the type
+-- a declared header has the type
 abbrev pub is_used : List Decl → HeaderTypeTree → Bool
 is_used ds t = list_any (has_type t.name) ds
 
@@ -114,7 +114,7 @@ struct_decl ds x m = of m.shown where
   of (as_metadata name fields) = Some (decl16.Struct (record { name = m.type; fields = struct_fields_from ds x m.number 0 fields }))
   of _ = None
 
--- those of all metadata instances
+-- the structs of all metadata instances
 abbrev pub struct_decls : List Decl → Expanded → List Decl16
 struct_decls ds x = filter_map (struct_decl ds x) (members ds)
 
@@ -147,6 +147,6 @@ headers_decl ds = decl16.Struct (record { name = codes "hs"; fields = filter_map
 abbrev pub metadata_decl : List Decl → Decl16
 metadata_decl ds = decl16.Struct (record { name = codes "ms"; fields = filter_map metadata_member (members ds) })
 
--- the declarations of types
+-- all declarations of types, in the order in which they stand
 abbrev pub type_decls : List Decl → Expanded → List Decl16
 type_decls ds x = header_decls ds ++ (struct_decls ds x ++ headers_decl ds ∷ metadata_decl ds ∷ [])

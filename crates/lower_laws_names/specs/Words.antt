@@ -46,6 +46,6 @@ fixed =
 abbrev pub words : List Name
 words = reserved ++ further
 
--- those that are no name but that of a member
+-- the words that are no name but that of a member
 abbrev pub outer_words : List Name
 outer_words = built_in ++ fixed

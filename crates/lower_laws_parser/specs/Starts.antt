@@ -45,7 +45,7 @@ module _ (ds : List Decl) (p : ParserWords) where
   all_initials x [] = x
   all_initials x (d ∷ rest) = all_initials (decl_initials x d) rest
 
-  -- the state in front of all others
+  -- the state in front of all others, which writes the initial values and goes to the state `start` of the program
   abbrev pub start_state : State16
   start_state = record {
     name = codes "start";
@@ -53,22 +53,22 @@ module _ (ds : List Decl) (p : ParserWords) where
     transition = transition.Go (next_of ds p (codes "start"));
   }
 
--- each initial value is one of a field
+-- an initial value is one of a field that is there, with its width
 abbrev pub InitialFits : Lowering → List Decl → Name → Initial → Type 0
 InitialFits c ds called i =
     let r = field_named called i.field in IsSlot c.layout (slot_of ds r) × (bits_of_ref ds r ≡ width_in (words_of c) (slot_of ds r))
 
--- all those of an instance are
+-- all initial values of an instance fit
 abbrev pub InitialsFit : Lowering → List Decl → Name → List Initial → Type 0
 InitialsFit c ds called [] = Unit {0}
 InitialsFit c ds called (i ∷ is) = InitialFits c ds called i × InitialsFit c ds called is
 
--- those of a declaration are
+-- all initial values of a declaration fit
 abbrev pub DeclFits : Lowering → List Decl → Decl → Type 0
 DeclFits c ds (decl.Metadata m) = InitialsFit c ds m.name (initials_of m.initials)
 DeclFits c ds _ = Unit {0}
 
--- those of all declarations are
+-- the initial values of all declarations fit
 abbrev pub DeclsFit : Lowering → List Decl → List Decl → Type 0
 DeclsFit c ds [] = Unit {0}
 DeclsFit c ds (d ∷ rest) = DeclFits c ds d × DeclsFit c ds rest
@@ -88,6 +88,6 @@ pub record HasNoInitials (ds : List Decl) (p : ParserWords) (states : List State
   pub there : is_some (state_named ds (codes "start")) ≡ true
   pub start : p.state (codes "start") ≡ codes "start"
 
--- one or the other
+-- the states begin in one way or the other
 abbrev pub Begins : Lowering → List Decl → ParserWords → List State16 → Type 0
 Begins c ds p states = WritesInitials c ds p states ⊎ HasNoInitials ds p states

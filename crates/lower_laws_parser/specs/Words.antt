@@ -52,19 +52,21 @@ module _ (ds : List Decl) (p : ParserWords) where
   indexed word x (Some Next) = member (instance_exp p.words now x) word
   indexed word x other = element_exp p.words now x (element_number other)
 
-  -- what is extracted
+  -- the header or the element that is extracted; `next` is that of the stack (P4_14, "Parser Specification";
+  -- "Operations on header stacks", `next`)
   abbrev pub inst_exp : Inst → Exp16
   inst_exp i = indexed (codes "next") (shown_as i.name) i.index
 
-  -- what was extracted last: the element before the stack's place
+  -- what was extracted last: of a stack its last element (P4_14, "Parser Specification", `latest`; "Operations on
+  -- header stacks", `last`)
   abbrev pub latest_exp : Inst → Exp16
   latest_exp i = indexed (codes "last") (shown_as i.name) i.index
 
-  -- the new name of a field
+  -- the new name of a field of an instance
   abbrev pub field_called : Inst → Name → Name
   field_called i called = (field_at (fields_of (shown_as i.name)) (field_number ds i.name called)).called
 
-  -- the bits of a field
+  -- the bits of a field of an instance
   abbrev pub field_bits : Inst → Name → ℕ
   field_bits i called = (field_at (fields_of (shown_as i.name)) (field_number ds i.name called)).width
 
@@ -94,13 +96,14 @@ module _ (ds : List Decl) (p : ParserWords) where
   abbrev pub extract_stmt : Exp16 → Stmt16
   extract_stmt e = expression (call (member (name p.packet) (codes "extract")) (argument no_arguments e))
 
-  -- a statement of a state
+  -- what is written for a statement of a state: an extraction, or an assignment for `set_metadata` (P4_14, "Parser
+  -- Specification"; "Data extraction", "Assignment statement")
   abbrev pub stmt_of : Option Inst → PStmt → Stmt16
   stmt_of last (pstmt.Extract i) = extract_stmt (inst_exp i)
   stmt_of last (pstmt.SetMetadata r v) =
       assign (slot_exp p.words now (slot_of ds r)) (value_exp last (bits_of_ref ds r) v)
 
-  -- statements, and behind them those of these
+  -- what is written for the statements of a state, behind others
   abbrev pub body_of : Option Inst → Stmt16 → List PStmt → Stmt16
   body_of last x [] = x
   body_of last x (q ∷ qs) = body_of (last_behind last q) ((then) x (stmt_of last q)) qs
@@ -125,23 +128,23 @@ module _ (ds : List Decl) (p : ParserWords) where
   abbrev pub width_of_key : Option Inst → List PValue → ℕ
   width_of_key last vs = sum (map (value_bits ds last) vs)
 
-  -- a state with its new name, or accept
+  -- the target of a name that a state has, or else that of the control `ingress`
   abbrev pub next_by : Bool → Name → Target
   next_by true called = target.State (p.state called)
   next_by false called = target.Accept
 
-  -- the target of a name
+  -- the target of a name: a state under its new name, or accept
   abbrev pub next_of : Name → Target
   next_of called = next_by (is_some (state_named ds called)) called
 
-  -- how a state ends ("Transition statements", "Select expressions")
+  -- what is written for the end of a state ("Transition statements", "Select expressions")
   abbrev pub transition_of : Option Inst → Return → Transition
   transition_of last (end_of.Select vs cases) =
       transition.Select (key_exp last vs ∷ []) (select_cases (width_of_key last vs) next_of cases)
   transition_of last (end_of.State called) = transition.Go (next_of called)
   transition_of last (end_of.ParseError called) = transition.Go target.Reject
 
-  -- a state
+  -- what is written for a state ("Parser states")
   abbrev pub state_of : Parser → State
   state_of x = record {
     name = p.state x.name;

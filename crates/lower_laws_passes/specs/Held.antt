@@ -48,12 +48,12 @@ pub record HeldFailed (k : Held) : Type 0 where
   pub number : ℕ
   pub error : ErrorIs k.frame (suc number)
 
--- a packet that failed or didn't
+-- a held packet that failed is one with an exception, and any other one without
 abbrev pub HeldAs : StateLayout → Bool → State → Held → Type 0
 HeldAs g false s k = HeldAlive g s k
 HeldAs g true s k = HeldFailed k
 
--- what both programs hold of a packet
+-- a held packet of P4_14 and one of P4_16 correspond
 abbrev pub HeldAlike : StateLayout → Held14 → Held → Type 0
 HeldAlike g h k = HeldAs g h.failed h.state k
 
@@ -63,7 +63,7 @@ pub record SameState (shapes : List Shape) (s : Between14) (b : Between) : Type 
   pub events : b.events ≡ s.events
   pub stored : Stored shapes s.store
 
--- ports of 9 bits
+-- the fit of passes: ports have 9 bits
 abbrev pub fit_nine : Fit
 fit_nine = record { octets = λ _. Unit {0}; port = λ p. p < 2 ^ 9 }
 

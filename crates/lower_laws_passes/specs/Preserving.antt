@@ -38,7 +38,7 @@ pub record KeptOne (x : Shown) (numbers : List ℕ) (v : Value) : Type 0 where
   pub count : length numbers ≡ length (fields_of x)
   pub bounds : (k : ℕ) → k < length (fields_of x) → get_or numbers k 0 < 2 ^ (field_at (fields_of x) k).width
 
--- preserved sets that correspond
+-- a preserved set of P4_14 and one of P4_16 correspond
 pub record KeptAlike (g : StateLayout) (q : Preserved) (v : Value) : Type 0 where
   pub count : length q ≡ length g.names.instances
   pub each : (k : ℕ) → k < length g.names.instances → is_metadata (shown_on g k) ≡ true → KeptOne (shown_on g k) (slice_index_or q k []) v
@@ -64,7 +64,7 @@ abbrev pub ItemAtFirst : List Decl → ℕ → Item → Type 0
 ItemAtFirst ds k (item.Field r) = AtFirst k (slot_of ds r)
 ItemAtFirst ds k _ = Unit {0}
 
--- all items are so
+-- all items of a list are so
 abbrev pub ItemsAtFirst : List Decl → ℕ → List Item → Type 0
 ItemsAtFirst ds k [] = Unit {0}
 ItemsAtFirst ds k (x ∷ xs) = ItemAtFirst ds k x × ItemsAtFirst ds k xs

@@ -44,7 +44,7 @@ callers CloneE2E = codes "clone_egress_pkt_to_egress" ∷ codes "clone_e2e" ∷ 
 callers Resubmit = codes "resubmit" ∷ []
 callers Recirculate = codes "recirculate" ∷ []
 
--- only a clone has a session
+-- only a clone has a session (P4_14, "Clone")
 abbrev pub SessionIs : RequestKind → Source → Type 0
 SessionIs CloneI2E session = Unit {0}
 SessionIs CloneE2E session = Unit {0}

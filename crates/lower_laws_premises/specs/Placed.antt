@@ -8,7 +8,7 @@ use Rattle.p414_syntax.specs.ControlExpansion.{egress}
 use Rattle.p414_syntax.specs.Pipelines.{IsApplied, CountsAsIngress}
 use Rattle.p414_syntax.specs.Tables.{listed_by}
 
--- in egress, or in ingress
+-- an action stands in egress, or in ingress: a table of it lists the action
 abbrev pub StandsIn : List Decl → Bool → ℕ → Type 0
 StandsIn ds true action = (table : ℕ) × IsApplied ds egress table × Contains (filter_map (action_number ds) (listed_by ds table)) action
 StandsIn ds false action = (table : ℕ) × CountsAsIngress ds table × Contains (filter_map (action_number ds) (listed_by ds table)) action

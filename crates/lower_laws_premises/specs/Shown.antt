@@ -31,7 +31,7 @@ pub record ShowsInstances (c : Lowering) (ds : List Decl) : Type 0 where
   pub fields : (i j : ℕ) (h k : Header) → numbered sort.Instance ds i ≡ Some (decl.Header h) → numbered sort.Instance ds j ≡ Some (decl.Header k) → h.header_type ≡ k.header_type → fields_of (shown_in c i) ≡ fields_of (shown_in c j)
   pub types : (i j : ℕ) (h k : Header) → numbered sort.Instance ds i ≡ Some (decl.Header h) → numbered sort.Instance ds j ≡ Some (decl.Header k) → h.header_type ≡ k.header_type → c.type_of i ≡ c.type_of j
 
--- the block has all three parameters
+-- the block has the parameters of headers, of metadata and of standard metadata
 pub record HasRoots (c : Lowering) : Type 0 where
   pub headers : HasRoot c.layout of_headers
   pub metadata : HasRoot c.layout of_metadata
@@ -69,7 +69,7 @@ pub record ShowsMarks (c : Lowering) (ds : List Decl) : Type 0 where
   pub marked : (name : Name) (list : ℕ) → has_name (preserved_lists ds) name ≡ true → list_number ds name ≡ Some list → (number : ℕ) × (mark_of c.layout.names.marks list ≡ Some number) × (number ≤ length (preserved_lists ds))
   pub zero : MarksNone c.layout.names.marks 0
 
--- all of it
+-- the lowering shows the instances, the objects and the preserved lists of the program, and has all three parameters
 pub record Shows (c : Lowering) (ds : List Decl) : Type 0 where
   pub instances : ShowsInstances c ds
   pub roots : HasRoots c

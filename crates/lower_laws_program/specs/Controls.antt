@@ -37,7 +37,7 @@ no_standard of_headers = true
 no_standard of_metadata = true
 no_standard _ = false
 
--- each parameter of a block
+-- each parameter of a block, whichever it is
 abbrev pub yes : Owner → Bool
 yes o = true
 

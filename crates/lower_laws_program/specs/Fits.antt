@@ -104,7 +104,7 @@ abbrev pub headers_alone : Owner → Bool
 headers_alone of_headers = true
 headers_alone _ = false
 
--- no parameter can be written
+-- no parameter of the deparser can be written
 abbrev pub none_written : Owner → Bool
 none_written o = false
 
@@ -140,7 +140,7 @@ old_name of_metadata = codes "old_meta"
 old_name of_standard = codes "old_sm"
 old_name _ = []
 
--- a variable that holds such a copy
+-- a variable that holds the copy of a parameter
 abbrev pub old_variable : Owner → Local
 old_variable o = record { called = old_name o; kind = struct (root_struct o) }
 
@@ -175,7 +175,7 @@ ActionsFit g c14 c16 variables objects which control copies =
     (k : ActionCopy) → Has copies k →
     ActsAlike (block_layout g (pipeline_block variables objects)) c14 (around_control c16 which control) (act (around_control c16 which control)) k.direct k.action k.widths k.written
 
--- What the four controls give.
+-- What the four controls give: each does what P4_14 says, and a packet that failed is dropped.
 pub record ControlsFit (g : StateLayout) (c14 : Setting14) (c16 : Setting) : Type 0 where
   pub verify : VerifyAlike g c14 c16
   pub ingress : IngressAlike g c14 c16

@@ -25,7 +25,7 @@ members_shown metadata (x ∷ xs) [] = no_members
 members_shown metadata (x ∷ xs) (i ∷ instances) =
     if is_in metadata x then a_member (name_of x) (shown_value x i) (members_shown metadata xs instances) else members_shown metadata xs instances
 
--- standard metadata, without errors
+-- standard metadata with the numbers of a state, and without errors
 abbrev pub standard_shown : State → Value
 standard_shown s =
     let of = λ (which : Standard) (rest : Value). a_member (standard_word which) (a_number (standard_width which) (standard_number s which)) rest in
@@ -66,7 +66,7 @@ abbrev pub ListMarked : List Marked → Option ℕ → Type 0
 ListMarked marks None = Unit {0}
 ListMarked marks (Some list) = (number : ℕ) × (mark_of marks list ≡ Some number)
 
--- so has that of a request
+-- the list of a request, if there is one, has a mark
 abbrev pub RequestMarked : List Marked → Option Request14 → Type 0
 RequestMarked marks None = Unit {0}
 RequestMarked marks (Some r) = ListMarked marks r.list

@@ -27,7 +27,7 @@ root_name of_metadata = codes "meta"
 root_name of_standard = codes "sm"
 root_name _ = []
 
--- the name of its struct
+-- the name of the type of a parameter of a block
 abbrev pub root_struct : Owner → Name
 root_struct of_headers = codes "hs"
 root_struct of_metadata = codes "ms"
@@ -38,7 +38,7 @@ root_struct _ = []
 abbrev pub packet_called : Name
 packet_called = codes "packet"
 
--- the type of this name
+-- the type of this name (P4_16, "P4 data types")
 abbrev pub named_type : Name → Type16
 named_type text = type_of.Named text None
 
@@ -79,7 +79,7 @@ abbrev pub pipeline_parameters : List Param
 pipeline_parameters =
     root_parameter direction.InOut of_headers ∷ root_parameter direction.InOut of_metadata ∷ root_parameter direction.InOut of_standard ∷ []
 
--- what each part of the lowering gives
+-- what each part of the lowering gives: types and objects, and the six blocks
 pub record Parts : Type 0 where
   pub types : List Decl16
   pub parser : Parser16
@@ -99,7 +99,7 @@ blocks_of p =
 abbrev pub decls_of : Parts → List Decl16
 decls_of p = p.types ++ blocks_of p
 
--- the whole program
+-- the whole program: all declarations, and `main` with the blocks
 abbrev pub syntax_of : Parts → Syntax16
 syntax_of p = record {
   decls = decls_of p;

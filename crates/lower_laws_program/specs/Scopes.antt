@@ -55,7 +55,7 @@ block_lowering g t b w = record {
   world = w;
 }
 
--- no nearer name is this one
+-- none of these nearer names is this one (P4_16, "Name resolution")
 abbrev pub IsClear : List Known → Name → Type 0
 IsClear [] text = Unit {0}
 IsClear (k ∷ near) text = (bytes_eq k.called text ≡ false) × IsClear near text

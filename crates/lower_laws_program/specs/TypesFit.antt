@@ -55,7 +55,7 @@ member of text = record { notes = []; of = of; name = text }
 abbrev pub field_called : FieldKind → Name
 field_called f = f.called
 
--- what is written for them
+-- the words of the types: which type each instance has, which annotations each field, and the members of both structs
 pub record TypeWords : Type 0 where
   pub type_of : ℕ → Name
   pub notes : ℕ → ℕ → List Note
@@ -70,7 +70,7 @@ fields_written g t k = marked_from (t.notes k) 0 (fields_of (shown_on g k))
 abbrev pub struct_of : Name → List StructField → Decl16
 struct_of text fields = decl.Struct (record { name = text; fields = fields })
 
--- it is shown as a stack
+-- an instance is shown as a stack
 abbrev pub IsStack : Shown → Type 0
 IsStack x = (called : Name) × (fields : List NamedField) × (x ≡ as_stack called fields)
 

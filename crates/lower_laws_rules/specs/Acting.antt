@@ -21,7 +21,7 @@ use Rattle.lower_laws_actions.specs.Fits.{IsObject}
 use Rattle.lower_laws_rules.specs.Keeping.{Part}
 use Rattle.lower_laws_rules.specs.Standing.{Among}
 
--- 1 to 128 bits
+-- a width of 1 to 128 bits
 abbrev pub IsWidth : ℕ → Type 0
 IsWidth width = (0 < width) × (width ≤ 128)
 
@@ -56,13 +56,13 @@ abbrev pub Steps : Scope → List Stmt16 → Scope → List Name → Type 0
 Steps s [] t names = (s ≡ t) × (names ≡ [])
 Steps s (y ∷ ys) t names = (u : Scope) × (a : List Name) × (b : List Name) × Part s u a 1 y × Steps u ys t b × (names ≡ a ++ b)
 
--- the variable that a term's front fills
+-- the variable that a term's front fills is known, with its width
 abbrev pub TermKnown : Lowering → List Local → ℕ → ℕ → Term → Type 0
 TermKnown c ls K width (cell object index) = Among ls (record { called = c.spare K 0; kind = bits (object_at c.objects object).width })
 TermKnown c ls K width (hashed base calculation bound) = Among ls (record { called = c.spare K 0; kind = bits width })
 TermKnown c ls K width term = Unit {0}
 
--- so for a primitive, of which only a write has a front
+-- the variable that a primitive's front fills is known; only a write has one
 abbrev pub PrimitiveKnown : Lowering → List Local → ℕ → Primitive → Type 0
 PrimitiveKnown c ls K (write sums t term) = TermKnown c ls K t.width term
 PrimitiveKnown c ls K p = Unit {0}

@@ -39,12 +39,12 @@ pub record HeaderFits (fields : List NamedField) : Type 0 where
   pub some : 0 < sum_by width_of fields
   pub octets : sum_by width_of fields % 8 ≡ 0
 
--- a member is a header, a stack of 1 to 256 or a struct
+-- a member's type is a header, a stack of 1 to 256 headers, or a struct
 abbrev pub TypeIsThere : Scope → Name → Option ℕ → Type 0
 TypeIsThere s type None = (sort_of s type ≡ a_type (header type)) ⊎ (sort_of s type ≡ a_type (struct type))
 TypeIsThere s type (Some n) = (sort_of s type ≡ a_type (header type)) × (0 < n) × (n ≤ 256)
 
--- so is this one
+-- a member of a struct has such a type
 abbrev pub FieldIsThere : Scope → TypedField → Type 0
 FieldIsThere s f = TypeIsThere s f.type f.size
 
@@ -72,7 +72,7 @@ pub record DefaultFits (s : Scope) (actions : List Name) (d : Default) : Type 0 
   pub known : sort_of s d.action ≡ an_action plane (map bits_given d.widths)
   pub values : AllZip (λ (width value : ℕ). value < 2 ^ width) d.widths d.values
 
--- so is a default that may be there
+-- a default action that may be there is one of the table's, and its arguments fit
 abbrev pub FitsDefault : Scope → List Name → Option Default → Type 0
 FitsDefault s actions None = Unit {0}
 FitsDefault s actions (Some d) = DefaultFits s actions d
@@ -96,7 +96,7 @@ abbrev pub type_held : Type16 → List Kind
 type_held (Named type size) = struct type ∷ []
 type_held _ = []
 
--- what the variables of a control are that T12's sums count
+-- what a declaration of a control is that T12's sums count: only variables are
 abbrev pub local_held : Local → List Kind
 local_held (local.Var v) = type_held v.of
 local_held _ = []
@@ -105,7 +105,8 @@ local_held _ = []
 abbrev pub LocalKeeps : Scope → Local → Type 0
 LocalKeeps s l = Keeps (local_uses s l) (local_held l)
 
--- a control at the top
+-- What is asked of a control at the top: its names differ, no direct counter belongs to two tables, and its parameters,
+-- declarations and statements break no rule.
 pub record ControlFits (s : Scope) (c : Control16) : Type 0 where
   pub names : repeats (map called_of (control_names s.names c)) ≡ false
   pub counters : repeats (filter_map counters_in (tables_in c)) ≡ false
@@ -115,7 +116,7 @@ pub record ControlFits (s : Scope) (c : Control16) : Type 0 where
   pub few : deep ≤ 399
   pub body : Part (control_scope s c) (control_scope s c) [] deep c.body
 
--- the variables of a control
+-- what the variables of a control are that T12's sums count
 abbrev pub control_held : Control16 → List Kind
 control_held c = flat_map local_held c.locals
 
@@ -123,7 +124,8 @@ control_held c = flat_map local_held c.locals
 abbrev pub StateKeeps : Scope → State → Type 0
 StateKeeps s x = Keeps (state_uses s x) []
 
--- a parser at the top, without variables
+-- What is asked of a parser at the top, which has no variables: its names differ, its parameters and states break no
+-- rule, one state is called `start`, and none follow each other in a circle without an extraction.
 pub record ParserFits (s : Scope) (p : Parser16) : Type 0 where
   pub names : repeats (map called_of (parser_names s.names p)) ≡ false
   pub parameters : Keeps (flat_map (parameter_uses s of_block_parameter) p.parameters) []

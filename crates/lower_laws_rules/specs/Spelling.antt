@@ -61,7 +61,7 @@ SpeltNumber n = is_spelt_literal16 n ≡ true
 abbrev pub SpeltName : Name → Type 0
 SpeltName text = is_name16 text ≡ true
 
--- behind a dot a word may be a reserved one
+-- a word behind a dot is a token, and may be a reserved one ("P4 grammar")
 abbrev pub SpeltWord : Name → Type 0
 SpeltWord text = is_spelt_seen (seen_word text) ≡ true
 
@@ -131,11 +131,11 @@ abbrev pub SpeltNote : Note → Type 0
 SpeltNote (note.Name text) = is_identifier16 text ≡ true
 SpeltNote (note.FieldList ns) = (is_some_listed ns ≡ true) × AllByRecursion SpeltNumber ns
 
--- annotations, each kind once
+-- annotations, no kind of which stands twice
 abbrev pub SpeltNotes : List Note → Type 0
 SpeltNotes notes = AllByRecursion SpeltNote notes × (is_named_once notes ≡ true)
 
--- a parameter
+-- a parameter: its type and its name
 abbrev pub SpeltParam : Param → Type 0
 SpeltParam p = SpeltType p.of × SpeltName p.name
 
@@ -160,7 +160,7 @@ abbrev pub SpeltKeyset : Keyset → Type 0
 SpeltKeyset (keyset.One x) = SpeltSimple x
 SpeltKeyset (keyset.Tuple xs) = ⊥
 
--- a case of a select
+-- a case of a select ("Select expressions")
 abbrev pub SpeltCase : SelectCase → Type 0
 SpeltCase x = SpeltKeyset x.keyset × SpeltTarget x.target
 
@@ -188,7 +188,7 @@ SpeltInstance (instance.Meter size m text) = SpeltExp size × SpeltName text
 abbrev pub SpeltAction : Action16 → Type 0
 SpeltAction a = SpeltNotes a.notes × SpeltName a.name × AllByRecursion SpeltParam a.parameters × SpeltStmt statements a.body
 
--- an action as a table names it
+-- an action as a table names it ("Tables")
 abbrev pub SpeltActionName : ActionName → Type 0
 SpeltActionName (action_name.Declared text) = SpeltName text
 SpeltActionName action_name.NoAction = Unit {0}
@@ -211,7 +211,7 @@ SpeltTable t =
     SpeltNotes t.notes × SpeltName t.name × AllByRecursion SpeltProperty t.properties
     × (all_different (property_texts t.properties) && is_among (keyword_text16 key.Actions) (property_texts t.properties) ≡ true)
 
--- a declaration of a control
+-- a declaration of a control ("Control blocks")
 abbrev pub SpeltLocal : Local → Type 0
 SpeltLocal (local.Instance notes i) = SpeltNotes notes × SpeltInstance i
 SpeltLocal (local.Var v) = SpeltVar v
@@ -230,7 +230,7 @@ SpeltBitField f = SpeltNumber f.width × SpeltName f.name
 abbrev pub SpeltStructField : StructField → Type 0
 SpeltStructField f = SpeltNotes f.notes × SpeltType f.of × SpeltName f.name
 
--- a declaration at the top
+-- a declaration at the top ("P4 grammar")
 abbrev pub SpeltDecl : Decl16 → Type 0
 SpeltDecl (decl.Header h) = SpeltName h.name × AllByRecursion SpeltBitField h.fields
 SpeltDecl (decl.Struct x) = SpeltName x.name × AllByRecursion SpeltStructField x.fields
@@ -244,13 +244,13 @@ pub record SpeltProgram (s : Syntax16) : Type 0 where
   pub some : is_some_listed s.main ≡ true
   pub main : AllByRecursion SpeltName s.main
 
--- the names that are written for parts of the packet and for sources, which are read there
+-- the names that are written for parts of the packet and for sources, which are read there, are spelt
 pub record SpeltNames (w : Words) (at : At) : Type 0 where
   pub roots : SpeltName (root_at w at of_headers) × SpeltName (root_at w at of_metadata) × SpeltName (root_at w at of_standard)
   pub instances : (i : ℕ) → i < length w.names.instances → SpeltName (name_of (shown_at w.names.instances i))
   pub fields : (i k : ℕ) → i < length w.names.instances → k < length (fields_of (shown_at w.names.instances i)) → SpeltName (field_at (fields_of (shown_at w.names.instances i)) k).called
   pub parameters : (j : ℕ) → j < length w.parameters → SpeltName (field_at w.parameters j).called
 
--- at both places
+-- the names that are written are spelt, as the moment stands and at the copies
 abbrev pub SpeltWords : Words → Type 0
 SpeltWords w = (at : At) → SpeltNames w at

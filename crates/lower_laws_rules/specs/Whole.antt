@@ -22,13 +22,13 @@ use Rattle.p416_syntax.specs.Breaks.{scope_of}
 use Rattle.lower_laws_rules.specs.Written.{block_param}
 use Rattle.lower_laws_rules.specs.Declared.{DeclarationKeeps}
 
--- a declaration at the top
+-- a declaration stands at the top of the program
 pub record IsIn (ds : List Decl16) (d : Decl16) : Type 0 where
   pub before : List Decl16
   pub after : List Decl16
   pub is : ds ≡ before ++ d ∷ after
 
--- what a struct holds is declared before it
+-- what the structs hold is declared before them ("Name resolution")
 abbrev pub IsOrdered : List Name → List Decl16 → Type 0
 IsOrdered seen [] = Unit {0}
 IsOrdered seen (d ∷ ds) = (list_all (has_name seen) (held_names d) ≡ true) × IsOrdered (seen ++ declared_name d ∷ []) ds
@@ -85,7 +85,7 @@ pub record MainFits (s : Syntax16) (h m : Name) : Type 0 where
   pub of_headers : are_headers (layouts_of s.decls) (struct h) ≡ true
   pub of_bits : is_metadata (layouts_of s.decls) (struct m) ≡ true
 
--- an object has 1 to 1,048,576 cells
+-- a number of cells from 1 to 1,048,576
 abbrev pub CellsFit : ℕ → Type 0
 CellsFit n = (1 ≤ n) × (n ≤ 1048576)
 

@@ -45,7 +45,7 @@ pub record MarkedField : Type 0 where
   pub field : NamedField
   pub marks : List ℕ
 
--- such a field in its struct
+-- a field of metadata with its annotations, in its struct
 abbrev pub marked_field16 : MarkedField → StructField
 marked_field16 f = record { notes = marks16 f.marks; of = Bit (plain f.field.width); name = f.field.called }
 
@@ -64,7 +64,7 @@ abbrev pub size16 : Option ℕ → Option Literal16
 size16 None = None
 size16 (Some n) = Some (plain n)
 
--- such a member in its struct
+-- a member of a type, in its struct
 abbrev pub typed_field16 : TypedField → StructField
 typed_field16 f = record { notes = []; of = Named f.type (size16 f.size); name = f.called }
 
@@ -96,7 +96,7 @@ whole_var type called = record { of = Named type None; name = called; initial = 
 abbrev pub named : Name → List Note
 named text = note.Name text ∷ []
 
--- literals behind an argument list
+-- values as literals of these widths, as arguments behind others
 abbrev pub literals16 : Exp16 → List ℕ → List ℕ → Exp16
 literals16 before [] values = before
 literals16 before widths [] = before
