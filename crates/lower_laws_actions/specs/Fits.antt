@@ -20,7 +20,7 @@ use Rattle.lower_laws_base.specs.Mirror.{width_in}
 abbrev pub IsObject : Lowering → ObjectKind → ℕ → Type 0
 IsObject c kind object = (object < length c.objects) × ((object_at c.objects object).kind ≡ kind)
 
--- a literal of at most 128 bits, and one that isn't negative
+-- literals
 
 -- a literal's magnitude is below 2 ^ 128
 abbrev pub IsSmall : Source → Type 0

@@ -134,7 +134,7 @@ parameter_thing ds number name = record {
 abbrev pub new_parameters : List Decl → List Name → List Name
 new_parameters ds parameters = map called (numbered (parameter_thing ds) parameters)
 
--- what has no name of its own in P4_14
+-- made things
 
 -- what has no name of its own in P4_14, and so one that is made
 abbrev pub made_thing : ℕ → ℕ → Name → Thing

@@ -17,8 +17,6 @@ pub record IsSpelt (ds : List Decl) : Type 0 where
   pub tokens : list_all is_spelt_lexeme (flat_map written_decl ds) ≡ true
   pub grammar : list_all is_decl ds ≡ true
 
--- an argument, or an item, that is a number is one that a text can have
-
 -- an argument that is a number is one that a text can have
 abbrev pub IsFitting : Argument → Type 0
 IsFitting (number_argument n) = is_spelt_literal n.literal ≡ true

@@ -62,7 +62,7 @@ object_shown new ds name = record {
 abbrev pub objects_shown : (Name → Name) → List Decl → List ObjectName
 objects_shown new ds = map (object_shown new ds) (in_order (names_in sort.Object ds))
 
--- marks: each list that is preserved has one, no greater than there are such lists, and none is 0
+-- marks
 
 -- each list that is preserved has a mark, no greater than there are such lists, and none is 0
 pub record ShowsMarks (c : Lowering) (ds : List Decl) : Type 0 where

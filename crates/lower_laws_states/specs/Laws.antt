@@ -73,7 +73,7 @@ ControlsKeepStates =
 abbrev pub UpdatesKeepStates : Type 0
 UpdatesKeepStates = (ds : List Decl) (x : Expanded) (s : State) → IsState ds s → IsState ds (updated ds x s)
 
--- what a pass hands on are held values and preserved sets of the program
+-- passes
 
 -- the ends of ingress and of egress fit, and what is parsed again is held
 pub record PassesFit (c : Setting) : Type 0 where
@@ -87,7 +87,7 @@ pub record PassesFit (c : Setting) : Type 0 where
 abbrev pub PassesKeepStates : Type 0
 PassesKeepStates = (c : Setting) → BreaksNo c.decls → IsSetting c → FewTables c.decls → PassesFit c
 
--- a field's number fits it, and a field that is there has 1 to 128 bits
+-- numbers
 
 -- the number of a field is below 2 ^ its width
 abbrev pub NumbersFit : Type 0
@@ -97,7 +97,7 @@ NumbersFit = (ds : List Decl) (s : State) → IsState ds s → (slot : Slot) →
 abbrev pub FieldsAreWide : Type 0
 FieldsAreWide = (ds : List Decl) → BreaksNo ds → (slot : Slot) → SlotStands ds slot → IsWide (slot_bits ds slot)
 
--- how a packet came here stays
+-- arrival
 
 -- parsing, a control and the update of calculated fields leave how the packet came here
 pub record ArrivalStays (c : Setting) : Type 0 where
@@ -113,7 +113,7 @@ ArrivalIsKept = (c : Setting) → BreaksNo c.decls → IsExpanded c.decls c.expa
 abbrev pub NoBoundStops : Type 0
 NoBoundStops = (ds : List Decl) → BreaksNo ds → NeverStopped ds
 
--- behind expansion are primitives alone that name what is there, items of lists that are there, and no calls of controls
+-- expansion
 
 -- the expanded action with this number is of primitives, which name what is there
 pub record ActionStands (ds : List Decl) (x : Expanded) (n : ℕ) (parameters : ℕ) : Type 0 where
@@ -131,7 +131,7 @@ pub record ExpansionStands (ds : List Decl) (x : Expanded) (is : IsExpanded ds x
 abbrev pub ExpansionsStand : Type 0
 ExpansionsStand = (ds : List Decl) (x : Expanded) → BreaksNo ds → (is : IsExpanded ds x) → ExpansionStands ds x is
 
--- what fills a table fits it, and what is chosen for a packet fits the action
+-- tables
 
 -- what fills a table fits its signature, and the call that is chosen for a packet fits its action
 pub record TableFits (c : Setting) (t : Table) : Type 0 where
