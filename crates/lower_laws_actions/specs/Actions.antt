@@ -1,4 +1,5 @@
--- What is asked of an action of a block, as it is written for an action of P4_14 and a table with a direct counter.
+-- What is asked of an action of a block, as it is written for an action of P4_14 and a table with a direct counter
+-- (this project's own; P4_14 1.0.5, "Actions", "Counters"; P4_16 1.2, "Actions"; `v1model.p4`, `direct_counter`).
 use Rattle.std.specs.Prelude.{List, None, Option, Some, true, ℕ, ◌≡◌, [], map, ◌∷◌}
 use Rattle.p414_syntax.specs.declared.syntax.Decl.{Decl}
 use Rattle.p414_syntax.specs.declared.syntax.Rule14.{Rule14}
@@ -20,6 +21,7 @@ use Rattle.lower_laws_actions.specs.Mirror.{body_stmt}
 use Rattle.lower_laws_actions.specs.Runs.{primitives_of}
 use Rattle.v1_core.specs.Frames.{of_headers, of_metadata, of_standard}
 
+-- the table has no direct counter, or it is an object of the block
 abbrev pub CounterIs : Lowering → Option ℕ → Type 0
 CounterIs c None = Unit {0}
 CounterIs c (Some number) = IsObject c direct_counter number
@@ -28,13 +30,13 @@ CounterIs c (Some number) = IsObject c direct_counter number
 abbrev pub body_world : Surroundings → ℕ → World
 body_world b calls = record { around = b; act = act_at b calls; apply = no_table_applies }
 
--- the block has all three parameters
+-- the block has the parameters of headers, of metadata and of standard metadata
 pub record HasAll (c : Lowering) : Type 0 where
   pub headers : HasRoot c.layout of_headers
   pub metadata : HasRoot c.layout of_metadata
   pub standard : HasRoot c.layout of_standard
 
--- copies are asked for where they are needed
+-- the parameters of the block have copies where the primitives need them under this rule
 abbrev pub RuleFits : Lowering → List Decl → Rule14 → List Primitive → Type 0
 RuleFits c ds rule ps = needs_copies ds rule ps ≡ true → Copies c × HasAll c
 

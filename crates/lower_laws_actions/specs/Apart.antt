@@ -1,10 +1,10 @@
--- When the primitives of an action don't depend on each other: none reads a part of the moment that an earlier one changes.
--- Then both rules say the same (`rules_agree`), and the parallel rule needs no copies. Where it would cost much to tell, the
--- answer is no.
+-- When the primitives of an action don't depend on each other: none reads a part of the moment that an earlier one
+-- changes (this project's own; P4_14 1.0.5, "Actions", "Primitive Actions"). Then both rules say the same
+-- (`rules_agree`), and the parallel rule needs no copies. Where it would cost much to tell, the answer is no.
 --
--- Code tells it in one way through the primitives (`apart_behind`): a part that is read costs a look-up or two, if the fields
--- that were written are kept by slot, by element and by instance, and the headers in whose place others stand by element and
--- by instance.
+-- Code tells it in one way through the primitives (`apart_behind`): a part that is read costs a look-up or two, if the
+-- fields that were written are kept by slot, by element and by instance, and the headers in whose place others stand by
+-- element and by instance.
 use Rattle.std.specs.Prelude.{ℕ, ◌==◌, Bool, true, false, not, ◌&&◌, List, [], ◌∷◌, ◌++◌, flat_map}
 use Rattle.std.specs.List.{list_any}
 use Rattle.p414_syntax.specs.declared.calculations.Item.{Item}
@@ -32,19 +32,22 @@ pub data Part : Type 0 where
 
 -- what is read
 
+-- what an operand reads: the field that it is, or nothing
 abbrev pub source_reads : Source → List Part
 source_reads (field slot) = number_of slot ∷ []
 source_reads _ = []
 
+-- what two operands read
 abbrev pub both_read : Source → Source → List Part
 both_read a b = source_reads a ++ source_reads b
 
--- a number, or the octets that aren't parsed yet, which no primitive changes
+-- an item of a field list reads its field; a number, or the octets that aren't parsed yet, reads nothing that a
+-- primitive changes
 abbrev pub item_reads : List Decl → Item → List Part
 item_reads ds (item.Field r) = number_of (slot_of ds r) ∷ []
 item_reads ds _ = []
 
--- a term that goes to the field at this slot
+-- what a term reads that goes to the field at this slot
 abbrev pub term_reads : List Decl → Slot → Term → List Part
 term_reads ds slot (just a) = source_reads a
 term_reads ds slot (on_mask a mask) = number_of slot ∷ both_read a mask
@@ -80,6 +83,7 @@ reads ds nothing = []
 
 -- what is changed
 
+-- the fields of standard metadata, numbered so that they are told apart
 abbrev pub standard_place : Standard → ℕ
 standard_place IngressPort = 0
 standard_place EgressSpec = 1
@@ -87,19 +91,22 @@ standard_place EgressPort = 2
 standard_place PacketLength = 3
 standard_place InstanceType = 4
 
+-- the same element of the same instance
 abbrev pub is_same_element : Element → Element → Bool
 is_same_element a b = (a.instance == b.instance) && (a.element == b.element)
 
+-- the same field
 abbrev pub is_same_slot : Slot → Slot → Bool
 is_same_slot (standard a) (standard b) = standard_place a == standard_place b
 is_same_slot (declared i e f) (declared j k g) = (i == j) && (e == k) && (f == g)
 is_same_slot _ _ = false
 
--- the slot is a field of this element, or of this instance
+-- the slot is a field of this element
 abbrev pub is_in_element : Element → Slot → Bool
 is_in_element header (standard which) = false
 is_in_element header (declared i e f) = is_same_element header (record { instance = i; element = e })
 
+-- the slot is a field of this instance
 abbrev pub is_in_instance : ℕ → Slot → Bool
 is_in_instance instance (standard which) = false
 is_in_instance instance (declared i e f) = instance == i
@@ -128,7 +135,7 @@ is_moved stack (whole_of header) = stack == header.instance
 is_moved stack (elements_of instance) = stack == instance
 is_moved stack (cells_of object) = false
 
--- A part changes with a cell of a register.
+-- A part changes with a cell of a register (P4_14, "Registers").
 abbrev pub is_stored : ℕ → Part → Bool
 is_stored object (cells_of other) = object == other
 is_stored object _ = false

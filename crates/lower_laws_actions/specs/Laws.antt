@@ -1,4 +1,5 @@
--- Laws of actions.
+-- Laws of actions (this project's own; P4_14 1.0.5, "Actions", "Primitive Actions"; P4_16 1.2, "Actions", "Invoking
+-- actions").
 use Rattle.std.specs.Prelude.{List, Option, map, suc, true, ℕ, ◌≡◌}
 use Rattle.agreement_of_meanings.specs.Shown.{width_of}
 use Rattle.p414_sem.specs.Controls.{Setting as Setting14}

@@ -1,5 +1,6 @@
--- When an action of P4_16 does what one of P4_14 does: only of states and arguments of the program is it asked, and states of
--- the program are left.
+-- When an action of P4_16 does what one of P4_14 does: only of states and arguments of the program is it asked, and
+-- states of the program are left (this project's own; P4_14 1.0.5, "Actions", and P4_16 1.2, "Actions", "Invoking
+-- actions").
 use Rattle.std.specs.Prelude.{ℕ, ◌<◌, ◌^◌, List, [], Option, Some}
 use Rattle.std.specs.List.{AllZip}
 use Rattle.p414_sem.specs.Effects.{Moment as Moment14, acted_by}
@@ -10,6 +11,7 @@ use Rattle.v1_core.specs.Surroundings.{Surroundings}
 use Rattle.v1_core.specs.Tables.{hit_of, run_action}
 use Rattle.lower_laws_base.specs.Context.{StateLayout, Aside, Stands}
 
+-- as many arguments as widths, each below 2 ^ its width
 abbrev pub FitWidths : List ℕ → List ℕ → Type 0
 FitWidths widths arguments = AllZip (λ (width value : ℕ). value < 2 ^ width) widths arguments
 

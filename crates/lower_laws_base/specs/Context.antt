@@ -1,4 +1,6 @@
--- What stands around the statements of a block of P4_16, what they see, and how a moment of them stands to one of P4_14.
+-- What stands around the statements of a block of P4_16, what they see, and how a moment of them stands to one of P4_14
+-- (this project's own; P4_14 1.0.5, "Headers and Fields", "Actions", "Standard Intrinsic Metadata"; P4_16 1.2, "Name
+-- resolution", "L-values", "Variable declarations"; `v1model.p4`, `standard_metadata_t`).
 use Rattle.std.specs.Prelude.{◌≡◌, ◌≢◌, ℕ, ◌<◌, ◌≤◌, ◌^◌, Bool, true, false, List, [], ◌∷◌, ◌++◌, length, get_or, slice_index, slice_index_or, is_some, Option, Some, None, codes}
 use Rattle.std.specs.Option.{option_map_or}
 use Rattle.state_store.specs.declared.shapes.Shape.{Shape}
@@ -26,30 +28,34 @@ use Rattle.agreement_of_meanings.specs.Agrees.{NewNames, Agrees, IsElement, Corr
 -- The parameters and variables that statements see beside the parameters of the block, the innermost first; so stand the
 -- variables of a block, too.
 
+-- a parameter or a variable by its name and its kind
 pub record Local : Type 0 where
   pub called : Name
   pub kind : Kind
 
+-- what stands where a list of them has none
 abbrev pub no_local : Local
 no_local = record { called = []; kind = unknown }
 
+-- the parameter or variable at this place of the list
 abbrev pub local_at : List Local → ℕ → Local
 local_at ls j = slice_index_or ls j no_local
 
+-- the value at this place of the list
 abbrev pub value_at : List Value → ℕ → Value
 value_at vs j = slice_index_or vs j no_value
 
--- what they hold, as it stands in a frame
+-- what parameters and variables hold, as they stand in a frame
 abbrev pub inner_of : List Local → List Value → Value
 inner_of [] vs = no_members
 inner_of (l ∷ ls) [] = no_members
 inner_of (l ∷ ls) (v ∷ vs) = a_member l.called v (inner_of ls vs)
 
--- no two have one name
+-- no two parameters or variables have one name
 abbrev pub AreDistinct : List Local → Type 0
 AreDistinct ls = (j k : ℕ) → j < length ls → k < length ls → j ≢ k → (local_at ls j).called ≢ (local_at ls k).called
 
--- none has this name
+-- no parameter or variable has this name
 abbrev pub HasNone : List Local → Name → Type 0
 HasNone ls text = (j : ℕ) → j < length ls → (local_at ls j).called ≢ text
 
@@ -63,9 +69,11 @@ pub record StateLayout : Type 0 where
   pub variables : List Local
   pub shapes : List Shape
 
+-- how the instance with this number is shown
 abbrev pub shown_on : StateLayout → ℕ → Shown
 shown_on g i = shown_at g.names.instances i
 
+-- the block has this parameter, which is one of the three that P4_14 speaks of
 abbrev pub HasRoot : StateLayout → Owner → Type 0
 HasRoot g of_headers = g.has of_headers ≡ true
 HasRoot g of_metadata = g.has of_metadata ≡ true
@@ -78,13 +86,15 @@ pub record ObjectName : Type 0 where
   pub kind : ObjectKind
   pub width : ℕ
 
+-- what stands where a list of objects has none
 abbrev pub no_object : ObjectName
 no_object = record { called = []; kind = counter; width = 0 }
 
+-- the object with this number
 abbrev pub object_at : List ObjectName → ℕ → ObjectName
 object_at objects j = slice_index_or objects j no_object
 
--- its cells are of this shape
+-- the cells of an object are of this shape
 abbrev pub IsShapeOf : ObjectName → Shape → Type 0
 IsShapeOf o (Counter kind cells) = o.kind ≡ counter
 IsShapeOf o (Direct kind cells) = o.kind ≡ direct_counter
@@ -123,6 +133,7 @@ pub record Lowering : Type 0 where
   pub packet : Option PacketName
   pub world : World
 
+-- the words among what stands around statements
 abbrev pub words_of : Lowering → Words
 words_of c = record {
   names = c.layout.names;
@@ -134,18 +145,22 @@ words_of c = record {
   parameters = c.parameters;
 }
 
+-- how the instance with this number is shown
 abbrev pub shown_in : Lowering → ℕ → Shown
 shown_in c i = shown_on c.layout i
 
+-- how all instances are shown
 abbrev pub instances_of : Lowering → List Shown
 instances_of c = c.layout.names.instances
 
+-- the kind of an instance's member with this type and number of elements: a header, a stack or a struct (P4_16 1.2,
+-- "Header types", "Header stacks", "Derived types")
 abbrev pub instance_kind : Shown → Name → ℕ → Kind
 instance_kind (as_header called fields) type size = header type
 instance_kind (as_stack called fields) type size = stack type size
 instance_kind (as_metadata called fields) type size = struct type
 
--- an element of a stack, a header or metadata
+-- the kind of an element: a header, also where it is one of a stack, or a struct of metadata
 abbrev pub element_kind : Shown → Name → Kind
 element_kind (as_header called fields) type = header type
 element_kind (as_stack called fields) type = header type
@@ -157,19 +172,22 @@ pub data At : Type 0 where
   now : At
   entry : At
 
+-- the name of a parameter of the block, or of its copy
 abbrev pub root_at : Words → At → Owner → Name
 root_at w now o = w.root o
 root_at w entry o = w.copy o
 
+-- what owns a parameter's value there: the parameter itself, or the variables of the block
 abbrev pub owner_at : At → Owner → Owner
 owner_at now o = o
 owner_at entry o = of_variables
 
+-- the steps from the owner to it: to the member of a copy
 abbrev pub steps_at : Words → At → Owner → List Step
 steps_at w now o = []
 steps_at w entry o = to_member (w.copy o) ∷ []
 
--- what is meant there
+-- a whole parameter there: itself, or the member of its copy
 abbrev pub base_at : Words → At → Owner → Reference
 base_at w at o = record { owner = owner_at at o; steps = steps_at w at o; slice = None }
 
@@ -183,7 +201,7 @@ pub record IsCopied (c : Lowering) (o : Owner) : Type 0 where
   pub within : place < length c.layout.variables
   pub stands : local_at c.layout.variables place ≡ record { called = c.copy o; kind = struct (c.root_type o) }
 
--- each parameter has a copy of its own
+-- each parameter of the block has a copy of its own
 pub record Copies (c : Lowering) : Type 0 where
   pub copied : (o : Owner) → HasRoot c.layout o → IsCopied c o
   pub differ : (o p : Owner) → HasRoot c.layout o → HasRoot c.layout p → c.copy o ≡ c.copy p → o ≡ p
@@ -202,6 +220,7 @@ pub data Item : Type 0 where
   an_enumeration : (of : Enumeration) → Item
   the_packet : Item
 
+-- the block sees this item
 abbrev pub IsItem : Lowering → Item → Type 0
 IsItem c (a_root o) = HasRoot c.layout o
 IsItem c (a_copy o) = IsCopied c o
@@ -210,18 +229,22 @@ IsItem c (a_function called) = has_name functions called ≡ true
 IsItem c (an_enumeration e) = Unit {0}
 IsItem c the_packet = is_some c.packet ≡ true
 
+-- the names of the enumerations of `v1model.p4`
 abbrev pub enumeration_name : Enumeration → Name
 enumeration_name hash_algorithm = codes "HashAlgorithm"
 enumeration_name counter_type = codes "CounterType"
 enumeration_name meter_type = codes "MeterType"
 enumeration_name clone_type = codes "CloneType"
 
+-- a packet by its name
 abbrev pub packet_name : PacketName → Name
 packet_name p = p.called
 
+-- a packet is a value that can't be written
 abbrev pub packet_sort : PacketName → Sort
 packet_sort p = a_value p.kind false
 
+-- the name of an item that a block sees
 abbrev pub item_name : Lowering → Item → Name
 item_name c (a_root o) = c.root o
 item_name c (a_copy o) = c.copy o
@@ -230,6 +253,7 @@ item_name c (a_function called) = called
 item_name c (an_enumeration e) = enumeration_name e
 item_name c the_packet = option_map_or packet_name c.packet []
 
+-- what the name of an item stands for
 abbrev pub item_sort : Lowering → Item → Sort
 item_sort c (a_root o) = a_value (struct (c.root_type o)) (c.can_write o)
 item_sort c (a_copy o) = a_value (struct (c.root_type o)) true
@@ -262,7 +286,7 @@ pub record Sees (c : Lowering) (s : Scope) (ls : List Local) : Type 0 where
   pub distinct : AreDistinct ls
   pub apart : (x : Item) → IsItem c x → HasNone ls (item_name c x)
 
--- a name that nothing has that statements see
+-- a name that nothing has that statements see (P4_16, "Name resolution")
 pub record IsFresh (c : Lowering) (ls : List Local) (called : Name) : Type 0 where
   pub locals : HasNone ls called
   pub items : (x : Item) → IsItem c x → called ≢ item_name c x
@@ -274,10 +298,12 @@ pub record Spares (c : Lowering) (ls : List Local) (b : ℕ) : Type 0 where
 
 -- which elements and slots a block reaches
 
+-- an element that is there, in a parameter that the block has
 abbrev pub IsPart : StateLayout → Element → Type 0
 IsPart g at =
     (at.instance < length g.names.instances) × (at.element < g.size_of at.instance) × HasRoot g (owner_of (shown_on g at.instance))
 
+-- a field that is there, in a parameter that the block has
 abbrev pub IsSlot : StateLayout → Slot → Type 0
 IsSlot g (standard which) = HasRoot g of_standard
 IsSlot g (declared i e k) =
@@ -285,11 +311,14 @@ IsSlot g (declared i e k) =
 
 -- States of the program: the forms and bounds that a state of P4_14 keeps, from names and sizes alone.
 
+-- an element of an instance: of a form that its sort can have, with a number for each field within its width
 pub record IsShaped (x : Shown) (i : Instance) (e : ℕ) : Type 0 where
   pub which : IsElement x i e
   pub count : length (element i e).numbers ≡ length (fields_of x)
   pub bounds : (k : ℕ) → k < length (fields_of x) → get_or (element i e).numbers k 0 < 2 ^ (field_at (fields_of x) k).width
 
+-- as many instances as are shown, each with its elements and a place within them, and standard fields within their
+-- widths
 pub record Shaped (g : StateLayout) (s : State) : Type 0 where
   pub count : length s.instances ≡ length g.names.instances
   pub sizes : (i : ℕ) → i < length g.names.instances → length (instance_at s i).elements ≡ g.size_of i
@@ -299,24 +328,25 @@ pub record Shaped (g : StateLayout) (s : State) : Type 0 where
 
 -- values
 
--- a struct with these members in this order
+-- a struct with these members in this order (P4_16 1.2, "Operations on struct types")
 abbrev pub HasMembers : List Name → Value → Type 0
 HasMembers [] no_members = Unit {0}
 HasMembers [] v = ⊥
 HasMembers (x ∷ xs) (a_member called of rest) = (called ≡ x) × HasMembers xs rest
 HasMembers (x ∷ xs) v = ⊥
 
--- what is written whole, as a header, a stack or a struct
+-- what is written whole, as a header, a stack or a struct (P4_16 1.2, "Assignment statement")
 abbrev pub IsWhole : Value → Type 0
 IsWhole v = (x : Value) → fitted v x ≡ x
 
--- some parameter or variable holds this
+-- some parameter or variable of statements holds this value
 pub record Holds (ls : List Local) (vs : List Value) (l : Local) (v : Value) : Type 0 where
   pub place : ℕ
   pub within : place < length ls
   pub stands : local_at ls place ≡ l
   pub holds : value_at vs place ≡ v
 
+-- a parameter of an action, as a local: bits of its width
 abbrev pub local_of : NamedField → Local
 local_of f = record { called = f.called; kind = bits f.width }
 
@@ -325,6 +355,7 @@ pub record IsGiven (parameters : List NamedField) (ls : List Local) (vs : List V
   pub holds : Holds ls vs (local_of (field_at parameters j)) (a_number (field_at parameters j).width (slice_index arguments j))
   pub fits : slice_index arguments j < 2 ^ (field_at parameters j).width
 
+-- the arguments of all parameters stand among them
 abbrev pub AreGiven : List NamedField → List Local → List Value → List ℕ → Type 0
 AreGiven parameters ls vs arguments = (j : ℕ) → j < length parameters → IsGiven parameters ls vs arguments j
 
@@ -345,7 +376,7 @@ pub record HasVariables (ls : List Local) (f : Frame) : Type 0 where
   pub is : f.variables ≡ inner_of ls values
   pub whole : (j : ℕ) → j < length ls → IsWhole (value_at values j)
 
--- a store of the program's objects
+-- a store of the program's objects, by their shapes
 pub record Stored (shapes : List Shape) (store : Contents) : Type 0 where
   pub shapes_are : store.shapes ≡ shapes
   pub is_store : IsStore store
@@ -386,13 +417,13 @@ pub record Looks (c : Lowering) (s : Scope) (ls : List Local) (vs : List Value) 
   pub has : HasAt c at
   pub seen : Seen c at r f
 
--- a source of the program
+-- an operand that the block can have: its field or its parameter is there
 abbrev pub SourceFits : Lowering → Source → Type 0
 SourceFits c (number z) = Unit {0}
 SourceFits c (field slot) = IsSlot c.layout slot
 SourceFits c (parameter j) = j < length c.parameters
 
--- a header or an element of a stack
+-- a header or an element of a stack that the block reaches, and no metadata
 abbrev pub IsHeaderPart : StateLayout → Element → Type 0
 IsHeaderPart g at = IsPart g at × (is_metadata (shown_on g at.instance) ≡ false)
 

@@ -1,4 +1,5 @@
--- Laws of what all statements share.
+-- Laws of what all statements share (this project's own; P4_14 1.0.5, "Field Value Conversions", "Primitive Actions";
+-- P4_16 1.2, "Casts").
 use Rattle.std.specs.Prelude.{List, ℕ}
 use Rattle.p414_sem.specs.Effects.{source_number}
 use Rattle.p414_sem.specs.Operations.{Source}

@@ -1,4 +1,6 @@
--- How the instances of the program are shown, and the values that a pass begins with.
+-- How the instances of the program are shown, and the values that a pass begins with (this project's own; P4_14 1.0.5,
+-- "Header Type Declarations", "Header and Metadata Instances", "Standard Intrinsic Metadata"; P4_16 1.2, "Header
+-- types", "Header stacks", "Derived types").
 use Rattle.std.specs.Prelude.{◌≡◌, ℕ, ◌<◌, true, false, List, length, get_or, replicate, codes}
 use Rattle.p414_syntax.specs.declared.syntax.Decl.{Decl}
 use Rattle.p414_syntax.specs.declared.syntax.Decl.TheVariants as decl
@@ -17,17 +19,20 @@ use Rattle.v1_core.specs.Passes.{none_preserved}
 use Rattle.agreement_of_meanings.specs.Shown.{Shown, as_header, as_stack, as_metadata, shown_value, shown_members, name_of, fields_of, is_metadata, standard_word, standard_width}
 use Rattle.lower_laws_base.specs.Context.{StateLayout, shown_on, HasMembers}
 
+-- a declared header, stack or metadata instance is shown as what it is, with as many elements and fields
 abbrev pub ShownDecl : List Decl → Decl → Shown → ℕ → Type 0
 ShownDecl ds (decl.Header d) (as_header called fields) size = (size ≡ 1) × (elements_of d.size ≡ 1) × (count_of_fields ds d.header_type ≡ length fields)
 ShownDecl ds (decl.Header d) (as_stack called fields) size = (elements_of d.size ≡ size) × (count_of_fields ds d.header_type ≡ length fields)
 ShownDecl ds (decl.Metadata d) (as_metadata called fields) size = (size ≡ 1) × (count_of_fields ds d.header_type ≡ length fields)
 ShownDecl ds _ _ size = ⊥
 
+-- each declared instance is shown so, and no other
 pub record DeclsShown (g : StateLayout) (ds : List Decl) : Type 0 where
   pub all : length (declared_in sort.Instance ds) ≡ length g.names.instances
   pub each : (k : ℕ) → k < length g.names.instances → (d : Decl) → ShownDecl ds (get_or (declared_in sort.Instance ds) k d) (shown_on g k) (g.size_of k)
 
--- the values that a pass begins with
+-- The values that a pass begins with are those that P4_14 begins with: headers invalid, and all numbers 0, members in
+-- the order of the layout.
 pub record ZerosAlike (g : StateLayout) (syntax : Syntax16) : Type 0 where
   pub headers : (k : ℕ) → k < length g.names.instances → is_metadata (shown_on g k) ≡ false → member_in (zero_value (layouts_of syntax.decls) (headers_kind syntax)) (name_of (shown_on g k)) ≡ shown_value (shown_on g k) (blank_instance false (g.size_of k) (length (fields_of (shown_on g k))))
   pub metadata : (k : ℕ) → k < length g.names.instances → is_metadata (shown_on g k) ≡ true → member_in (none_preserved syntax) (name_of (shown_on g k)) ≡ shown_members (fields_of (shown_on g k)) (replicate (length (fields_of (shown_on g k))) 0)

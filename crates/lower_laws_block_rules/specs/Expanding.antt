@@ -1,4 +1,5 @@
--- What is asked of the controls of a program as they are written.
+-- What is asked of the controls of a program as they are written (this project's own, the limits, too; P4_14 1.0.5,
+-- "Packet Processing and Control Flow", "Summary of P4 BNF").
 use Rattle.std.specs.Prelude.{◌≡◌, true, List, Some}
 use Rattle.std.specs.List.{AllByRecursion}
 use Rattle.p414_syntax.specs.Conditions.{block as a_block, is_stmt}

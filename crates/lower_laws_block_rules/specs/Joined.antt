@@ -1,4 +1,6 @@
--- What is asked of all declarations of a program together, where each keeps the rules by itself.
+-- What is asked of all declarations of a program together, where each keeps the rules by itself (this project's own,
+-- the limits, too; P4_16 1.2, "Derived types", "Tables", "Control-plane API annotations"; `v1model.p4`, the stateful
+-- objects).
 use Rattle.std.specs.Prelude.{◌≡◌, ◌+◌, ◌≤◌, true, false, List, [], map, flat_map, sum_by}
 use Rattle.std.specs.List.{AllByRecursion}
 use Rattle.p416_syntax.specs.declared.program.Decl16.{Decl16}
@@ -35,7 +37,7 @@ pub record RestKeeps (p : Parts) : Type 0 where
   pub cells : AllByRecursion CellsFit (flat_map cells_in (decls_of p))
   pub all_cells : cell_sum (flat_map cells_in (decls_of p)) ≤ 4194304
 
--- the six blocks
+-- each of the six blocks breaks no rule by itself
 pub record BlocksKeep (p : Parts) : Type 0 where
   pub parser : EachKeeps (syntax_of p) decl_held (decl.Parser p.parser)
   pub verify : EachKeeps (syntax_of p) decl_held (decl.Control p.verify)

@@ -1,4 +1,5 @@
--- What holds of the blocks that are written as they are asked to be: they break no rule of P4_16.
+-- What holds of the blocks that are written as they are asked to be: they break no rule of P4_16 (laws of this
+-- project's own; P4_16 1.2, "Control blocks", "Packet parsing", "Deparsing").
 use Rattle.std.specs.Prelude.{ℕ, Bool, List, []}
 use Rattle.p414_syntax.specs.declared.syntax.Decl.{Decl}
 use Rattle.p414_syntax.specs.Names.{Name}

@@ -1,4 +1,6 @@
--- What the rules ask of the blocks of a program that is put together, beside what its meaning asks of them.
+-- What the rules ask of the blocks of a program that is put together, beside what its meaning asks of them (this
+-- project's own, the limits, too; P4_14 1.0.5, "Parser Specification", "Packet Processing and Control Flow", "Checksums
+-- and Hash-value Generators"; P4_16 1.2, "Packet parsing", "Control blocks").
 use Rattle.std.specs.Prelude.{◌≡◌, ℕ, ◌<◌, ◌≤◌, Bool, false, List, ◌∷◌, [], length, map, filter_map}
 use Rattle.std.specs.List.{AllByRecursion}
 use Rattle.p414_syntax.specs.declared.parsers.Parser.{Parser}
@@ -34,14 +36,15 @@ use Rattle.lower_laws_block_rules.specs.Sums.{FieldHere}
 use Rattle.lower_laws_block_rules.specs.Parsers.{StateHere}
 use Rattle.lower_laws_block_rules.specs.Wholes.{LocalHere, TablePlaced}
 
--- fields have 1 to 128 bits (C3)
+-- the fields of all instances have 1 to 128 bits (C3)
 abbrev pub LayoutWide : StateLayout → Type 0
 LayoutWide g = (i k : ℕ) → i < length g.names.instances → k < length (fields_of (shown_on g i)) → IsWidth (field_at (fields_of (shown_on g i)) k).width
 
--- the names of the parameters
+-- the names of the parameters of the blocks
 abbrev pub fixed_roots : RootNames
 fixed_roots = record { packet = packet_called; headers = root_name of_headers; metadata = root_name of_metadata; standard = root_name of_standard }
 
+-- the names of the parser's parameters, as a list
 abbrev pub parser_fixed : List Name
 parser_fixed = packet_called ∷ root_name of_headers ∷ root_name of_metadata ∷ root_name of_standard ∷ []
 
@@ -65,7 +68,7 @@ pub record PipelineRules (c : Lowering) (ds : List Decl) (top : Scope) (k : Plan
   pub nests : nesting body ≤ 63
   pub body_is : d.body ≡ guarded_stmt (words_of c) checks (control_stmt (words_of c) ds k block body)
 
--- verify or compute
+-- The block that verifies or updates: it declares nothing, and its calculated fields are as the rules ask.
 pub record SumsRules (c : Lowering) (ds : List Decl) (x : Expanded) (updates : Bool) (d : Control16) : Type 0 where
   pub bare : d.locals ≡ []
   pub fields : Each (FieldHere c.layout ds x updates) (calculated_fields ds)

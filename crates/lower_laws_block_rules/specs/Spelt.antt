@@ -1,4 +1,5 @@
--- What is asked of the names of the six blocks for them to be spelt.
+-- What is asked of the names of the six blocks for them to be spelt (this project's own; P4_16 1.2, "Lexical
+-- constructs", "P4 grammar").
 use Rattle.std.specs.Prelude.{List, [], ◌∷◌}
 use Rattle.std.specs.List.{AllByRecursion}
 use Rattle.p414_syntax.specs.declared.parsers.Parser.{Parser}
@@ -20,7 +21,7 @@ use Rattle.lower_laws_block_rules.specs.Statements.{IsExpandedAt, TableSpelt}
 use Rattle.lower_laws_block_rules.specs.Widths.{SpeltHere}
 use Rattle.lower_laws_block_rules.specs.Wholes.{LocalHere}
 
--- the parameters and their types
+-- the names of the parameters of blocks, and of their types, are spelt
 pub record RootsSpelt (h m : Name) (r : RootNames) : Type 0 where
   pub packet : SpeltName r.packet
   pub headers : SpeltName r.headers
@@ -29,18 +30,19 @@ pub record RootsSpelt (h m : Name) (r : RootNames) : Type 0 where
   pub header_struct : SpeltName h
   pub metadata_struct : SpeltName m
 
--- a declaration of ingress or egress
+-- the names of a declaration of ingress or egress are spelt
 abbrev pub LocalNamed : (c : Lowering) (ds : List Decl) (s : Scope) (k : Plan) (l : Local) → LocalHere c ds s k l → Type 0
 LocalNamed c ds s k (local.Var v) here = SpeltName here.0 × SpeltName v.name
 LocalNamed c ds s k (local.Action a) here = SpeltAction a
 LocalNamed c ds s k (local.Table u) here = TableNamed ds (k.copy here.0.name) (k.table here.0.name) here.1 here.0
 LocalNamed c ds s k (local.Instance notes i) here = Unit {0}
 
+-- the names of all declarations of ingress or egress are spelt
 abbrev pub AllNamed : (c : Lowering) (ds : List Decl) (s : Scope) (k : Plan) (ls : List Local) → AllByRecursion (LocalHere c ds s k) ls → Type 0
 AllNamed c ds s k [] all = Unit {0}
 AllNamed c ds s k (l ∷ ls) all = LocalNamed c ds s k l all.0 × AllNamed c ds s k ls all.1
 
--- ingress or egress: the grammar of P4_14 gives the form of the expanded statements
+-- the names of ingress or egress are spelt: the grammar of P4_14 gives the form of the expanded statements
 pub record PipelineNamed (c : Lowering) (ds : List Decl) (s : Scope) (k : Plan) (P : Name → Type 0) (body : Stmt) (h m : Name) (r : RootNames) (d : Control16) (all : AllByRecursion (LocalHere c ds s k) d.locals) : Type 0 where
   pub name : SpeltName d.name
   pub roots : RootsSpelt h m r
@@ -49,13 +51,13 @@ pub record PipelineNamed (c : Lowering) (ds : List Decl) (s : Scope) (k : Plan) 
   pub tables : (t : Name) → P t → TableSpelt k t
   pub expanded : IsExpandedAt a_block body
 
--- the other controls
+-- the names of another control are spelt
 pub record ControlNamed (c : Lowering) (h m : Name) (r : RootNames) (d : Control16) : Type 0 where
   pub name : SpeltName d.name
   pub roots : RootsSpelt h m r
   pub here : SpeltHere c
 
--- the parser
+-- the names of the parser, and of its states, are spelt
 pub record ParserNamed (c : Lowering) (ds : List Decl) (packet : Name) (state : Name → Name) (h m called : Name) (r : RootNames) : Type 0 where
   pub name : SpeltName called
   pub roots : RootsSpelt h m r

@@ -1,4 +1,6 @@
--- What the rules ask of the statements of a control, where calls of controls are expanded.
+-- What the rules ask of the statements of a control, where calls of controls are expanded (this project's own, the
+-- limits, too; P4_14 1.0.5, "Packet Processing and Control Flow", "Summary of P4 BNF"; P4_16 1.2, "Statements", "Switch
+-- statement").
 use Rattle.std.specs.Prelude.{◌≡◌, ◌≤◌, true, List, map, Option, Some}
 use Rattle.p414_syntax.specs.Conditions.{StmtPlace, block, statement, behind_if, branches, is_if}
 use Rattle.p414_syntax.specs.Tree.{Stmt, no_statements as nothing14, then as then14, apply, apply_branches, if_then as if14, no_else, else_block, else_if, no_branches, branch}
@@ -44,7 +46,7 @@ pub record TableSeen (s : Scope) (k : Plan) (t : Name) : Type 0 where
   pub sort : sort_of s (k.table t) ≡ a_table (map declared_action actions) counters
   pub labels : (a text : Name) → k.copy t a ≡ Some text → (has_name actions text ≡ true) × ((plane : Name) × (parameters : List Handed) × (sort_of s text ≡ an_action plane parameters))
 
--- the new names are spelt
+-- the new names of a table, and of the copies that it lists, are spelt
 pub record TableSpelt (k : Plan) (t : Name) : Type 0 where
   pub table : SpeltName (k.table t)
   pub labels : (a text : Name) → k.copy t a ≡ Some text → SpeltName text

@@ -1,4 +1,5 @@
--- What the rules ask of calculated fields, beside what their meaning asks.
+-- What the rules ask of calculated fields, beside what their meaning asks (this project's own, the limits, too; P4_14
+-- 1.0.5, "Checksums and Hash-value Generators", "Field Lists"; `v1model.p4`, `HashAlgorithm`).
 use Rattle.std.specs.Prelude.{◌≡◌, ◌≤◌, Bool, true, List, length, filter, unwrap_or}
 use Rattle.std.specs.List.{AllByRecursion}
 use Rattle.p414_syntax.specs.declared.calculations.Item.{Item}

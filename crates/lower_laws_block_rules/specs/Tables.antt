@@ -1,4 +1,5 @@
--- A table as it is written, and what the rules ask of it.
+-- A table as it is written, and what the rules ask of it (this project's own; P4_14 1.0.5, "Table Declarations"; P4_16
+-- 1.2, "Tables", "Control-plane API annotations").
 use Rattle.std.specs.Prelude.{◌≡◌, ℕ, ◌^◌, ◌-◌, min, true, false, List, [], length, map, Option, Some, None, option_map, unwrap_or}
 use Rattle.std.specs.List.{AllByRecursion}
 use Rattle.p414_syntax.specs.declared.lexeme.Literal.{Literal}
@@ -19,11 +20,13 @@ use Rattle.lower_laws_rules.specs.Declared.{Listed, IsListed, FitsCounters}
 use Rattle.lower_laws_rules.specs.Spelling.{SpeltName}
 use Rattle.lower_laws_block_rules.specs.Widths.{IsWidth}
 
+-- `size`, else `max_size`, is at most the greatest number of 32 bits
 abbrev pub size_number : Option Literal → Option Literal → Option ℕ
 size_number (Some n) most = Some (min (2 ^ 32 - 1) n.value)
 size_number None (Some n) = Some (min (2 ^ 32 - 1) n.value)
 size_number None None = None
 
+-- the default action, with as many arguments as it has parameters, each cut to its width
 abbrev pub default_text : List Decl → (Name → Option Name) → Table → Name → Default
 default_text ds copy t name = record {
   action = copy_text copy name;
@@ -31,6 +34,7 @@ default_text ds copy t name = record {
   values = kept_arguments (widths_of_action ds name) (unwrap_or (default_arguments_of t.attributes) []);
 }
 
+-- the table as a whole, with a new name, whose direct counter has a new name too
 abbrev pub text_of : Words → List Decl → (Name → Option Name) → Name → Option Name → Table → TableText
 text_of w ds copy called counter t = record {
   plane = t.name;
@@ -46,6 +50,7 @@ text_of w ds copy called counter t = record {
 abbrev pub listed_as : List Decl → Name → Listed
 listed_as ds name = record { plane = name; widths = widths_of_action ds name }
 
+-- the scope of the control knows the copy of an action, with its parameters
 abbrev pub IsCopyHere : List Decl → Scope → (Name → Option Name) → Name → Type 0
 IsCopyHere ds s copy name = IsListed s (copy_text copy name) (listed_as ds name)
 
@@ -66,14 +71,17 @@ pub record TableHere (c : Lowering) (ds : List Decl) (s : Scope) (copy : Name �
   pub counter_is : FitsCounters s counter
   pub default : DefaultStands ds t (default_action_of t.attributes)
 
--- what is asked beside for it to be spelt: a table lists an action (S1); names; widths of parameters (C3)
+-- a name that may be there is spelt
 abbrev pub OptionSpelt : Option Name → Type 0
 OptionSpelt None = Unit {0}
 OptionSpelt (Some text) = SpeltName text
 
+-- the new name of the copy of an action is spelt, and the action's parameters have 1 to 128 bits
 abbrev pub CopySpelt : List Decl → (Name → Option Name) → Name → Type 0
 CopySpelt ds copy name = SpeltName (copy_text copy name) × AllByRecursion IsWidth (widths_of_action ds name)
 
+-- what is asked beside for a table to be spelt: it lists an action (S1), its names are spelt, and parameters have
+-- widths (C3)
 pub record TableNamed (ds : List Decl) (copy : Name → Option Name) (called : Name) (counter : Option Name) (t : Table) : Type 0 where
   pub some : is_some_listed (listed_in t) ≡ true
   pub plane : is_identifier16 t.name ≡ true

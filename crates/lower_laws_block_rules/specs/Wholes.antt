@@ -1,4 +1,5 @@
--- The six blocks as they are written, and what the rules ask of each.
+-- The six blocks as they are written, and what the rules ask of each (this project's own, the limits, too; P4_16 1.2,
+-- "Control blocks", "Packet parsing", "Deparsing"; `v1model.p4`, `V1Switch` and the parameters of its blocks).
 use Rattle.std.specs.Prelude.{◌≡◌, ◌≢◌, ℕ, ◌≤◌, Bool, true, false, List, [], ◌∷◌, ◌++◌, map, filter_map, Option, Some, codes}
 use Rattle.std.specs.List.{AllByRecursion}
 use Rattle.p414_syntax.specs.declared.tables.Table.{Table}
@@ -40,10 +41,11 @@ use Rattle.lower_laws_block_rules.specs.Statements.{ConditionsStand}
 use Rattle.lower_laws_block_rules.specs.Sums.{FieldHere}
 use Rattle.lower_laws_block_rules.specs.Parsers.{StateHere}
 
--- the structs at the top
+-- a struct of this name is declared at the top
 abbrev pub IsStruct : Scope → Name → Type 0
 IsStruct s text = sort_of s text ≡ a_type (struct text)
 
+-- the block can write all the parameters that it has
 abbrev pub CanWrite : Lowering → Type 0
 CanWrite c = (o : Owner) → HasRoot c.layout o → c.can_write o ≡ true
 
@@ -68,7 +70,8 @@ pub record TablePlaced (c : Lowering) (ds : List Decl) (s : Scope) (k : Plan) (l
   pub here : TableHere c ds s (k.copy name) counter table
   pub listed : (a text : Name) → k.copy name a ≡ Some text → has_name (listed_in table) a ≡ true
 
--- Names differ (C1, and the new names); no counter belongs to two tables (C23); blocks nest at most 64 deep (C28).
+-- Ingress or egress. Names differ (C1, and the new names); no counter belongs to two tables (C23); blocks nest at most
+-- 64 deep (C28).
 pub record PipelineIs (s : Scope) (c : Lowering) (ds : List Decl) (k : Plan) (P : Name → Type 0) (checks : Bool) (body : Stmt) (h m : Name) (d : Control16) : Type 0 where
   pub roots : RootNames
   pub parameters : d.parameters ≡ pipeline_params h m roots
@@ -105,6 +108,7 @@ pub record SumsBlockIs (s : Scope) (c : Lowering) (ds : List Decl) (x : Expanded
   pub fields : Each (FieldHere c.layout ds x updates) (calculated_fields ds)
   pub body_is : d.body ≡ sums_stmt (words_of c) ds x updates
 
+-- the deparser: it emits headers in this order, and declares nothing
 pub record DeparserIs (s : Scope) (c : Lowering) (packet : Name) (order : List ℕ) (h : Name) (d : Control16) : Type 0 where
   pub roots : RootNames
   pub parameters : d.parameters ≡ deparser_params h roots
@@ -117,8 +121,8 @@ pub record DeparserIs (s : Scope) (c : Lowering) (packet : Name) (order : List �
   pub stand : HeadersStand c.layout order
   pub body_is : d.body ≡ emits (words_of c) packet order
 
--- New names of states differ where names do; states of the program are as their meaning and the rules ask; none follow each
--- other in a circle without an extraction (C9).
+-- The parser. New names of states differ where names do; states of the program are as their meaning and the rules ask;
+-- none follow each other in a circle without an extraction (C9).
 pub record ParserIs (s : Scope) (c : Lowering) (ds : List Decl) (packet : Name) (state : Name → Name) (h m : Name) (q : Parser16) : Type 0 where
   pub roots : RootNames
   pub parameters : q.parameters ≡ parser_params h m roots

@@ -1,4 +1,5 @@
--- Widths of fields and literals, and depths, as the rules of P4_14 give them.
+-- Widths of fields and literals, and depths, as the rules of P4_14 give them (this project's own, the limits, too;
+-- P4_14 1.0.5, "Header Type Declarations", "Value Specifications", "Header and Metadata Instances").
 use Rattle.std.specs.Prelude.{ℕ, ◌<◌, ◌≤◌, length}
 use Rattle.p414_syntax.specs.Tree.{Expr, number, parenthesized, unary, binary}
 use Rattle.p414_sem.specs.Slots.{Slot}
@@ -7,6 +8,7 @@ use Rattle.lower_laws_base.specs.Context.{Lowering, words_of, instances_of, now,
 use Rattle.lower_laws_base.specs.Mirror.{width_in}
 use Rattle.lower_laws_rules.specs.Spelling.{SpeltNames}
 
+-- a width of 1 to 128 bits
 abbrev pub IsWidth : ℕ → Type 0
 IsWidth width = (0 < width) × (width ≤ 128)
 

@@ -1,4 +1,6 @@
--- What the statements of a control ask of its tables, and which statements are those of the program.
+-- What the statements of a control ask of its tables, and which statements are those of the program (this project's
+-- own; P4_14 1.0.5, "Packet Processing and Control Flow", "Table Declarations"; P4_16 1.2, "Match-action unit
+-- invocation", "Switch statement").
 use Rattle.std.specs.Prelude.{◌≡◌, Bool, true, false, ◌||◌, List, [], Option, Some, None}
 use Rattle.std.specs.Str.{bytes_eq}
 use Rattle.p414_syntax.specs.declared.node.Label.{Label}
@@ -21,18 +23,20 @@ use Rattle.lower_laws_controls.specs.Controls.{Plan, Way, block, at_hit, at_miss
 abbrev pub Level : StateLayout → Aside → Moment14 → Moment → Type 0
 Level g aside m n = Stands g [] [] aside m n
 
--- the action that ran, and its copy
+-- the action that ran in P4_14, and its copy that ran in P4_16
 abbrev pub ActionsAgree : (Name → Option Name) → Option Name → Option Name → Type 0
 ActionsAgree copy None None = Unit {0}
 ActionsAgree copy (Some a) (Some q) = copy a ≡ Some q
 ActionsAgree copy _ _ = ⊥
 
+-- what both tables come to: a hit or a miss, the action that ran, and the moment
 pub record AppliedAgrees (g : StateLayout) (aside : Aside) (copy : Name → Option Name) (x : Applied14) (y : Applied) : Type 0 where
   pub hit : y.hit ≡ x.hit
   pub action : ActionsAgree copy x.action y.action
   pub moment : Level g aside x.moment y.moment
 
--- All that statements ask of a table.
+-- All that statements ask of a table: it is one, the copies that it lists are of one action each, and applying it
+-- agrees.
 pub record TableStands (c : Lowering) (s : Scope) (d : Setting14) (k : Plan) (t : Name) : Type 0 where
   pub sort : sort_kind (sort_of s (k.table t)) ≡ table
   pub copies : (a b text : Name) → k.copy t a ≡ Some text → k.copy t b ≡ Some text → a ≡ b
@@ -40,36 +44,42 @@ pub record TableStands (c : Lowering) (s : Scope) (d : Setting14) (k : Plan) (t 
 
 -- branches
 
+-- the same action, or `default` twice, as labels of branches
 abbrev pub is_same_label : Label → Label → Bool
 is_same_label (label.Action a) (label.Action b) = bytes_eq a b
 is_same_label label.Default label.Default = true
 is_same_label _ _ = false
 
+-- one of these branches has this label
 abbrev pub has_same : Label → Stmt → Bool
 has_same l (branch before k body) = is_same_label l k || has_same l before
 has_same l _ = false
 
+-- a label for `hit` or `miss` (P4_14, "Packet Processing and Control Flow")
 abbrev pub IsOutcome : Label → Type 0
 IsOutcome label.Hit = Unit {0}
 IsOutcome label.Miss = Unit {0}
 IsOutcome _ = ⊥
 
+-- a label for an action, or `default` (P4_14, "Packet Processing and Control Flow")
 abbrev pub IsActionLabel : Label → Type 0
 IsActionLabel label.Default = Unit {0}
 IsActionLabel (label.Action a) = Unit {0}
 IsActionLabel _ = ⊥
 
--- a label at this place behind these branches
+-- a label may stand at this place, behind these branches
 abbrev pub LabelFits : Way → Stmt → Label → Type 0
 LabelFits block before l = ⊥
 LabelFits at_hit before l = IsOutcome l
 LabelFits at_miss before l = IsOutcome l
 LabelFits (at_actions t) before l = IsActionLabel l × (has_same l before ≡ false)
 
+-- the place is one of statements by themselves
 abbrev pub IsBlock : Way → Type 0
 IsBlock block = Unit {0}
 IsBlock _ = ⊥
 
+-- the place is one of branches
 abbrev pub IsNotBlock : Way → Type 0
 IsNotBlock block = ⊥
 IsNotBlock _ = Unit {0}

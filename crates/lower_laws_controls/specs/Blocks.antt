@@ -1,5 +1,6 @@
--- Blocks between which moments stand, the variables with which a block begins and which end with it, and what stands for a
--- control of P4_14.
+-- Blocks between which moments stand, the variables with which a block begins and which end with it, and what stands
+-- for a control of P4_14 (this project's own; P4_14 1.0.5, "Packet Processing and Control Flow"; P4_16 1.2, "Control
+-- blocks", "Variable declarations").
 use Rattle.std.specs.Prelude.{◌≡◌, List, [], None, codes}
 use Rattle.std.specs.List.{AllZip}
 use Rattle.state_store.specs.Ports.{drop_port}
@@ -20,7 +21,7 @@ pub record Inside (g h : StateLayout) : Type 0 where
   pub has : (o : Owner) → HasRoot h o → HasRoot g o
   pub bare : g.variables ≡ []
 
--- its structs have their members
+-- the structs of all parameters of a block have their members in order
 abbrev pub HasAll : StateLayout → Frame → Type 0
 HasAll g f = (o : Owner) → HasRoot g o → HasMembers (g.members o) (owned f o)
 
@@ -31,6 +32,7 @@ pub record VariableIs (s : Scope) (v : Var) (l : Local) : Type 0 where
   pub type : Name
   pub struct_is : kind_of_type s.names v.of ≡ struct type
 
+-- the variables of a block are structs without initial values, and these locals
 abbrev pub VariablesAre : Scope → List Var → List Local → Type 0
 VariablesAre s vars ls = AllZip (VariableIs s) vars ls
 

@@ -1,4 +1,6 @@
--- What the lowering of conditions writes: each operand at the width of its comparison, under the operator of the same name.
+-- What the lowering of conditions writes: each operand at the width of its comparison, under the operator of the same
+-- name (this project's own; P4_14 1.0.5, "Packet Processing and Control Flow"; P4_16 1.2, "Operations on fixed-width
+-- bit types (unsigned integers)", "Operations on Boolean values", "Operations on headers", "Casts").
 use Rattle.std.specs.Prelude.{◌≡◌, ℕ, ◌<◌, ◌^◌, max, true, false, if◌then◌else◌, List}
 use Rattle.p414_syntax.specs.declared.node.UnaryOperator.TheVariants as unary14
 use Rattle.p414_syntax.specs.declared.node.BinaryOperator.{BinaryOperator as Binary14}
@@ -44,24 +46,26 @@ number_exp w ds width (unary_of o a) = unary unary16.Complement (number_exp w ds
 number_exp w ds width (binary_of o a b) = binary (namesake o) (number_exp w ds width a) (number_exp w ds width b)
 number_exp w ds width _ = no_arguments
 
--- the width of a comparison
+-- the width of a comparison: that of its widest operand
 abbrev pub width_of_both : List Decl → Expr → Expr → ℕ
 width_of_both ds a b = max (operand_width ds a) (operand_width ds b)
 
--- metadata is always valid
+-- whether a part is valid; metadata always is (P4_14, "Header and Metadata Instances")
 abbrev pub live_exp : Shown → Exp16 → Exp16
 live_exp (as_metadata called fields) e = truth true
 live_exp x e = valid_exp e
 
+-- whether an element is valid ("Operations on headers")
 abbrev pub is_valid_exp : Words → Element → Exp16
 is_valid_exp w at = live_exp (shown_at w.names.instances at.instance) (part_exp w now at)
 
+-- `and` and `or` join truth values; any other operator compares
 abbrev pub joined_exp : Binary14 → Exp16 → Exp16 → Exp16 → Exp16
 joined_exp op.And a b compared = binary And a b
 joined_exp op.Or a b compared = binary Or a b
 joined_exp _ a b compared = compared
 
--- a condition
+-- what is written for a condition (P4_14, "Packet Processing and Control Flow"; "Operations on Boolean values")
 abbrev pub truth_exp : Words → List Decl → Expr → Exp16
 truth_exp w ds (valid i) = if is_standard i.name then truth true else is_valid_exp w (element_of ds i)
 truth_exp w ds (truth14 b) = truth b
@@ -74,6 +78,7 @@ truth_exp w ds _ = no_arguments
 
 -- conditions of the program
 
+-- an operator that gives a number
 abbrev pub IsSum : Binary14 → Type 0
 IsSum op.Multiply = Unit {0}
 IsSum op.Add = Unit {0}
@@ -85,7 +90,7 @@ IsSum op.BitXor = Unit {0}
 IsSum op.BitOr = Unit {0}
 IsSum _ = ⊥
 
--- an operand whose parts all fit so many bits
+-- an operand of the program, whose parts all fit so many bits
 abbrev pub IsOperand : StateLayout → List Decl → Expr → Type 0
 IsOperand g ds (field r) = IsSlot g (slot_of ds r) × (slot_width g.names.instances (slot_of ds r) ≡ bits_of_ref ds r)
 IsOperand g ds (number n) = n.value < 2 ^ literal_width n
@@ -94,6 +99,7 @@ IsOperand g ds (unary_of unary14.Complement a) = IsOperand g ds a
 IsOperand g ds (binary_of o a b) = IsSum o × IsOperand g ds a × IsOperand g ds b
 IsOperand g ds _ = ⊥
 
+-- what an operator of a condition asks: of its truth values, or of the operands that it compares
 abbrev pub IsJoined : Binary14 → Type 0 → Type 0 → Type 0
 IsJoined op.And joined compared = joined
 IsJoined op.Or joined compared = joined
@@ -105,6 +111,7 @@ IsJoined op.Equal joined compared = compared
 IsJoined op.NotEqual joined compared = compared
 IsJoined _ joined compared = ⊥
 
+-- a condition of the program
 abbrev pub IsCondition : StateLayout → List Decl → Expr → Type 0
 IsCondition g ds (valid i) = is_standard i.name ≡ false → IsPart g (element_of ds i)
 IsCondition g ds (truth14 b) = Unit {0}

@@ -1,4 +1,6 @@
--- What the lowering of the statements of controls writes, where calls of controls are expanded.
+-- What the lowering of the statements of controls writes, where calls of controls are expanded (this project's own;
+-- P4_14 1.0.5, "Packet Processing and Control Flow"; P4_16 1.2, "Conditional statement", "Switch statement", "Block
+-- statement", "Match-action unit invocation").
 use Rattle.std.specs.Prelude.{Bool, true, false, ◌||◌, if◌then◌else◌, codes, List, Option, Some, None}
 use Rattle.p414_syntax.specs.declared.node.Label.{Label}
 use Rattle.p414_syntax.specs.declared.node.Label.TheVariants as label
@@ -23,38 +25,44 @@ pub data Way : Type 0 where
   at_miss : Way
   at_actions : (table : Name) → Way
 
+-- the label is `hit`
 abbrev pub is_hit : Label → Bool
 is_hit label.Hit = true
 is_hit _ = false
 
+-- the label is `miss`
 abbrev pub is_miss : Label → Bool
 is_miss label.Miss = true
 is_miss _ = false
 
--- `hit` and `miss` stand with no other label
+-- these branches are for `hit` and `miss`, which stand with no other label
 abbrev pub has_outcome : Stmt → Bool
 has_outcome (branch before l body) = is_hit l || is_miss l
 has_outcome _ = false
 
+-- no statement stands there
 abbrev pub is_nothing : Stmt16 → Bool
 is_nothing no_statements = true
 is_nothing _ = false
 
+-- no case stands there
 abbrev pub is_no_cases : Stmt16 → Bool
 is_no_cases no_cases = true
 is_no_cases _ = false
 
+-- a table is applied ("Match-action unit invocation")
 abbrev pub apply_exp : Plan → Name → Exp16
 apply_exp k t = call (member (name (k.table t)) (codes "apply")) no_arguments
 
+-- whether it was a hit ("Match-action unit invocation")
 abbrev pub hit_exp : Plan → Name → Exp16
 hit_exp k t = member (apply_exp k t) (codes "hit")
 
--- Statements that are a branch stand in braces. No `else` is written where nothing stands there, and no `switch` where no case
--- stands there.
+-- Statements that are a branch stand in braces. No `else` is written where nothing stands there.
 abbrev pub if_stmt : Exp16 → Stmt16 → Stmt16 → Stmt16
 if_stmt e x y = if is_nothing y then if_then e (in_braces x) else if_else e (in_braces x) y
 
+-- no `switch` is written where no case stands there ("Switch statement")
 abbrev pub switch_stmt : Plan → Name → Stmt16 → Stmt16
 switch_stmt k t cases = if is_no_cases cases then expression (apply_exp k t) else switch (k.table t) cases
 
@@ -63,11 +71,13 @@ abbrev pub case_stmt : Option Name → Stmt16 → Stmt16 → Stmt16
 case_stmt (Some text) before body = case_of before (case_label.Action text) body
 case_stmt None before body = before
 
+-- the case for a label: an action's, or `default`
 abbrev pub labelled_case : Plan → Name → Label → Stmt16 → Stmt16 → Stmt16
 labelled_case k t (label.Action a) before body = case_stmt (k.copy t a) before body
 labelled_case k t label.Default before body = case_of before case_label.Default body
 labelled_case k t _ before body = before
 
+-- a branch behind others: as the one that is wanted, or as a case
 abbrev pub branch_stmt : Plan → Way → Label → Stmt16 → Stmt16 → Stmt16
 branch_stmt k block l before body = no_statements
 branch_stmt k at_hit l before body = if is_hit l then body else before
@@ -81,10 +91,12 @@ joined x no_statements = x
 joined x ((then) y z) = (then) (joined x y) z
 joined x y = (then) x y
 
+-- what stands for nothing: no statement, or no case
 abbrev pub nothing_stmt : Way → Stmt16
 nothing_stmt (at_actions t) = no_cases
 nothing_stmt _ = no_statements
 
+-- what is written for statements; calls of controls are expanded before, so none stands there
 abbrev pub control_stmt : Words → List Decl → Plan → Way → Stmt → Stmt16
 control_stmt w ds k way (then14 a b) = joined (control_stmt w ds k block a) (control_stmt w ds k block b)
 control_stmt w ds k way (apply t) = expression (apply_exp k t)

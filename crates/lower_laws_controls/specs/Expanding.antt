@@ -1,4 +1,5 @@
--- What is asked of the statements of a program as they are written, so that what they come to can be lowered.
+-- What is asked of the statements of a program as they are written, so that what they come to can be lowered (this
+-- project's own; P4_14 1.0.5, "Packet Processing and Control Flow").
 use Rattle.std.specs.Prelude.{◌≡◌, true, List, Some}
 use Rattle.p414_syntax.specs.Conditions.{block as a_block, is_stmt}
 use Rattle.p414_syntax.specs.declared.syntax.Decl.{Decl}
@@ -25,5 +26,6 @@ pub record ControlFits (g : StateLayout) (ds : List Decl) (P : Name → Type 0) 
   pub is : is_stmt a_block c.body ≡ true
   pub parts : PartsFit g ds P c.body
 
+-- each declared control keeps the grammar, and its parts are of the program
 abbrev pub ControlsFit : StateLayout → List Decl → (Name → Type 0) → Type 0
 ControlsFit g ds P = (name : Name) (c : ControlTree) → control_of ds name ≡ Some c → ControlFits g ds P c

@@ -1,4 +1,5 @@
--- Laws of ingress and egress.
+-- Laws of ingress and egress (this project's own; P4_14 1.0.5, "Packet Processing and Control Flow"; P4_16 1.2,
+-- "Control blocks").
 use Rattle.std.specs.Prelude.{Bool, None, codes, true, ℕ, ◌≡◌}
 use Rattle.p414_sem.specs.Controls.{Setting as Setting14, control_run}
 use Rattle.p414_sem.specs.Effects.{Moment as Moment14}

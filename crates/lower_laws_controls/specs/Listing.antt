@@ -1,4 +1,5 @@
--- What the lowering of a table writes, property by property.
+-- What the lowering of a table writes, property by property (this project's own; P4_14 1.0.5, "Table Declarations";
+-- P4_16 1.2, "Tables", "Control-plane API annotations").
 use Rattle.std.specs.Prelude.{◌≡◌, ℕ, not, map, filter, List, [], ◌∷◌, Option, Some, unwrap_or}
 use Rattle.std.specs.Option.{option_map_or}
 use Rattle.std.specs.Str.{bytes_eq}
@@ -20,22 +21,25 @@ use Rattle.v1_core.specs.Signatures.{handed_width, table_size as size16, direct_
 use Rattle.lower_laws_base.specs.Context.{Lowering, words_of}
 use Rattle.lower_laws_controls.specs.Keys.{key_of, KeysFit}
 
--- it holds of each
+-- it holds of each of a list
 abbrev pub Each : {A : Type 0} → (A → Type 0) → List A → Type 0
 Each P [] = Unit {0}
 Each P (x ∷ xs) = P x × Each P xs
 
--- each name where it stands first
+-- each name of a list where it stands first
 abbrev pub each_once : List Name → List Name
 each_once [] = []
 each_once (x ∷ xs) = x ∷ filter (λ y. not (bytes_eq y x)) (each_once xs)
 
+-- the new name of an action's copy; no text where it has none
 abbrev pub copy_text : (Name → Option Name) → Name → Name
 copy_text copy name = unwrap_or (copy name) []
 
+-- the copy, as a table lists it
 abbrev pub copy_name : (Name → Option Name) → Name → ActionName
 copy_name copy name = action_name.Declared (copy_text copy name)
 
+-- the widths of the parameters of an action
 abbrev pub widths_of_action : List Decl → Name → List ℕ
 widths_of_action ds name = option_map_or (parameter_widths ds) (action_number ds name) []
 

@@ -1,4 +1,5 @@
--- A table of P4_14 and the table of P4_16 that does the same.
+-- A table of P4_14 and the table of P4_16 that does the same (this project's own; P4_14 1.0.5, "Table Declarations";
+-- P4_16 1.2, "Tables", "Match-action unit execution semantics").
 use Rattle.std.specs.Prelude.{◌≡◌, ℕ, ◌<◌, length, slice_index_or, List, [], Option, Some, None, map, unwrap_or}
 use Rattle.std.specs.Option.{option_map_or}
 use Rattle.match_core.specs.Fits.{FitsFill, action_at}
@@ -25,9 +26,11 @@ use Rattle.lower_laws_base.specs.Context.{StateLayout, Aside}
 use Rattle.lower_laws_base.specs.Alike.{FitWidths, ActsAlike}
 use Rattle.lower_laws_controls.specs.Alike.{Level}
 
+-- the action of a table with this number, by its name
 abbrev pub named_at : Table → ℕ → Name
 named_at t i = slice_index_or (actions_in_order t) i []
 
+-- the widths of the parameters of the action with this number
 abbrev pub widths_at : Setting14 → Table → ℕ → List ℕ
 widths_at d t i = (action_at (sig14 d.decls t) i).widths
 

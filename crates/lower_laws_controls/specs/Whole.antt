@@ -1,4 +1,5 @@
--- What is asked of a control, and of the block that it stands for, as they are written.
+-- What is asked of a control, and of the block that it stands for, as they are written (this project's own; P4_14
+-- 1.0.5, "Packet Processing and Control Flow"; P4_16 1.2, "Control blocks"; `v1model.p4`, `Ingress`, `Egress`).
 use Rattle.std.specs.Prelude.{Bool, Some, [], filter_map, ◌≡◌}
 use Rattle.p414_syntax.specs.declared.tables.Table.{Table}
 use Rattle.p414_syntax.specs.Tree.{Stmt}
@@ -44,6 +45,7 @@ pub record ControlIs (g : StateLayout) (c : Lowering) (d : Setting14) (b : Surro
   pub sees : Sees c b.scope []
   pub fits : StatementFits c.layout d.decls (TableFound c b.scope d b k) block body
 
+-- the block of the program at this place has such a control
 pub record BlockIs (g : StateLayout) (d : Setting14) (setting : Setting) (which : Block) (checks : Bool) (body : Stmt) : Type 0 where
   pub control : Control16
   pub at : control_at setting.syntax which ≡ Some control

@@ -1,4 +1,5 @@
--- What the lowering of a table writes, whole.
+-- What the lowering of a table writes, whole (this project's own; P4_14 1.0.5, "Table Declarations"; P4_16 1.2,
+-- "Tables", "Control-plane API annotations"; `v1model.p4`, `direct_counter`).
 use Rattle.std.specs.Prelude.{ℕ, ◌-◌, ◌^◌, min, map, List, [], ◌∷◌, Option, Some, None, option_map, unwrap_or}
 use Rattle.std.specs.List.{cons_option}
 use Rattle.p414_syntax.specs.declared.lexeme.Literal.{Literal}
@@ -21,7 +22,7 @@ use Rattle.lower_laws_base.specs.Mirror.{plain, sized}
 use Rattle.lower_laws_controls.specs.Keys.{key_of}
 use Rattle.lower_laws_controls.specs.Listing.{each_once, copy_name, widths_of_action}
 
--- no list of keys is written where none is read
+-- the property `key`; none is written where no key is read ("Tables")
 abbrev pub keys_property : List TableKey → Option Property
 keys_property [] = None
 keys_property (k ∷ keys) = Some (property.Key (k ∷ keys))
@@ -32,9 +33,11 @@ size_literal (Some n) most = Some (plain (min (2 ^ 32 - 1) n.value))
 size_literal None (Some n) = Some (plain (min (2 ^ 32 - 1) n.value))
 size_literal None None = None
 
+-- the property `size` ("Tables")
 abbrev pub size_property : Literal16 → Property
 size_property n = property.Size n
 
+-- the property `counters`, with the direct counter of the table
 abbrev pub counters_property : Name → Property
 counters_property called = property.Counters called
 
@@ -45,10 +48,12 @@ arguments_exp before (w ∷ widths) [] = before
 arguments_exp before (w ∷ widths) (n ∷ numbers) =
     arguments_exp (argument before (literal (sized w (wrapped w (whole n))))) widths numbers
 
+-- the property `default_action`, with its arguments
 abbrev pub default_property : List Decl → (Name → Option Name) → Table → Name → Property
 default_property ds copy t name =
     property.DefaultAction (copy_name copy name) (arguments_exp no_arguments (widths_of_action ds name) (unwrap_or (default_arguments_of t.attributes) []))
 
+-- the properties that there are, in this order
 abbrev pub properties_in_order : Option Property → Property → Option Property → Option Property → Option Property → List Property
 properties_in_order keys actions size counters default =
     cons_option keys (actions ∷ cons_option size (cons_option counters (cons_option default [])))

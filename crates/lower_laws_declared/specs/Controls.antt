@@ -1,4 +1,6 @@
--- What a control declares behind its parameters and variables: copies of actions, and tables.
+-- What a control declares behind its parameters and variables: copies of actions, and tables (this project's own; P4_14
+-- 1.0.5, "Actions", "Table Declarations", "Deparsing"; P4_16 1.2, "Control blocks", "Actions", "Tables", "Control-plane
+-- API annotations").
 use Rattle.std.specs.Prelude.{◌≡◌, ℕ, Bool, List, [], ◌∷◌, ◌++◌, map, flat_map, length, codes, option_map, unwrap_or, filter, filter_map, Option, not, if◌then◌else◌, Some}
 use Rattle.p414_syntax.specs.declared.syntax.Decl.{Decl}
 use Rattle.p414_syntax.specs.declared.syntax.Sort.TheVariants as sort
@@ -43,12 +45,14 @@ pub record TableIs (ds : List Decl) (as_table : Name → Table16) (n : Name) (t 
   pub called : t.name ≡ outer_name ds (declared sort.Table n)
   pub plane : table_plane t ≡ n
 
+-- a declaration of a control is what is written for this part of the program: an action, a copy of one, or a table
 abbrev pub LocalIs : List Decl → (Name → Table16) → Outer → Local → Type 0
 LocalIs ds as_table (declared sort.Action n) (local.Action a) = CopyIs ds (declared sort.Action n) n a
 LocalIs ds as_table (declared sort.Table n) (local.Table t) = TableIs ds as_table n t
 LocalIs ds as_table (copy k n) (local.Action a) = CopyIs ds (copy k n) n a
 LocalIs ds as_table _ _ = ⊥
 
+-- the declarations of a control are what is written for these parts of the program, one by one
 abbrev pub LocalsAre : List Decl → (Name → Table16) → List Outer → List Local → Type 0
 LocalsAre ds as_table [] [] = Unit {0}
 LocalsAre ds as_table (x ∷ things) (l ∷ locals) = LocalIs ds as_table x l × LocalsAre ds as_table things locals
@@ -104,6 +108,7 @@ pub record TablesAre (ds : List Decl) (in_ingress : Name → Bool) (as_table : N
   pub compute : tables_in p.compute ≡ []
   pub deparser : tables_in p.deparser ≡ []
 
+-- the control in which a table stands
 abbrev pub stands_in : (Name → Bool) → Parts → Name → Control16
 stands_in in_ingress p name = if in_ingress name then p.ingress else p.egress
 

@@ -1,4 +1,5 @@
--- What holds of the types and of the parser that are written for a program that breaks no rule.
+-- What holds of the types and of the parser that are written for a program that breaks no rule (this project's own;
+-- P4_14 1.0.5, "Header Type Declarations", "Parser Specification"; P4_16 1.2, "Derived types", "Packet parsing").
 use Rattle.std.specs.Prelude.{List}
 use Rattle.state_store.specs.declared.shapes.Shape.{Shape}
 use Rattle.p414_syntax.specs.declared.syntax.Decl.{Decl}

@@ -1,4 +1,6 @@
--- The layout that the moments of a program are measured by, and the words of its types, as its declarations are written.
+-- The layout that the moments of a program are measured by, and the words of its types, as its declarations are written
+-- (this project's own; P4_14 1.0.5, "Header Type Declarations", "Header and Metadata Instances"; P4_16 1.2, "Header
+-- types", "Header stacks", "Derived types").
 use Rattle.std.specs.Prelude.{◌≡◌, ℕ, ◌≤◌, ◌^◌, List, [], map, length, filter_map, flat_map, slice_index_or, Some}
 use Rattle.state_store.specs.declared.shapes.Shape.{Shape}
 use Rattle.match_core.specs.declared.entries.Entries.{Entries}
@@ -24,33 +26,38 @@ use Rattle.lower_laws_base.specs.Between.{every}
 use Rattle.lower_laws_passes.specs.Types.{member_of}
 use Rattle.lower_laws_program.specs.TypesFit.{TypeWords, field_called}
 
--- an instance by its number
+-- what stands where the program has no such instance
 abbrev pub no_member : Member
 no_member = record { number = 0; shown = nothing_shown; type = []; size = 0 }
 
+-- the instance with this number, as it is written
 abbrev pub member_at : List Decl → ℕ → Member
 member_at ds k = slice_index_or (members ds) k no_member
 
+-- the new names of the program's instances, and the marks of its lists
 abbrev pub new_names_of : List Decl → NewNames
 new_names_of ds = record { instances = shown_instances ds; marks = marks ds }
 
--- the fields of the two structs
+-- the fields of the struct of headers
 abbrev pub header_fields : List Decl → List StructField
 header_fields ds = filter_map header_member (members ds)
 
+-- the fields of the struct of metadata
 abbrev pub metadata_fields : List Decl → List StructField
 metadata_fields ds = filter_map metadata_member (members ds)
 
--- the members of the three structs in order
+-- the names of the members of the three structs, in order
 abbrev pub members_in : List Decl → Owner → List Name
 members_in ds of_headers = map member_of (header_fields ds)
 members_in ds of_metadata = map member_of (metadata_fields ds)
 members_in ds of_standard = map field_called standard_layout.fields
 members_in ds _ = []
 
+-- how many elements an instance has
 abbrev pub size_at : List Decl → ℕ → ℕ
 size_at ds k = (member_at ds k).size
 
+-- the new name of an instance's type
 abbrev pub type_at : List Decl → ℕ → Name
 type_at ds k = (member_at ds k).type
 
@@ -69,10 +76,11 @@ layout_shaped ds shapes = record {
 abbrev pub program_layout : List Decl → Entries → StateLayout
 program_layout ds entries = layout_shaped ds (shapes_of (signature14 ds) entries)
 
--- the notes of a field of a metadata instance
+-- the annotations of a field of a metadata instance (`v1model.p4`, `field_list`)
 abbrev pub notes_at : List Decl → Expanded → ℕ → ℕ → List Note
 notes_at ds x k f = notes_of (marks_of_field ds x k f)
 
+-- the words of the program's types: their new names, the notes of fields, and the fields of both structs
 abbrev pub type_words : List Decl → Expanded → TypeWords
 type_words ds x = record {
   type_of = type_at ds;

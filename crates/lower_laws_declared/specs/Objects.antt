@@ -1,4 +1,5 @@
--- Counters, meters and registers by their numbers in P4_14: new names, kinds and widths.
+-- Counters, meters and registers by their numbers in P4_14: new names, kinds and widths (this project's own; P4_14
+-- 1.0.5, "Counters", "Meters", "Registers"; `v1model.p4`, `counter`, `direct_counter`, `meter`, `register`).
 use Rattle.std.specs.Prelude.{ℕ, List, [], map, Option, Some, None}
 use Rattle.std.specs.Option.{option_map_or}
 use Rattle.p414_syntax.specs.declared.syntax.Decl.{Decl}
@@ -12,10 +13,12 @@ use Rattle.p416_syntax.specs.Kinds.{ObjectKind, counter, direct_counter, registe
 use Rattle.lower_laws_names.specs.NewNames.{new_name}
 use Rattle.lower_laws_base.specs.Context.{ObjectName}
 
+-- a counter of cells, or the direct one of a table
 abbrev pub counter_kind : Option Name → ObjectKind
 counter_kind None = counter
 counter_kind (Some table) = direct_counter
 
+-- the kind of a declared object
 abbrev pub kind_in : Decl → ObjectKind
 kind_in (decl.Counter x) = counter_kind (direct_table_of x.attributes)
 kind_in (decl.Register x) = register
@@ -26,6 +29,7 @@ abbrev pub cell_width_in : Decl → ℕ
 cell_width_in (decl.Register x) = option_map_or literal_value (width_of x.attributes) 0
 cell_width_in _ = 0
 
+-- an object by its name: its new name, its kind and its width
 abbrev pub object_called : List Decl → Name → ObjectName
 object_called ds name = record {
   called = new_name ds sort.Object name;

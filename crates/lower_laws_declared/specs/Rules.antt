@@ -1,4 +1,5 @@
--- What the rules of P4_16 ask of a whole text, as far as its declarations tell: these parts of `ProgramKeeps`.
+-- What the rules of P4_16 ask of a whole text, as far as its declarations tell: these parts of `ProgramKeeps` (this
+-- project's own, the limits, too; P4_16 1.2, "Name resolution", "Derived types", "Control-plane API annotations").
 use Rattle.std.specs.Prelude.{◌≡◌, ◌+◌, ◌≤◌, false, [], map, flat_map}
 use Rattle.std.specs.List.{AllByRecursion}
 use Rattle.p416_syntax.specs.declared.program.Syntax16.{Syntax16}
@@ -10,6 +11,8 @@ use Rattle.p416_syntax.specs.Tables.{table_plane, tables_of, objects_of}
 use Rattle.p416_syntax.specs.Totals.{fields_of_kind, octets_of_kind, cells_in, cell_sum}
 use Rattle.lower_laws_rules.specs.Whole.{IsOrdered, CellsFit}
 
+-- no name is declared twice, types stand in order, control-plane names differ, and headers, metadata and cells are
+-- within the limits
 pub record TextKeeps (s : Syntax16) (h m : Name) : Type 0 where
   pub names : declares_twice s.decls ≡ false
   pub ordered : IsOrdered [] s.decls

@@ -1,6 +1,7 @@
--- The copies of actions (this project's own): one for each pipeline whose tables list the action, under the action's new name;
--- and one for each table that lists it and has a direct counter, which counts first. Whether a table stands in egress is told by
--- its number.
+-- The copies of actions: one for each pipeline whose tables list the action, under the action's new name; and one for
+-- each table that lists it and has a direct counter, which counts first (this project's own; P4_14 1.0.5, "Actions",
+-- "Table Declarations", "Counters"; P4_16 1.2, "Actions"; `v1model.p4`, `direct_counter`). Whether a table stands in
+-- egress is told by its number.
 use Rattle.std.specs.Prelude.{◌≡◌, ℕ, ◌+◌, ◌^◌, ◌<◌, Bool, true, false, not, ◌&&◌, is_some, nat_eq, if◌then◌else◌, List, [], ◌∷◌, ◌++◌, length, map, filter, codes, Option, Some, None}
 use Rattle.std.specs.List.{list_any}
 use Rattle.std.specs.Str.{bytes_eq}
@@ -22,6 +23,7 @@ pub record Listing : Type 0 where
   pub is_counted : Bool
   pub in_egress : Bool
 
+-- the lines of a table, of which the first has this number
 abbrev pub lines_from : Bool → Bool → ℕ → ℕ → List Name → List Listing
 lines_from counted egress table number [] = []
 lines_from counted egress table number (name ∷ names) =
@@ -29,12 +31,14 @@ lines_from counted egress table number (name ∷ names) =
     ∷ lines_from counted egress table (number + 1) names
 
 module _ (ds : List Decl) (egress : ℕ → Bool) where
+  -- the lines of these tables, of which the first has this number, from this line on
   abbrev pub listings_from : ℕ → ℕ → List Table → List Listing
   listings_from table number [] = []
   listings_from table number (t ∷ ts) =
       lines_from (is_some (direct_counter ds t.name)) (egress table) table number (listed_in t)
       ++ listings_from (table + 1) (number + length (listed_in t)) ts
 
+  -- the lines of all tables, in the order of declaration
   abbrev pub listings : List Listing
   listings = listings_from 0 0 (tables ds)
 
@@ -45,6 +49,7 @@ pub record Copy : Type 0 where
   pub table : Option ℕ
   pub outer : Outer
 
+-- two truth values are one
 abbrev pub is_same_bit : Bool → Bool → Bool
 is_same_bit true b = b
 is_same_bit false b = not b
@@ -53,17 +58,21 @@ is_same_bit false b = not b
 abbrev pub is_same_pipeline : Listing → Listing → Bool
 is_same_pipeline l m = is_same_bit l.in_egress m.in_egress && bytes_eq l.action m.action
 
+-- the same action of the same table
 abbrev pub is_same_table : Listing → Listing → Bool
 is_same_table l m = nat_eq l.table m.table && bytes_eq l.action m.action
 
+-- the copy of an action for a pipeline
 abbrev pub plain_copy : Listing → Copy
 plain_copy l =
     record { action = l.action; in_egress = l.in_egress; table = None; outer = declared sort.Action l.action }
 
+-- the copy of an action for a table with a direct counter
 abbrev pub counted_copy : Listing → Copy
 counted_copy l =
     record { action = l.action; in_egress = l.in_egress; table = Some l.table; outer = copy l.number l.action }
 
+-- a list of one copy, or of none
 abbrev pub one_if : Bool → Copy → List Copy
 one_if true c = c ∷ []
 one_if false c = []
@@ -76,6 +85,7 @@ copies_behind before (l ∷ ls) =
     ++ (one_if (l.is_counted && not (list_any (is_same_table l) before)) (counted_copy l)
     ++ copies_behind (before ++ l ∷ []) ls)
 
+-- the copies of a program, each where its first line stands
 abbrev pub copies : List Decl → (ℕ → Bool) → List Copy
 copies ds egress = copies_behind [] (listings ds egress)
 
@@ -83,6 +93,7 @@ copies ds egress = copies_behind [] (listings ds egress)
 abbrev pub listing_outer : Listing → Outer
 listing_outer l = if l.is_counted then copy l.number l.action else declared sort.Action l.action
 
+-- what this table calls this action, if it lists it
 abbrev pub outer_in : List Listing → ℕ → Name → Option Outer
 outer_in [] table action = None
 outer_in (l ∷ ls) table action =
@@ -92,6 +103,7 @@ outer_in (l ∷ ls) table action =
 abbrev pub in_pipeline : Bool → Copy → Bool
 in_pipeline egress c = is_same_bit egress c.in_egress
 
+-- the copies of a pipeline, as things of the outer reach
 abbrev pub outers : Bool → List Copy → List Outer
 outers egress cs = map (λ (c : Copy). c.outer) (filter (in_pipeline egress) cs)
 
@@ -100,7 +112,7 @@ abbrev pub LinesFit : List Decl → List Listing → Type 0
 LinesFit ds [] = Unit {0}
 LinesFit ds (l ∷ ls) = IsNumbered ds sort.Action l.action × (l.number < 2 ^ 32) × LinesFit ds ls
 
--- a sort has each of these names
+-- a sort of the program has each of these names, under small numbers
 abbrev pub AllNumbered : List Decl → Sort → List Name → Type 0
 AllNumbered ds s [] = Unit {0}
 AllNumbered ds s (n ∷ names) = IsNumbered ds s n × AllNumbered ds s names

@@ -1,4 +1,6 @@
--- Laws of what is declared at the top (this project's own).
+-- Laws of what is declared at the top (this project's own; P4_14 1.0.5, "Header Type Declarations", "Header and
+-- Metadata Instances", "Counters", "Meters", "Registers"; P4_16 1.2, "Name resolution", "Derived types", "Control-plane
+-- API annotations").
 use Rattle.std.specs.Prelude.{◌≡◌, ℕ, Bool, false, List, [], ◌++◌, map}
 use Rattle.std.specs.List.{flat_map}
 use Rattle.p414_syntax.specs.declared.syntax.Decl.{Decl}

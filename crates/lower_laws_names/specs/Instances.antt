@@ -1,4 +1,5 @@
--- How the instances of a program are shown in P4_16 (this project's own).
+-- How the instances of a program are shown in P4_16 (this project's own; P4_14 1.0.5, "Header Type Declarations",
+-- "Header and Metadata Instances"; P4_16 1.2, "Header types", "Header stacks", "Derived types").
 use Rattle.std.specs.Prelude.{◌≡◌, ℕ, ◌+◌, ◌^◌, ◌≤◌, false, List, [], ◌∷◌, length, filter_map, Option, Some, None}
 use Rattle.std.specs.Option.{option_map_or}
 use Rattle.p414_syntax.specs.declared.lexeme.Literal.{Literal}
@@ -20,6 +21,7 @@ named_from number [] = []
 named_from number (f ∷ fields) =
     record { called = called (field_thing number f.name); width = field_bits f } ∷ named_from (number + 1) fields
 
+-- the fields of a header type
 abbrev pub type_fields : HeaderTypeTree → List NamedField
 type_fields t = named_from 0 t.fields
 
@@ -32,6 +34,7 @@ abbrev pub shown_header : List Decl → Name → Name → Option Literal → Sho
 shown_header ds type name None = as_header (new_name ds sort.Instance name) (named_fields ds type)
 shown_header ds type name (Some size) = as_stack (new_name ds sort.Instance name) (named_fields ds type)
 
+-- how a declared instance is shown
 abbrev pub shown_in : List Decl → Decl → Option Shown
 shown_in ds (decl.Header x) = Some (shown_header ds x.header_type x.name x.size)
 shown_in ds (decl.Metadata x) = Some (as_metadata (new_name ds sort.Instance x.name) (named_fields ds x.header_type))

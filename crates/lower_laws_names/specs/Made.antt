@@ -1,6 +1,6 @@
--- Which names stay, and what the others become (this project's own). A name that can't stay begins as it did and ends in
--- `_`, a letter, a number and `_`: the letter tells what sort of thing it names, the number which of them. A name that
--- stays never ends in a digit and `_`.
+-- Which names stay, and what the others become (this project's own; P4_14 1.0.5, "Summary of P4 BNF"; P4_16 1.2,
+-- "Lexical constructs"). A name that can't stay begins as it did and ends in `_`, a letter, a number and `_`: the
+-- letter tells what sort of thing it names, the number which of them. A name that stays never ends in a digit and `_`.
 use Rattle.std.specs.Prelude.{ℕ, ◌-◌, Bool, not, ◌&&◌, nat_eq, nat_le, if◌then◌else◌, [], ◌∷◌, ◌++◌, length, take, slice_index, decimal}
 use Rattle.token_division.specs.Octets.{is_decimal}
 use Rattle.p414_syntax.specs.Names.{Name, has_name}
@@ -10,7 +10,7 @@ use Rattle.lower_laws_names.specs.Words.{words, outer_words}
 abbrev pub line : ℕ
 line = 95
 
--- it ends in a digit and `_`
+-- a name ends in a digit and `_`
 abbrev pub looks_made : Name → Bool
 looks_made name = nat_eq (slice_index name (length name - 1)) line && is_decimal (slice_index name (length name - 2))
 
@@ -33,6 +33,6 @@ pub record Thing : Type 0 where
   pub name : Name
   pub stays : Bool
 
--- the new name
+-- the new name of a thing: its own if it stays, or one that is made
 abbrev pub called : Thing → Name
 called x = if x.stays then x.name else made x.letter x.number x.name

@@ -1,4 +1,5 @@
--- Laws of the new names (this project's own). `repeats16` is what the rules of P4_16 ask of the names of a scope.
+-- Laws of the new names (this project's own; P4_16 1.2, "Name resolution", "Lexical constructs"). `repeats16` is what
+-- the rules of P4_16 ask of the names of a scope.
 use Rattle.std.specs.Prelude.{◌≡◌, ◌≢◌, ℕ, ◌^◌, ◌<◌, ◌≤◌, true, false, List, [], ◌∷◌, ◌++◌, length, map, codes}
 use Rattle.std.specs.List.{list_any}
 use Rattle.p414_syntax.specs.SpeltLexemes.{is_identifier}
@@ -33,10 +34,11 @@ pub record SortsDiffer : Type 0 where
   pub once : (ds : List Decl) (s : Sort) → length ds ≤ 2 ^ 32 → declares_twice ds ≡ false → repeats16 (map called (things_of ds s)) ≡ false
   pub declared : (ds : List Decl) (s : Sort) (n : Name) → length ds ≤ 2 ^ 32 → has_name (names_in s ds) n ≡ true → IsNumbered ds s n
 
--- the parameters of a parser
+-- the names of the parameters of a parser
 abbrev pub parser_words : List Name
 parser_words = codes "packet" ∷ codes "hdr" ∷ codes "meta" ∷ codes "sm" ∷ []
 
+-- a state of the program has each of these names
 abbrev pub AreStates : List Decl → List Name → Type 0
 AreStates ds [] = Unit {0}
 AreStates ds (n ∷ names) = IsNumbered ds sort.Parse n × AreStates ds names

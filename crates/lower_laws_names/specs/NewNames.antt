@@ -1,5 +1,6 @@
--- The new names of a program (this project's own). Header types, objects, tables and actions stand in each other's reach, so
--- that of these only the first sort that has a name keeps it. Members and states stand by themselves.
+-- The new names of a program (this project's own; the sorts of names are those of P4_14 1.0.5, "Summary of P4 BNF", and
+-- reaches those of P4_16 1.2, "Name resolution"). Header types, objects, tables and actions stand in each other's
+-- reach, so that of these only the first sort that has a name keeps it. Members and states stand by themselves.
 use Rattle.std.specs.Prelude.{ℕ, ◌+◌, Bool, true, false, not, ◌&&◌, List, [], ◌∷◌, ◌++◌, map, codes, unwrap_or}
 use Rattle.std.specs.List.{list_any}
 use Rattle.std.specs.Str.{bytes_eq}
@@ -14,7 +15,7 @@ use Rattle.lower_laws_names.specs.Made.{Thing, called, can_stay, can_stay_outsid
 
 -- letters
 
--- `h`, `i`, `s`, `a`, `t`, `o`; field lists and calculations have no new name
+-- `h`, `i`, `s`, `a`, `t`, `o`; field lists and calculations, with `l` and `k`, have no new name
 abbrev pub letter_of : Sort → ℕ
 letter_of sort.HeaderType = 104
 letter_of sort.Instance = 105
@@ -41,10 +42,11 @@ struct_letter = 109
 abbrev pub copy_letter : ℕ
 copy_letter = 99
 
--- `v` and `w`: a variable of an action, and a second one
+-- `v`: a variable of an action
 abbrev pub variable_letter : ℕ
 variable_letter = 118
 
+-- `w`: a second variable of an action
 abbrev pub second_letter : ℕ
 second_letter = 119
 
@@ -57,9 +59,11 @@ sorts_before sort.Table = sort.HeaderType ∷ sort.Object ∷ []
 sorts_before sort.Action = sort.HeaderType ∷ sort.Object ∷ sort.Table ∷ []
 sorts_before _ = []
 
+-- a sort of the program has the name
 abbrev pub has_sort : List Decl → Name → Sort → Bool
 has_sort ds name s = is_declared s ds name
 
+-- a sort that keeps a name before this one does has the name
 abbrev pub is_declared_before : List Decl → Sort → Name → Bool
 is_declared_before ds s name = list_any (has_sort ds name) (sorts_before s)
 
@@ -71,14 +75,17 @@ gives_initials (decl.Metadata x) = of (initials_of x.initials) where
   of (x ∷ xs) = true
 gives_initials _ = false
 
+-- a name that the state of initial values takes: `start`
 abbrev pub is_displaced : List Decl → Name → Bool
 is_displaced ds name = bytes_eq name (codes "start") && list_any gives_initials ds
 
+-- whether a name of this sort stays
 abbrev pub stays : List Decl → Sort → Name → Bool
 stays ds sort.Instance name = can_stay name
 stays ds sort.Parse name = can_stay_outside name && not (is_displaced ds name)
 stays ds s name = can_stay_outside name && not (is_declared_before ds s name)
 
+-- the thing that a name of a sort stands for: its letter, its number and whether the name stays
 abbrev pub thing : List Decl → Sort → Name → Thing
 thing ds s name = record {
   letter = letter_of s;
@@ -87,7 +94,7 @@ thing ds s name = record {
   stays = stays ds s name;
 }
 
--- the new name of what has a name in a sort
+-- the new name of what has this name in a sort
 abbrev pub new_name : List Decl → Sort → Name → Name
 new_name ds s name = called (thing ds s name)
 
@@ -98,9 +105,11 @@ abbrev pub numbered_from : (ℕ → Name → Thing) → ℕ → List Name → Li
 numbered_from of number [] = []
 numbered_from of number (name ∷ names) = of number name ∷ numbered_from of (number + 1) names
 
+-- things in order, numbered from 0
 abbrev pub numbered : (ℕ → Name → Thing) → List Name → List Thing
 numbered of names = numbered_from of 0 names
 
+-- a field of a header type, as a thing to be named
 abbrev pub field_thing : ℕ → Name → Thing
 field_thing number name = record { letter = field_letter; number = number; name = name; stays = can_stay name }
 
@@ -112,6 +121,7 @@ new_fields fields = map called (numbered field_thing (map field_name fields))
 abbrev pub parameter_stays : List Decl → Name → Bool
 parameter_stays ds name = can_stay_outside name && not (is_declared sort.Object ds name)
 
+-- a parameter of an action, as a thing to be named
 abbrev pub parameter_thing : List Decl → ℕ → Name → Thing
 parameter_thing ds number name = record {
   letter = parameter_letter;
@@ -124,8 +134,9 @@ parameter_thing ds number name = record {
 abbrev pub new_parameters : List Decl → List Name → List Name
 new_parameters ds parameters = map called (numbered (parameter_thing ds) parameters)
 
--- what has no name of its own in P4_14
+-- made things
 
+-- what has no name of its own in P4_14, and so one that is made
 abbrev pub made_thing : ℕ → ℕ → Name → Thing
 made_thing letter number name = record { letter = letter; number = number; name = name; stays = false }
 
@@ -137,10 +148,11 @@ struct_thing = made_thing struct_letter
 abbrev pub copy_thing : ℕ → Name → Thing
 copy_thing = made_thing copy_letter
 
--- the variables of the primitive with this number in its action
+-- the variable of the primitive with this number in its action
 abbrev pub variable_thing : ℕ → Thing
 variable_thing number = made_thing variable_letter number (codes "got")
 
+-- the second variable of the primitive with this number
 abbrev pub second_thing : ℕ → Thing
 second_thing number = made_thing second_letter number (codes "cut")
 

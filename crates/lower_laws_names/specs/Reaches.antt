@@ -1,4 +1,5 @@
--- What holds of the new names (this project's own).
+-- What holds of the new names: which are fit, and which differ (this project's own; P4_16 1.2, "Name resolution",
+-- "Lexical constructs").
 use Rattle.std.specs.Prelude.{◌≡◌, ◌≢◌, ℕ, ◌^◌, ◌<◌, ◌≤◌, true, false, List, [], ◌∷◌, ◌++◌, length, take, Some}
 use Rattle.token_division.specs.Octets.{is_decimal, is_word}
 use Rattle.p416_syntax.specs.SpeltLexemes.{is_identifier16}
@@ -49,7 +50,7 @@ pub record IsNumbered (ds : List Decl) (s : Sort) (name : Name) : Type 0 where
   pub found : number_of s ds name ≡ Some number
   pub small : number < 2 ^ 32
 
--- header types, objects, tables and actions
+-- the sorts of the outer reach: header types, objects, tables and actions
 abbrev pub IsOuter : Sort → Type 0
 IsOuter sort.HeaderType = Unit {0}
 IsOuter sort.Object = Unit {0}
@@ -59,14 +60,17 @@ IsOuter _ = ⊥
 
 -- lists of things
 
+-- each thing of a list is proper
 abbrev pub AreProper : List Thing → Type 0
 AreProper [] = Unit {0}
 AreProper (x ∷ xs) = IsProper x × AreProper xs
 
+-- a thing differs from each of a list
 abbrev pub IsApartFrom : Thing → List Thing → Type 0
 IsApartFrom x [] = Unit {0}
 IsApartFrom x (y ∷ ys) = AreApart x y × IsApartFrom x ys
 
+-- any two things of a list differ
 abbrev pub AreAllApart : List Thing → Type 0
 AreAllApart [] = Unit {0}
 AreAllApart (x ∷ xs) = IsApartFrom x xs × AreAllApart xs
@@ -74,18 +78,21 @@ AreAllApart (x ∷ xs) = IsApartFrom x xs × AreAllApart xs
 -- The reach of header types, objects, tables and actions, in which the structs of metadata, the copies of actions, and the
 -- names that the text has by itself stand too.
 
+-- a thing of the outer reach
 pub data Outer : Type 0 where
   declared : (s : Sort) (name : Name) → Outer
   struct : (number : ℕ) (type : Name) → Outer
   copy : (number : ℕ) (action : Name) → Outer
   fixed : (name : Name) → Outer
 
+-- the new name of a thing of the outer reach
 abbrev pub outer_name : List Decl → Outer → Name
 outer_name ds (declared s name) = new_name ds s name
 outer_name ds (struct number type) = called (struct_thing number type)
 outer_name ds (copy number action) = called (copy_thing number action)
 outer_name ds (fixed name) = name
 
+-- a thing of the outer reach that the program has, under a small number
 abbrev pub IsIn : List Decl → Outer → Type 0
 IsIn ds (declared s name) = IsOuter s × IsNumbered ds s name
 IsIn ds (struct number type) = number < 2 ^ 32
@@ -100,14 +107,17 @@ AreTwo (copy j a) (copy k b) = j ≢ k
 AreTwo (fixed n) (fixed m) = n ≢ m
 AreTwo _ _ = Unit {0}
 
+-- the program has each of these things
 abbrev pub AreIn : List Decl → List Outer → Type 0
 AreIn ds [] = Unit {0}
 AreIn ds (x ∷ xs) = IsIn ds x × AreIn ds xs
 
+-- a thing is none of a list
 abbrev pub IsNoneOf : Outer → List Outer → Type 0
 IsNoneOf x [] = Unit {0}
 IsNoneOf x (y ∷ ys) = AreTwo x y × IsNoneOf x ys
 
+-- each thing of a list stands there once
 abbrev pub AreEachOnce : List Outer → Type 0
 AreEachOnce [] = Unit {0}
 AreEachOnce (x ∷ xs) = IsNoneOf x xs × AreEachOnce xs

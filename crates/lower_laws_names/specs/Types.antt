@@ -1,5 +1,7 @@
--- The types that are written: each header type that a header has, a struct for each metadata instance, since marks are an
--- instance's, the struct of the headers and that of the metadata (this project's own).
+-- The types that are written: each header type that a header has, a struct for each metadata instance, since marks are
+-- an instance's, the struct of the headers and that of the metadata (this project's own; P4_14 1.0.5, "Header Type
+-- Declarations", "Header and Metadata Instances"; P4_16 1.2, "Header types", "Header stacks", "Derived types";
+-- `v1model.p4`, `field_list`).
 use Rattle.std.specs.Prelude.{ℕ, ◌+◌, Bool, false, List, [], ◌∷◌, ◌++◌, map, filter, filter_map, codes, Option, Some, None}
 use Rattle.std.specs.List.{list_any}
 use Rattle.std.specs.Str.{bytes_eq}
@@ -31,21 +33,25 @@ plain n = record { width = None; value = n }
 
 -- header types
 
+-- a field of a header, of so many bits
 abbrev pub bit_field : NamedField → BitField
 bit_field f = record { width = plain f.width; name = f.called }
 
+-- a header type (P4_16, "Header types")
 abbrev pub header_decl : List Decl → HeaderTypeTree → Decl16
 header_decl ds t =
     decl16.Header (record { name = new_name ds sort.HeaderType t.name; fields = map bit_field (type_fields t) })
 
+-- the declaration is one of a header of this type
 abbrev pub has_type : Name → Decl → Bool
 has_type type (decl.Header x) = bytes_eq x.header_type type
 has_type type _ = false
 
--- a header has the type
+-- a declared header has the type
 abbrev pub is_used : List Decl → HeaderTypeTree → Bool
 is_used ds t = list_any (has_type t.name) ds
 
+-- the header types that a header has, in the order of declaration
 abbrev pub header_decls : List Decl → List Decl16
 header_decls ds = map (header_decl ds) (filter (is_used ds) (types ds))
 
@@ -79,15 +85,18 @@ members_from ds k m (decl.Metadata x ∷ es) =
     ∷ members_from ds (k + 1) (m + 1) es
 members_from ds k m (d ∷ es) = members_from ds k m es
 
+-- all instances, numbered from 0
 abbrev pub members : List Decl → List Member
 members ds = members_from ds 0 0 ds
 
 -- structs of metadata
 
+-- the annotation of a field that has marks; none without one (`v1model.p4`, `field_list`)
 abbrev pub notes_of : List ℕ → List Note
 notes_of [] = []
 notes_of (n ∷ numbers) = note.FieldList (map plain (n ∷ numbers)) ∷ []
 
+-- a field of metadata, with its marks
 abbrev pub struct_field : List Decl → Expanded → ℕ → ℕ → NamedField → StructField
 struct_field ds x k f field =
     record { notes = notes_of (marks_of_field ds x k f); of = type_of.Bit (plain field.width); name = field.called }
@@ -98,20 +107,24 @@ struct_fields_from ds x k f [] = []
 struct_fields_from ds x k f (field ∷ fields) =
     struct_field ds x k f field ∷ struct_fields_from ds x k (f + 1) fields
 
+-- the struct of an instance, if it is one of metadata (P4_16, "Derived types")
 abbrev pub struct_decl : List Decl → Expanded → Member → Option Decl16
 struct_decl ds x m = of m.shown where
   of : Shown → Option Decl16
   of (as_metadata name fields) = Some (decl16.Struct (record { name = m.type; fields = struct_fields_from ds x m.number 0 fields }))
   of _ = None
 
+-- the structs of all metadata instances
 abbrev pub struct_decls : List Decl → Expanded → List Decl16
 struct_decls ds x = filter_map (struct_decl ds x) (members ds)
 
 -- the struct of the headers and that of the metadata
 
+-- a member of a struct by its name, its type and its size where it is a stack (P4_16, "Header stacks")
 abbrev pub member_field : Name → Name → Option Literal16 → StructField
 member_field name type size = record { notes = []; of = type_of.Named type size; name = name }
 
+-- the member of the struct of headers that an instance is, if it is a header or a stack
 abbrev pub header_member : Member → Option StructField
 header_member m = of m.shown where
   of : Shown → Option StructField
@@ -119,18 +132,21 @@ header_member m = of m.shown where
   of (as_stack name fields) = Some (member_field name m.type (Some (plain m.size)))
   of (as_metadata name fields) = None
 
+-- the member of the struct of metadata that an instance is, if it is metadata
 abbrev pub metadata_member : Member → Option StructField
 metadata_member m = of m.shown where
   of : Shown → Option StructField
   of (as_metadata name fields) = Some (member_field name m.type None)
   of _ = None
 
+-- the struct of the headers, `hs`
 abbrev pub headers_decl : List Decl → Decl16
 headers_decl ds = decl16.Struct (record { name = codes "hs"; fields = filter_map header_member (members ds) })
 
+-- the struct of the metadata, `ms`
 abbrev pub metadata_decl : List Decl → Decl16
 metadata_decl ds = decl16.Struct (record { name = codes "ms"; fields = filter_map metadata_member (members ds) })
 
--- the declarations of types
+-- all declarations of types, in the order in which they stand
 abbrev pub type_decls : List Decl → Expanded → List Decl16
 type_decls ds x = header_decls ds ++ (struct_decls ds x ++ headers_decl ds ∷ metadata_decl ds ∷ [])

@@ -42,9 +42,10 @@ fixed =
     ∷ codes "packet" ∷ codes "hdr" ∷ codes "meta" ∷ codes "sm" ∷ codes "old_hdr" ∷ codes "old_meta"
     ∷ codes "old_sm" ∷ []
 
--- no name anywhere, and no name but that of a member
+-- the words that are no name anywhere
 abbrev pub words : List Name
 words = reserved ++ further
 
+-- the words that are no name but that of a member
 abbrev pub outer_words : List Name
 outer_words = built_in ++ fixed

@@ -1,4 +1,5 @@
--- What the lowering of the deparser writes, and what stands around it.
+-- What the lowering of the deparser writes, and what stands around it (this project's own; P4_14 1.0.5, "Deparsing";
+-- P4_16 1.2, "Deparsing").
 use Rattle.std.specs.Prelude.{◌≡◌, ℕ, ◌<◌, false, List, [], ◌∷◌, length, map, get_or, Some, codes}
 use Rattle.p414_syntax.specs.declared.syntax.Decl.{Decl}
 use Rattle.p414_syntax.specs.declared.syntax.Decl.TheVariants as decl
@@ -14,15 +15,17 @@ use Rattle.agreement_of_meanings.specs.Shown.{Shown, is_metadata, fields_of, wid
 use Rattle.lower_laws_base.specs.Context.{Words, Lowering, Sees, HasRoot, StateLayout, shown_on, now}
 use Rattle.lower_laws_base.specs.Mirror.{instance_exp}
 
+-- the instance with this number is emitted, if it is valid ("Deparsing", `emit`)
 abbrev pub emit_stmt : Words → Name → ℕ → Stmt16
 emit_stmt w packet n =
     expression (call (member (name packet) (codes "emit")) (argument no_arguments (instance_exp w now (shown_at w.names.instances n))))
 
--- the headers in their order, a stack as a whole
+-- the headers in their order are emitted behind other statements, a stack as a whole
 abbrev pub emits_from : Words → Name → Stmt16 → List ℕ → Stmt16
 emits_from w packet x [] = x
 emits_from w packet x (n ∷ order) = emits_from w packet ((then) x (emit_stmt w packet n)) order
 
+-- the body of the deparser: the headers are emitted in their order (P4_14, "Deparsing")
 abbrev pub emits : Words → Name → List ℕ → Stmt16
 emits w packet order = emits_from w packet no_statements order
 
@@ -32,15 +35,16 @@ pub record Deparses (c : Lowering) (packet : Name) (s : Scope) : Type 0 where
   pub packet_is : c.packet ≡ Some (record { called = packet; kind = packet_out })
   pub headers : HasRoot c.layout of_headers
 
--- the widths of the fields of a header
+-- the fields of a header are shown with their widths
 abbrev pub WidthsAre : List Decl → Decl → Shown → Type 0
 WidthsAre ds (decl.Header d) x = widths_of_type ds d.header_type ≡ map width_of (fields_of x)
 WidthsAre ds _ x = Unit {0}
 
--- headers and stacks
+-- what is emitted are headers and stacks that are there
 abbrev pub HeadersStand : StateLayout → List ℕ → Type 0
 HeadersStand g [] = Unit {0}
 HeadersStand g (n ∷ order) = (n < length g.names.instances) × (is_metadata (shown_on g n) ≡ false) × HeadersStand g order
 
+-- the fields of all headers are shown with their widths
 abbrev pub AllWidths : StateLayout → List Decl → Type 0
 AllWidths g ds = (k : ℕ) → k < length g.names.instances → (d : Decl) → WidthsAre ds (get_or (declared_in sort.Instance ds) k d) (shown_on g k)

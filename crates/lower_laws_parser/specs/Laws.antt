@@ -1,4 +1,5 @@
--- What holds of the parser and the deparser as they are written.
+-- What holds of the parser and the deparser as they are written (this project's own; P4_14 1.0.5, "Parser
+-- Specification", "Deparsing"; P4_16 1.2, "Packet parsing", "Deparsing").
 use Rattle.std.specs.Prelude.{◌≡◌, ◌≢◌, ℕ, List, [], Some}
 use Rattle.p414_syntax.specs.declared.parsers.Parser.{Parser}
 use Rattle.p414_syntax.specs.declared.syntax.Decl.{Decl}

@@ -1,4 +1,6 @@
--- What the lowering of a parser writes.
+-- What the lowering of a parser writes (this project's own; P4_14 1.0.5, "Parser Specification"; P4_16 1.2, "Parser
+-- states", "Transition statements", "Select expressions", "Data extraction", "Packet lookahead", "Operations on header
+-- stacks").
 use Rattle.std.specs.Prelude.{ℕ, ◌+◌, Bool, true, false, is_some, List, [], ◌∷◌, map, sum, Option, Some, None, codes}
 use Rattle.p414_syntax.specs.declared.parts.Index.{Index}
 use Rattle.p414_syntax.specs.declared.parts.Index.TheVariants.{Next}
@@ -39,37 +41,48 @@ pub record ParserWords : Type 0 where
   pub state : Name → Name
 
 module _ (ds : List Decl) (p : ParserWords) where
+  -- how the instance with this name is shown
   abbrev pub shown_as : Name → Shown
   shown_as called = shown_at p.words.names.instances (instance_number ds called)
 
   -- what is extracted, and what was
 
+  -- an element of an instance, where `next` is the member with this word ("Operations on header stacks")
   abbrev pub indexed : Name → Shown → Option Index → Exp16
   indexed word x (Some Next) = member (instance_exp p.words now x) word
   indexed word x other = element_exp p.words now x (element_number other)
 
+  -- the header or the element that is extracted; `next` is that of the stack (P4_14, "Parser Specification";
+  -- "Operations on header stacks", `next`)
   abbrev pub inst_exp : Inst → Exp16
   inst_exp i = indexed (codes "next") (shown_as i.name) i.index
 
+  -- what was extracted last: of a stack its last element (P4_14, "Parser Specification", `latest`; "Operations on
+  -- header stacks", `last`)
   abbrev pub latest_exp : Inst → Exp16
   latest_exp i = indexed (codes "last") (shown_as i.name) i.index
 
-  -- the number of a field, and its bits
+  -- the new name of a field of an instance
   abbrev pub field_called : Inst → Name → Name
   field_called i called = (field_at (fields_of (shown_as i.name)) (field_number ds i.name called)).called
 
+  -- the bits of a field of an instance
   abbrev pub field_bits : Inst → Name → ℕ
   field_bits i called = (field_at (fields_of (shown_as i.name)) (field_number ds i.name called)).width
 
   -- values, as so many bits
 
+  -- so many bits ahead ("Packet lookahead")
   abbrev pub ahead_exp : ℕ → Exp16
   ahead_exp bits = lookahead (name p.packet) (Bit (plain bits)) no_arguments
 
+  -- a field of what was extracted last; 0 where nothing was, which no accepted program has
   abbrev pub latest_field : Option Inst → ℕ → Name → Exp16
   latest_field None width called = literal (sized width 0)
   latest_field (Some i) width called = resized (field_bits i called) width (member (latest_exp i) (field_called i called))
 
+  -- a value: `current`, of whose lookahead the last bits are meant, `latest`, a field or a number (P4_14, "Parser
+  -- Specification")
   abbrev pub value_exp : Option Inst → ℕ → PValue → Exp16
   value_exp last width (pvalue.Current offset bits) =
       resized bits.value width (resized (offset.value + bits.value) bits.value (ahead_exp (offset.value + bits.value)))
@@ -79,50 +92,59 @@ module _ (ds : List Decl) (p : ParserWords) where
 
   -- statements
 
+  -- what `extract` of a header is written as ("Data extraction")
   abbrev pub extract_stmt : Exp16 → Stmt16
   extract_stmt e = expression (call (member (name p.packet) (codes "extract")) (argument no_arguments e))
 
+  -- what is written for a statement of a state: an extraction, or an assignment for `set_metadata` (P4_14, "Parser
+  -- Specification"; "Data extraction", "Assignment statement")
   abbrev pub stmt_of : Option Inst → PStmt → Stmt16
   stmt_of last (pstmt.Extract i) = extract_stmt (inst_exp i)
   stmt_of last (pstmt.SetMetadata r v) =
       assign (slot_exp p.words now (slot_of ds r)) (value_exp last (bits_of_ref ds r) v)
 
-  -- statements, and behind them those of these
+  -- what is written for the statements of a state, behind others
   abbrev pub body_of : Option Inst → Stmt16 → List PStmt → Stmt16
   body_of last x [] = x
   body_of last x (q ∷ qs) = body_of (last_behind last q) ((then) x (stmt_of last q)) qs
 
   -- selects: one joined key
 
+  -- a value of a select, at its own width
   abbrev pub part_exp : Option Inst → PValue → Exp16
   part_exp last v = value_exp last (value_bits ds last v) v
 
+  -- further values joined behind ("Operations on fixed-width bit types (unsigned integers)", `++`)
   abbrev pub key_from : Option Inst → Exp16 → List PValue → Exp16
   key_from last e [] = e
   key_from last e (v ∷ vs) = key_from last (binary Concatenate e (part_exp last v)) vs
 
+  -- the key of a select, first value first
   abbrev pub key_exp : Option Inst → List PValue → Exp16
   key_exp last [] = no_arguments
   key_exp last (v ∷ vs) = key_from last (part_exp last v) vs
 
+  -- the bits of the joined key
   abbrev pub width_of_key : Option Inst → List PValue → ℕ
   width_of_key last vs = sum (map (value_bits ds last) vs)
 
-  -- where a name leads: one that no state has is that of the control `ingress`
+  -- the target of a name that a state has, or else that of the control `ingress`
   abbrev pub next_by : Bool → Name → Target
   next_by true called = target.State (p.state called)
   next_by false called = target.Accept
 
+  -- the target of a name: a state under its new name, or accept
   abbrev pub next_of : Name → Target
   next_of called = next_by (is_some (state_named ds called)) called
 
+  -- what is written for the end of a state ("Transition statements", "Select expressions")
   abbrev pub transition_of : Option Inst → Return → Transition
   transition_of last (end_of.Select vs cases) =
       transition.Select (key_exp last vs ∷ []) (select_cases (width_of_key last vs) next_of cases)
   transition_of last (end_of.State called) = transition.Go (next_of called)
   transition_of last (end_of.ParseError called) = transition.Go target.Reject
 
-  -- a state
+  -- what is written for a state ("Parser states")
   abbrev pub state_of : Parser → State
   state_of x = record {
     name = p.state x.name;

@@ -1,4 +1,5 @@
--- How packets stand between passes, and the store between packets.
+-- How packets stand between passes, and the store between packets (this project's own; P4_14 1.0.5, "Standard Intrinsic
+-- Metadata", "Packet Processing and Control Flow"; `v1model.p4`, `standard_metadata_t`, `V1Switch`).
 use Rattle.std.specs.Prelude.{◌≡◌, ℕ, suc, ◌<◌, ◌^◌, Bool, true, false, List, codes}
 use Rattle.state_store.specs.declared.shapes.Shape.{Shape}
 use Rattle.fabric.specs.Twins.{Fit}
@@ -35,6 +36,7 @@ pub record FrameStands (g : StateLayout) (s : State) (f : Frame) : Type 0 where
 
 -- what is held
 
+-- a packet without an exception: its frame, what wasn't parsed, and the port of its arrival
 pub record HeldAlive (g : StateLayout) (s : State) (k : Held) : Type 0 where
   pub stands : FrameStands g s k.frame
   pub unparsed : k.unparsed ≡ s.unparsed
@@ -46,10 +48,12 @@ pub record HeldFailed (k : Held) : Type 0 where
   pub number : ℕ
   pub error : ErrorIs k.frame (suc number)
 
+-- a held packet that failed is one with an exception, and any other one without
 abbrev pub HeldAs : StateLayout → Bool → State → Held → Type 0
 HeldAs g false s k = HeldAlive g s k
 HeldAs g true s k = HeldFailed k
 
+-- a held packet of P4_14 and one of P4_16 correspond
 abbrev pub HeldAlike : StateLayout → Held14 → Held → Type 0
 HeldAlike g h k = HeldAs g h.failed h.state k
 
@@ -59,7 +63,7 @@ pub record SameState (shapes : List Shape) (s : Between14) (b : Between) : Type 
   pub events : b.events ≡ s.events
   pub stored : Stored shapes s.store
 
--- ports of 9 bits
+-- the fit of passes: ports have 9 bits
 abbrev pub fit_nine : Fit
 fit_nine = record { octets = λ _. Unit {0}; port = λ p. p < 2 ^ 9 }
 

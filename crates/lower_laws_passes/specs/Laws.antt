@@ -1,4 +1,5 @@
--- The law of passes.
+-- The law of passes (this project's own; P4_14 1.0.5, "Packet Processing and Control Flow", "Clone", "Resubmit",
+-- "Recirculate"; `v1model.p4`, `V1Switch`).
 use Rattle.fabric.specs.Twins.{SamePasses}
 use Rattle.p414_sem.specs.Controls.{Setting as Setting14}
 use Rattle.p414_sem.specs.Runs.{machine14}

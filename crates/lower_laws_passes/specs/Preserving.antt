@@ -1,4 +1,5 @@
--- What is preserved in both.
+-- What is preserved in both: fields of metadata by the lists that have them, or by their marks (this project's own;
+-- P4_14 1.0.5, "Clone", "Resubmit", "Recirculate", "Field Lists"; `v1model.p4`, `field_list`).
 use Rattle.std.specs.Prelude.{◌≡◌, ℕ, ◌<◌, ◌^◌, Bool, true, false, ◌&&◌, nat_eq, if◌then◌else◌, List, [], ◌∷◌, length, get_or, slice_index_or, Option, Some, None}
 use Rattle.std.specs.List.{list_any}
 use Rattle.std.specs.Str.{bytes_eq}
@@ -26,6 +27,7 @@ Aligned [] v = Unit {0}
 Aligned (f ∷ fields) (a_member called of rest) = (called ≡ f.name) × Aligned fields rest
 Aligned (f ∷ fields) _ = ⊥
 
+-- the field of a struct with this name
 abbrev pub field_named : List StructField → Name → Option StructField
 field_named [] word = None
 field_named (f ∷ fields) word = if bytes_eq f.name word then Some f else field_named fields word
@@ -36,7 +38,7 @@ pub record KeptOne (x : Shown) (numbers : List ℕ) (v : Value) : Type 0 where
   pub count : length numbers ≡ length (fields_of x)
   pub bounds : (k : ℕ) → k < length (fields_of x) → get_or numbers k 0 < 2 ^ (field_at (fields_of x) k).width
 
--- preserved sets that correspond
+-- a preserved set of P4_14 and one of P4_16 correspond
 pub record KeptAlike (g : StateLayout) (q : Preserved) (v : Value) : Type 0 where
   pub count : length q ≡ length g.names.instances
   pub each : (k : ℕ) → k < length g.names.instances → is_metadata (shown_on g k) ≡ true → KeptOne (shown_on g k) (slice_index_or q k []) v
@@ -47,6 +49,7 @@ abbrev pub is_field : ℕ → ℕ → Slot → Bool
 is_field k f (standard which) = false
 is_field k f (declared i e g) = nat_eq i k && nat_eq g f
 
+-- an item of a list is this field; it is no number, payload or instance
 abbrev pub is_item : List Decl → ℕ → ℕ → Item → Bool
 is_item ds k f (item.Field r) = is_field k f (slot_of ds r)
 is_item ds k f _ = false
@@ -56,17 +59,21 @@ abbrev pub AtFirst : ℕ → Slot → Type 0
 AtFirst k (standard which) = Unit {0}
 AtFirst k (declared i e g) = i ≡ k → e ≡ 0
 
+-- an item that is no field of this instance, or one without an index
 abbrev pub ItemAtFirst : List Decl → ℕ → Item → Type 0
 ItemAtFirst ds k (item.Field r) = AtFirst k (slot_of ds r)
 ItemAtFirst ds k _ = Unit {0}
 
+-- all items of a list are so
 abbrev pub ItemsAtFirst : List Decl → ℕ → List Item → Type 0
 ItemsAtFirst ds k [] = Unit {0}
 ItemsAtFirst ds k (x ∷ xs) = ItemAtFirst ds k x × ItemsAtFirst ds k xs
 
+-- what stands where a struct has no such field
 abbrev pub no_struct_field : StructField
 no_struct_field = record { notes = []; of = type_of.Bool; name = [] }
 
+-- the field of a struct at this place
 abbrev pub struct_field_at : List StructField → ℕ → StructField
 struct_field_at fields k = slice_index_or fields k no_struct_field
 
@@ -80,5 +87,6 @@ pub record MarksFields (g : StateLayout) (ds : List Decl) (x : Expanded) (syntax
   pub marked : (list number : ℕ) → mark_of g.names.marks list ≡ Some number → (k f : ℕ) → k < length g.names.instances → is_metadata (shown_on g k) ≡ true → f < length (inner k) → is_in_list number (struct_field_at (inner k) f) ≡ list_any (is_item ds k f) (items_in_list x list)
   pub unmarked : (number : ℕ) → MarksNone g.names.marks number → (k f : ℕ) → k < length g.names.instances → is_metadata (shown_on g k) ≡ true → f < length (inner k) → is_in_list number (struct_field_at (inner k) f) ≡ false
 
+-- the fields of the struct of metadata
 abbrev pub metadata_fields : Syntax16 → List StructField
 metadata_fields syntax = struct_fields syntax.decls (metadata_kind syntax)

@@ -1,5 +1,6 @@
--- What is asked of the types that were written: how they show the instances of the program, which fields they mark, and the
--- values that a pass begins with.
+-- What is asked of the types that were written: how they show the instances of the program, which fields they mark, and
+-- the values that a pass begins with (this project's own; P4_14 1.0.5, "Header Type Declarations", "Header and Metadata
+-- Instances"; P4_16 1.2, "Derived types"; `v1model.p4`, `field_list`).
 use Rattle.std.specs.Prelude.{◌≡◌, List, map}
 use Rattle.p414_syntax.specs.declared.syntax.Decl.{Decl}
 use Rattle.p414_sem.specs.Expanded.{Expanded}
@@ -11,6 +12,7 @@ use Rattle.lower_laws_base.specs.Context.{StateLayout}
 use Rattle.lower_laws_base.specs.Types.{DeclsShown, ZerosAlike}
 use Rattle.lower_laws_passes.specs.Preserving.{MarksFields, metadata_fields}
 
+-- a field of a struct by its name
 abbrev pub member_of : StructField → Name
 member_of f = f.name
 

@@ -1,5 +1,7 @@
--- What is said of an expanded primitive beside what it names (`PrimitiveStands` of lower_laws_states): its numbers, its widths, the
--- list and the calculation that it comes from, and which call asks for what.
+-- What is said of an expanded primitive beside what it names (`PrimitiveStands` of lower_laws_states): its numbers, its
+-- widths, the list and the calculation that it comes from, and which call asks for what (this project's own; P4_14
+-- 1.0.5, "Primitive Actions", "Field Lists", "Checksums and Hash-value Generators", "Clone", "Resubmit",
+-- "Recirculate").
 use Rattle.std.specs.Prelude.{◌≡◌, ℕ, ◌≤◌, true, pos, codes, List, [], ◌∷◌, Option, Some, None, flat_map}
 use Rattle.fabric.specs.declared.items.RequestKind.{RequestKind}
 use Rattle.fabric.specs.declared.items.RequestKind.TheVariants.{CloneI2E, CloneE2E, Resubmit, Recirculate}
@@ -35,26 +37,29 @@ abbrev pub IsPreserved : List Decl → Option ℕ → Type 0
 IsPreserved ds None = Unit {0}
 IsPreserved ds (Some list) = (name : Name) × Has (flat_map list_of (placed_arguments ds)) name × (list_number ds name ≡ Some list)
 
--- the calls that make a request of a kind
+-- the calls that make a request of a kind ("Clone", "Resubmit", "Recirculate")
 abbrev pub callers : RequestKind → List Name
 callers CloneI2E = codes "clone_ingress_pkt_to_egress" ∷ codes "clone_i2e" ∷ []
 callers CloneE2E = codes "clone_egress_pkt_to_egress" ∷ codes "clone_e2e" ∷ []
 callers Resubmit = codes "resubmit" ∷ []
 callers Recirculate = codes "recirculate" ∷ []
 
--- only a clone has a session
+-- only a clone has a session (P4_14, "Clone")
 abbrev pub SessionIs : RequestKind → Source → Type 0
 SessionIs CloneI2E session = Unit {0}
 SessionIs CloneE2E session = Unit {0}
 SessionIs Resubmit session = session ≡ number (pos 0)
 SessionIs Recirculate session = session ≡ number (pos 0)
 
+-- the operands of a shift and of a hash aren't negative, and a hash is of a declared calculation
 abbrev pub TermCounts : List Decl → Expanded → Term → Type 0
 TermCounts ds x (left_shift a b) = IsNatural a × IsNatural b
 TermCounts ds x (right_shift a b) = IsNatural a × IsNatural b
 TermCounts ds x (hashed base calculation bound) = IsNatural base × IsNatural bound × IsHashed ds x calculation
 TermCounts ds x _ = Unit {0}
 
+-- a write and a meter have the bits of their field, a stack moves by 256 elements at most, and a request is one of its
+-- callers', with the session and the list that it may have
 abbrev pub PrimitiveCounts : List Decl → Expanded → Invocation → Primitive → Type 0
 PrimitiveCounts ds x i (write sums t term) = HasBits ds t × TermCounts ds x term × KeptFits sums term
 PrimitiveCounts ds x i (push stack elements) = elements ≤ 256

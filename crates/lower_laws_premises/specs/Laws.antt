@@ -1,4 +1,6 @@
--- What holds of each action of a P4_14 program that is read from a text and breaks no rule, under a lowering that shows the program.
+-- What holds of each action of a P4_14 program that is read from a text and breaks no rule, under a lowering that shows
+-- the program (this project's own; P4_14 1.0.5, "Actions", "Primitive Actions"; P4_16 1.2, "Actions", "Invoking
+-- actions").
 use Rattle.std.specs.Prelude.{◌≡◌, ℕ, suc, ◌<◌, Bool, true, length, map, Option}
 use Rattle.std.specs.List.{AllByRecursion}
 use Rattle.p414_syntax.specs.declared.syntax.Syntax14.{Syntax14}
@@ -35,6 +37,7 @@ pub record PrimitivesFit (s : Syntax14) (x : Expanded) (c : Lowering) (action : 
   pub stand : (egress : Bool) → StandsIn s.decls egress action → AllByRecursion (λ i. PrimitiveStands c (block_place egress) (primitive_of s.decls x i)) (primitives_at x action)
   pub widths : ((o : Owner) → HasRoot c.layout o → c.can_write o ≡ true) → WidthsFit c
 
+-- that holds of each action, where the parameters have the widths of the action's
 abbrev pub ActionsFit : Type 0
 ActionsFit =
     (s : Syntax14) (x : Expanded) → IsAccepted s x → (c : Lowering) → Shows c s.decls →

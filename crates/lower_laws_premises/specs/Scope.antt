@@ -1,4 +1,5 @@
--- What stands in the scope of an action that is written, and how it is written.
+-- What stands in the scope of an action that is written, and how it is written (this project's own; P4_14 1.0.5,
+-- "Actions", "Counters"; P4_16 1.2, "Actions", "Name resolution").
 use Rattle.std.specs.Prelude.{◌≡◌, ◌⊎◌, ℕ, true, List, Option, None, map}
 use Rattle.p414_syntax.specs.declared.syntax.Decl.{Decl}
 use Rattle.p414_syntax.specs.declared.syntax.Rule14.{Rule14}
@@ -25,6 +26,8 @@ HasCopies c ds rule ps = needs_copies ds rule ps ≡ true → Copies c
 abbrev pub IsCounter : List Decl → Option ℕ → Type 0
 IsCounter ds direct = (direct ≡ None) ⊎ ((table : Name) × (direct ≡ direct_counter ds table))
 
+-- The action with this number in its scope: its body's world, the names that it sees, its parameters with their widths,
+-- copies where they are needed, a counter or none, and the body that is written for it.
 pub record InScope (c : Lowering) (d : Setting14) (b : Surroundings) (calls : ℕ) (direct : Option ℕ) (action : ℕ) (a : Action16) : Type 0 where
   pub world : c.world ≡ body_world b calls
   pub sees : Sees c (action_scope b.scope a) (map local_of c.parameters)

@@ -1,4 +1,6 @@
--- What is asked of a lowering: how it shows the instances, the objects and the preserved lists of a program.
+-- What is asked of a lowering: how it shows the instances, the objects and the preserved lists of a program (this
+-- project's own; P4_14 1.0.5, "Header and Metadata Instances", "Counters", "Meters", "Registers", "Field Lists"; P4_16
+-- 1.2, "Header types", "Header stacks", "Derived types"; `v1model.p4`, the stateful objects, `field_list`).
 use Rattle.std.specs.Prelude.{◌≡◌, ℕ, ◌<◌, ◌≤◌, true, if◌then◌else◌, is_some, List, length, map, get_or, Some}
 use Rattle.std.specs.Option.{option_map_or}
 use Rattle.p414_syntax.specs.declared.headers.Header.{Header}
@@ -29,7 +31,7 @@ pub record ShowsInstances (c : Lowering) (ds : List Decl) : Type 0 where
   pub fields : (i j : ℕ) (h k : Header) → numbered sort.Instance ds i ≡ Some (decl.Header h) → numbered sort.Instance ds j ≡ Some (decl.Header k) → h.header_type ≡ k.header_type → fields_of (shown_in c i) ≡ fields_of (shown_in c j)
   pub types : (i j : ℕ) (h k : Header) → numbered sort.Instance ds i ≡ Some (decl.Header h) → numbered sort.Instance ds j ≡ Some (decl.Header k) → h.header_type ≡ k.header_type → c.type_of i ≡ c.type_of j
 
--- the block has all three parameters
+-- the block has the parameters of headers, of metadata and of standard metadata
 pub record HasRoots (c : Lowering) : Type 0 where
   pub headers : HasRoot c.layout of_headers
   pub metadata : HasRoot c.layout of_metadata
@@ -37,15 +39,18 @@ pub record HasRoots (c : Lowering) : Type 0 where
 
 -- objects: those of the program in the order of their names, under new names
 
+-- the kind of a declared object
 abbrev pub object_kind : Decl → ObjectKind
 object_kind (decl.Counter x) = if is_some (direct_table_of x.attributes) then direct_counter else counter
 object_kind (decl.Register x) = register
 object_kind _ = meter
 
+-- the bits of a register's cells
 abbrev pub cell_width : Decl → ℕ
 cell_width (decl.Register x) = option_map_or literal_value (width_of x.attributes) 0
 cell_width _ = 0
 
+-- an object of the program under its new name
 abbrev pub object_shown : (Name → Name) → List Decl → Name → ObjectName
 object_shown new ds name = record {
   called = new name;
@@ -53,16 +58,18 @@ object_shown new ds name = record {
   width = option_map_or cell_width (declaration_of sort.Object ds name) 0;
 }
 
+-- all objects, by their numbers
 abbrev pub objects_shown : (Name → Name) → List Decl → List ObjectName
 objects_shown new ds = map (object_shown new ds) (in_order (names_in sort.Object ds))
 
--- marks: each list that is preserved has one, no greater than there are such lists, and none is 0
+-- marks
 
+-- each list that is preserved has a mark, no greater than there are such lists, and none is 0
 pub record ShowsMarks (c : Lowering) (ds : List Decl) : Type 0 where
   pub marked : (name : Name) (list : ℕ) → has_name (preserved_lists ds) name ≡ true → list_number ds name ≡ Some list → (number : ℕ) × (mark_of c.layout.names.marks list ≡ Some number) × (number ≤ length (preserved_lists ds))
   pub zero : MarksNone c.layout.names.marks 0
 
--- all of it
+-- the lowering shows the instances, the objects and the preserved lists of the program, and has all three parameters
 pub record Shows (c : Lowering) (ds : List Decl) : Type 0 where
   pub instances : ShowsInstances c ds
   pub roots : HasRoots c

@@ -1,4 +1,6 @@
--- What each part of the lowering gives, by the crate that gives it, and what a program carries.
+-- What each part of the lowering gives, and what a program carries (this project's own; P4_14 1.0.5, "Parser
+-- Specification", "Deparsing", "Actions", "Packet Processing and Control Flow"; P4_16 1.2, "Packet parsing", "Control
+-- blocks", "Deparsing"; `v1model.p4`, `V1Switch`).
 use Rattle.std.specs.Prelude.{codes, ◌∷◌, None, Option, ◌≡◌, ◌≢◌, ℕ, Bool, true, false, List, [], map, Some, All}
 use Rattle.std.specs.List.{AllByRecursion}
 use Rattle.state_store.specs.declared.shapes.Shape.{Shape}
@@ -60,12 +62,15 @@ abbrev pub SelectHas : Return → Type 0
 SelectHas (end_of.Select vs cases) = IsSome vs
 SelectHas _ = Unit {0}
 
+-- no parameter has a copy
 abbrev pub nothing_copied : Owner → Name
 nothing_copied o = []
 
+-- no primitive has a variable
 abbrev pub nothing_spare : ℕ → ℕ → Name
 nothing_spare a i = []
 
+-- what is told of the parser
 abbrev pub parser_block : BlockWords
 parser_block = record {
   has = every;
@@ -78,10 +83,11 @@ parser_block = record {
   packet = Some (record { called = packet_called; kind = packet_in });
 }
 
+-- what stands around the parser's states
 abbrev pub parser_lowering : StateLayout → TypeWords → Setting → Parser16 → Lowering
 parser_lowering g t c16 q = block_lowering g t parser_block (quiet_world (around_parser c16 q))
 
--- What `lower_parser` gives: the mirror of the states under new names, which hide no built-in name.
+-- What the parser gives: it is written as it is asked to be, under new names of states, which hide no built-in name.
 pub record ParserFits (g : StateLayout) (ds : List Decl) (t : TypeWords) (c16 : Setting) (q : Parser16) : Type 0 where
   pub state : Name → Name
   pub parameters : q.parameters ≡ parser_parameters
@@ -93,13 +99,16 @@ pub record ParserFits (g : StateLayout) (ds : List Decl) (t : TypeWords) (c16 : 
 
 -- the deparser
 
+-- the parameter of the deparser beside the packet
 abbrev pub headers_alone : Owner → Bool
 headers_alone of_headers = true
 headers_alone _ = false
 
+-- no parameter of the deparser can be written
 abbrev pub none_written : Owner → Bool
 none_written o = false
 
+-- what is told of the deparser
 abbrev pub deparser_block : BlockWords
 deparser_block = record {
   has = headers_alone;
@@ -112,10 +121,11 @@ deparser_block = record {
   packet = Some (record { called = packet_called; kind = packet_out });
 }
 
+-- what stands around the deparser's statements
 abbrev pub deparser_lowering : StateLayout → TypeWords → Setting → Control16 → Lowering
 deparser_lowering g t c16 d = block_lowering g t deparser_block (control_world (around_control c16 Deparse d))
 
--- What `translate` itself adds: the emits of the headers in their order.
+-- What the deparser gives: it emits the headers in their order.
 pub record DeparserFits (g : StateLayout) (ds : List Decl) (x : Expanded) (t : TypeWords) (c16 : Setting) (d : Control16) : Type 0 where
   pub parameters : d.parameters ≡ deparser_parameters
   pub locals : d.locals ≡ []
@@ -123,20 +133,23 @@ pub record DeparserFits (g : StateLayout) (ds : List Decl) (x : Expanded) (t : T
 
 -- ingress and egress
 
+-- the names of the copies of the parameters
 abbrev pub old_name : Owner → Name
 old_name of_headers = codes "old_hdr"
 old_name of_metadata = codes "old_meta"
 old_name of_standard = codes "old_sm"
 old_name _ = []
 
+-- a variable that holds the copy of a parameter
 abbrev pub old_variable : Owner → Local
 old_variable o = record { called = old_name o; kind = struct (root_struct o) }
 
--- the variables that `translate` adds under the parallel rule
+-- the variables of a pipeline, which only the parallel rule has
 abbrev pub old_variables : Rule14 → List Local
 old_variables rule.Sequential = []
 old_variables rule.Parallel = old_variable of_headers ∷ old_variable of_metadata ∷ old_variable of_standard ∷ []
 
+-- what is told of ingress or egress
 abbrev pub pipeline_block : Rule14 → List ObjectName → BlockWords
 pipeline_block r objects = record {
   has = every;
@@ -156,13 +169,13 @@ pub record ActionCopy : Type 0 where
   pub direct : Option ℕ
   pub written : Action16
 
--- What `lower_actions` gives of one control with the variables of a rule, whose actions `translate` has put there: each copy does what its action does.
+-- What the actions of a control with the variables of a rule give: each copy does what its action does.
 abbrev pub ActionsFit : StateLayout → Setting14 → Setting → Rule14 → List ObjectName → Block → Control16 → List ActionCopy → Type 0
 ActionsFit g c14 c16 variables objects which control copies =
     (k : ActionCopy) → Has copies k →
     ActsAlike (block_layout g (pipeline_block variables objects)) c14 (around_control c16 which control) (act (around_control c16 which control)) k.direct k.action k.widths k.written
 
--- What `lower_control` gives of the four controls.
+-- What the four controls give: each does what P4_14 says, and a packet that failed is dropped.
 pub record ControlsFit (g : StateLayout) (c14 : Setting14) (c16 : Setting) : Type 0 where
   pub verify : VerifyAlike g c14 c16
   pub ingress : IngressAlike g c14 c16
@@ -173,14 +186,15 @@ pub record ControlsFit (g : StateLayout) (c14 : Setting14) (c16 : Setting) : Typ
 
 -- the whole
 
--- with the shapes that the objects have under these entries
+-- the layout with the shapes that the objects have under some entries
 abbrev pub layout_with : StateLayout → List Shape → StateLayout
 layout_with g shapes = record { names = g.names; size_of = g.size_of; has = g.has; members = g.members; variables = g.variables; shapes = shapes }
 
+-- the program of these parts under entries
 abbrev pub setting_of : Parts → Entries → Setting
 setting_of p entries = record { syntax = syntax_of p; entries = entries }
 
--- under entries that fit
+-- a program of P4_14 under entries
 abbrev pub with_entries : Setting14 → Entries → Setting14
 with_entries c14 entries = record { decls = c14.decls; expanded = c14.expanded; rule = c14.rule; entries = entries }
 
@@ -188,15 +202,14 @@ with_entries c14 entries = record { decls = c14.decls; expanded = c14.expanded; 
 abbrev pub layout_at : StateLayout → Setting14 → Entries → StateLayout
 layout_at g c14 entries = layout_with g (shapes_of (signature14 c14.decls) entries)
 
--- All that is asked of the parts of one translation, under one rule: each field is the contract of one crate, or what `translate`
--- is given.
+-- All that is asked of the parts of one translation, under one rule.
 pub record TranslationFits (c14 : Setting14) (g : StateLayout) (t : TypeWords) (p : Parts) : Type 0 where
-  -- lower_types
+  -- types and objects
   pub types : TypesFit g c14.decls c14.expanded t p.types
   pub signature : signature16 (syntax_of p) ≡ signature14 c14.decls
-  -- lower_parser
+  -- the parser
   pub parser : (entries : Entries) → ParserFits (layout_at g c14 entries) c14.decls t (setting_of p entries) p.parser
-  -- lower_actions, for each control
+  -- the actions of ingress and egress
   pub objects : List ObjectName
   -- a pipeline has the variables of the parallel rule only where one of its actions needs copies
   pub ingress_variables : Rule14
@@ -205,13 +218,13 @@ pub record TranslationFits (c14 : Setting14) (g : StateLayout) (t : TypeWords) (
   pub egress_copies : List ActionCopy
   pub ingress_actions : (entries : Entries) → Fits entries (signature14 c14.decls) → ActionsFit (layout_at g c14 entries) (with_entries c14 entries) (setting_of p entries) ingress_variables objects Ingress p.ingress ingress_copies
   pub egress_actions : (entries : Entries) → Fits entries (signature14 c14.decls) → ActionsFit (layout_at g c14 entries) (with_entries c14 entries) (setting_of p entries) egress_variables objects Egress p.egress egress_copies
-  -- lower_control, given the actions' contract
+  -- the controls, given what the actions do
   pub controls :
       (entries : Entries) → Fits entries (signature14 c14.decls) →
       ActionsFit (layout_at g c14 entries) (with_entries c14 entries) (setting_of p entries) ingress_variables objects Ingress p.ingress ingress_copies →
       ActionsFit (layout_at g c14 entries) (with_entries c14 entries) (setting_of p entries) egress_variables objects Egress p.egress egress_copies →
       ControlsFit (layout_at g c14 entries) (with_entries c14 entries) (setting_of p entries)
-  -- translate
+  -- the deparser, and the names at the top
   pub deparser : (entries : Entries) → DeparserFits (layout_at g c14 entries) c14.decls c14.expanded t (setting_of p entries) p.deparser
   pub once : DeclaresOnce p
   -- the program is accepted, and expanded

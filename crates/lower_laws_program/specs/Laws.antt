@@ -1,4 +1,5 @@
--- The law of the program that is put together.
+-- The law of the program that is put together (this project's own; both languages are meant as a whole: P4_14 1.0.5,
+-- and P4_16 1.2 with `v1model.p4`).
 use Rattle.p414_sem.specs.Controls.{Setting as Setting14}
 use Rattle.lower_laws_base.specs.Context.{StateLayout}
 use Rattle.lower_laws_program.specs.Fits.{Carries, TranslationFits}

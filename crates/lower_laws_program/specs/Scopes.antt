@@ -1,4 +1,5 @@
--- What a block's own scope tells beside the names at the top: parameters, variables, states, actions and tables.
+-- What a block's own scope tells beside the names at the top: parameters, variables, states, actions and tables (this
+-- project's own; P4_16 1.2, "Name resolution", "Control blocks", "Packet parsing"; `v1model.p4`, the enumerations).
 use Rattle.std.specs.Prelude.{◌≡◌, ℕ, ◌<◌, ◌≤◌, Bool, true, false, List, [], ◌∷◌, ◌++◌, length, is_some, Option}
 use Rattle.std.specs.List.{AllByRecursion}
 use Rattle.std.specs.Option.{option_map_or}
@@ -34,9 +35,11 @@ pub record BlockWords : Type 0 where
   pub can_write : Owner → Bool
   pub packet : Option PacketName
 
+-- the layout of a block
 abbrev pub block_layout : StateLayout → BlockWords → StateLayout
 block_layout g b = record { names = g.names; size_of = g.size_of; has = b.has; members = g.members; variables = b.variables; shapes = g.shapes }
 
+-- what stands around the statements of a block
 abbrev pub block_lowering : StateLayout → TypeWords → BlockWords → World → Lowering
 block_lowering g t b w = record {
   layout = block_layout g b;
@@ -52,12 +55,12 @@ block_lowering g t b w = record {
   world = w;
 }
 
--- no nearer name is this one
+-- none of these nearer names is this one (P4_16, "Name resolution")
 abbrev pub IsClear : List Known → Name → Type 0
 IsClear [] text = Unit {0}
 IsClear (k ∷ near) text = (bytes_eq k.called text ≡ false) × IsClear near text
 
--- the built-in names that statements use
+-- the names of the enumerations that statements use
 abbrev pub enumerations : List Name
 enumerations =
     enumeration_name hash_algorithm ∷ enumeration_name counter_type ∷ enumeration_name meter_type ∷ enumeration_name clone_type ∷ []
@@ -71,6 +74,9 @@ pub record IsDeclared (p : Parts) (near : List Known) (o : ObjectName) : Type 0 
   pub sort : instance_sort instance ≡ an_object o.kind
   pub clear : IsClear near o.called
 
+-- What the scope of a block promises: its own names stand before those at the top, its parameters, copies and packet
+-- are what they are said to be, nothing nearer hides a built-in name or an object, and objects have their numbers and
+-- shapes.
 pub record NearFits (g : StateLayout) (t : TypeWords) (p : Parts) (b : BlockWords) (w : World) (s : Scope) (near : List Known) : Type 0 where
   pub names_are : s.names ≡ near ++ top_names (decls_of p)
   pub layouts_are : s.layouts ≡ layouts_of (decls_of p)

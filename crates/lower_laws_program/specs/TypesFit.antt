@@ -1,5 +1,7 @@
--- What the types that are written give, and nothing of the blocks: which header and struct stands for each instance, what stands
--- in the two structs, and the marks.
+-- What the types that are written give, and nothing of the blocks: which header and struct stands for each instance,
+-- what stands in the two structs, and the marks (this project's own; P4_14 1.0.5, "Header Type Declarations", "Header
+-- and Metadata Instances", "Field Lists"; P4_16 1.2, "Header types", "Header stacks", "Derived types"; `v1model.p4`,
+-- `field_list`).
 use Rattle.std.specs.Prelude.{◌≡◌, ℕ, suc, ◌<◌, true, false, List, [], ◌∷◌, length, map, Some}
 use Rattle.std.specs.List.{list_any}
 use Rattle.std.specs.Prelude.{get_or, is_some}
@@ -30,6 +32,7 @@ use Rattle.lower_laws_passes.specs.Types.{member_of}
 use Rattle.lower_laws_program.specs.Program.{named_type, stack_type, bit_type, root_struct}
 use Rattle.lower_laws_states.specs.Expansions.{Has}
 
+-- a field of a header, of so many bits
 abbrev pub bit_field_of : NamedField → BitField
 bit_field_of f = record { width = plain f.width; name = f.called }
 
@@ -44,33 +47,40 @@ instance_type (as_header called fields) type size = named_type type
 instance_type (as_stack called fields) type size = stack_type type size
 instance_type (as_metadata called fields) type size = named_type type
 
+-- a member of one of the two structs
 abbrev pub member : Type16 → Name → StructField
 member of text = record { notes = []; of = of; name = text }
 
+-- a field by its name
 abbrev pub field_called : FieldKind → Name
 field_called f = f.called
 
--- what is written for them
+-- the words of the types: which type each instance has, which annotations each field, and the members of both structs
 pub record TypeWords : Type 0 where
   pub type_of : ℕ → Name
   pub notes : ℕ → ℕ → List Note
   pub headers : List StructField
   pub metadata : List StructField
 
+-- the fields of the struct of an instance of metadata
 abbrev pub fields_written : StateLayout → TypeWords → ℕ → List StructField
 fields_written g t k = marked_from (t.notes k) 0 (fields_of (shown_on g k))
 
+-- a struct with these fields
 abbrev pub struct_of : Name → List StructField → Decl16
 struct_of text fields = decl.Struct (record { name = text; fields = fields })
 
--- an instance with a size is shown as a stack
+-- an instance is shown as a stack
 abbrev pub IsStack : Shown → Type 0
 IsStack x = (called : Name) × (fields : List NamedField) × (x ≡ as_stack called fields)
 
+-- an instance with a size is shown as a stack
 abbrev pub StackShown : Decl → Shown → Type 0
 StackShown (decl14.Header d) x = is_some d.size ≡ true → IsStack x
 StackShown _ x = Unit {0}
 
+-- Instances are shown as they are declared, with a header or a struct for each; the two structs hold them; and a field
+-- of metadata bears the mark of each list that has it, and of no other.
 pub record TypesFit (g : StateLayout) (ds : List Decl) (x : Expanded) (t : TypeWords) (types : List Decl16) : Type 0 where
   pub differ : NamesDiffer g.names.instances
   pub shown : DeclsShown g ds

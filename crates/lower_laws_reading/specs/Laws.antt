@@ -1,4 +1,4 @@
--- How many tokens a program has that was read.
+-- How many tokens a program has that was read (a law of this project's own; P4_14 1.0.5, "Summary of P4 BNF").
 use Rattle.std.specs.Prelude.{ℕ, ◌≤◌, List, length}
 use Rattle.p414_syntax.specs.declared.syntax.Syntax14.{Syntax14}
 use Rattle.p414_syntax.specs.Written.{written}

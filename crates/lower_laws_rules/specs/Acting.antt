@@ -1,4 +1,6 @@
--- What the rules ask of the actions that are written, beside what their meaning asks.
+-- What the rules ask of the actions that are written, beside what their meaning asks (this project's own, the limits,
+-- too; P4_14 1.0.5, "Primitive Actions", "Checksums and Hash-value Generators"; P4_16 1.2, "Actions", "Statements";
+-- `v1model.p4`, `HashAlgorithm` and where requests may be made).
 use Rattle.std.specs.Prelude.{◌≡◌, ℕ, ◌<◌, ◌≤◌, true, false, List, [], ◌∷◌, ◌++◌, length}
 use Rattle.std.specs.List.{AllByRecursion}
 use Rattle.fabric.specs.declared.items.RequestKind.{RequestKind}
@@ -19,6 +21,7 @@ use Rattle.lower_laws_actions.specs.Fits.{IsObject}
 use Rattle.lower_laws_rules.specs.Keeping.{Part}
 use Rattle.lower_laws_rules.specs.Standing.{Among}
 
+-- a width of 1 to 128 bits
 abbrev pub IsWidth : ℕ → Type 0
 IsWidth width = (0 < width) × (width ≤ 128)
 
@@ -29,18 +32,19 @@ pub record WidthsFit (c : Lowering) : Type 0 where
   pub registers : (j : ℕ) → IsObject c register j → IsWidth (object_at c.objects j).width
   pub writes : (o : Owner) → HasRoot c.layout o → c.can_write o ≡ true
 
--- a hash is of an algorithm of P4_16, and a request is made where it may be
+-- a hash is of an algorithm of P4_16, and has 1 to 128 bits
 abbrev pub TermStands : Term → Type 0
 TermStands (hashed base calculation bound) = (has_name (members_of hash_algorithm) calculation.algorithm ≡ true) × IsWidth calculation.width
 TermStands _ = Unit {0}
 
+-- the blocks in which a request is made, by their places in `main` (`v1model.p4`)
 abbrev pub request_positions : RequestKind → List ℕ
 request_positions CloneI2E = 2 ∷ []
 request_positions CloneE2E = 3 ∷ []
 request_positions Resubmit = 2 ∷ []
 request_positions Recirculate = 3 ∷ []
 
--- headers that are copied have one type
+-- headers that are copied have one type, and a request is made where it may be
 abbrev pub PrimitiveStands : Lowering → List ℕ → Primitive → Type 0
 PrimitiveStands c positions (write sums t term) = TermStands term
 PrimitiveStands c positions (copy_header to from) = c.type_of to.instance ≡ c.type_of from.instance
@@ -52,12 +56,13 @@ abbrev pub Steps : Scope → List Stmt16 → Scope → List Name → Type 0
 Steps s [] t names = (s ≡ t) × (names ≡ [])
 Steps s (y ∷ ys) t names = (u : Scope) × (a : List Name) × (b : List Name) × Part s u a 1 y × Steps u ys t b × (names ≡ a ++ b)
 
--- the variable that a term's front fills
+-- the variable that a term's front fills is known, with its width
 abbrev pub TermKnown : Lowering → List Local → ℕ → ℕ → Term → Type 0
 TermKnown c ls K width (cell object index) = Among ls (record { called = c.spare K 0; kind = bits (object_at c.objects object).width })
 TermKnown c ls K width (hashed base calculation bound) = Among ls (record { called = c.spare K 0; kind = bits width })
 TermKnown c ls K width term = Unit {0}
 
+-- the variable that a primitive's front fills is known; only a write has one
 abbrev pub PrimitiveKnown : Lowering → List Local → ℕ → Primitive → Type 0
 PrimitiveKnown c ls K (write sums t term) = TermKnown c ls K t.width term
 PrimitiveKnown c ls K p = Unit {0}

@@ -1,4 +1,5 @@
--- That what is judged breaks no rule, all rules together.
+-- That what is judged breaks no rule, all rules together (this project's own, as the rules T1 to T12 are; P4_16 1.2,
+-- "Expressions", "Statements", "Name resolution").
 use Rattle.std.specs.Prelude.{codes, ◌≡◌, ℕ, ◌≤◌, Bool, true, false, not, ◌&&◌, List, [], ◌∷◌, flat_map, None, nat_lt}
 use Rattle.std.specs.Str.{bytes_eq}
 use Rattle.std.specs.List.{list_any}
@@ -35,10 +36,12 @@ pub record Fine (u : Use) : Type 0 where
   pub t10 : is_outside_block u ≡ false
   pub calls : called_action u ≡ None
 
+-- each of these uses breaks no such rule
 abbrev pub AllFine : List Use → Type 0
 AllFine [] = Unit {0}
 AllFine (u ∷ us) = Fine u × AllFine us
 
+-- the same as a record, which proofs hand on whole
 pub record Fines (us : List Use) : Type 0 where
   pub each : AllFine us
 
@@ -48,7 +51,7 @@ is_deep (an_expression s p e) = nat_lt 400 (depth e)
 is_deep (a_body d) = nat_lt 400 d
 is_deep _ = false
 
--- a member `mcast_grp` of standard metadata
+-- an expression names a member `mcast_grp` of standard metadata (`v1model.p4`, `standard_metadata_t`)
 abbrev pub names_group : Use → Bool
 names_group (an_expression s p (member e word)) = is_same_kind standard (kind_of s e) && bytes_eq word (codes "mcast_grp")
 names_group u = false
@@ -79,7 +82,7 @@ pub record Sound (s : Scope) (e : Exp16) (k : Kind) (can : Bool) (deep : ℕ) : 
   pub depths : depth e ≤ deep
   pub keeps : (p : Place) → Asks p k can → Fines (uses_at s (one p) e)
 
--- an expression at its place
+-- an expression breaks no rule at its place, and is so deep at most
 pub record Sits (s : Scope) (p : Place) (e : Exp16) (deep : ℕ) : Type 0 where
   pub depths : depth e ≤ deep
   pub keeps : Fines (uses_at s (one p) e)

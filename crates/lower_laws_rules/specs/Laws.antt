@@ -1,4 +1,5 @@
--- Laws of programs of the forms that the lowering writes.
+-- Laws of programs of the forms that the lowering writes (this project's own; P4_16 1.2, "Name resolution",
+-- "Expressions", "Statements", "P4 grammar").
 use Rattle.std.specs.Prelude.{List, true, ◌≡◌}
 use Rattle.p416_syntax.specs.Breaks.{BreaksNone, program_rules}
 use Rattle.p416_syntax.specs.Kinds.{Kind}

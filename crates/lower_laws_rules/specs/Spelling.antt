@@ -1,5 +1,6 @@
--- What is asked of the names and numbers of a syntax for it to be spelt, part by part: names are identifiers and no reserved
--- words, numbers fit, lists stand where they may, an `if` without `else` stands before no `else`, each property stands once.
+-- What is asked of the names and numbers of a syntax for it to be spelt, part by part: names are identifiers and no
+-- reserved words, numbers fit, lists stand where they may, an `if` without `else` stands before no `else`, each
+-- property stands once (this project's own; P4_16 1.2, "P4 grammar", "Lexical constructs", "Annotations").
 use Rattle.std.specs.Prelude.{◌≡◌, ℕ, ◌<◌, length, Bool, true, false, ◌&&◌, List, Some, None}
 use Rattle.std.specs.List.{AllByRecursion}
 use Rattle.p416_syntax.specs.declared.keyword.Keyword16.TheVariants as key
@@ -52,31 +53,36 @@ use Rattle.v1_core.specs.Frames.{of_headers, of_metadata, of_standard}
 use Rattle.agreement_of_meanings.specs.Shown.{name_of, fields_of, field_at, shown_at}
 use Rattle.lower_laws_base.specs.Context.{Words, At, root_at}
 
+-- a number fits its width, or what numbers without one may be ("Literal constants")
 abbrev pub SpeltNumber : Literal16 → Type 0
 SpeltNumber n = is_spelt_literal16 n ≡ true
 
+-- a name is an identifier and no reserved word ("Lexical constructs")
 abbrev pub SpeltName : Name → Type 0
 SpeltName text = is_name16 text ≡ true
 
--- behind a dot a word may be a reserved one
+-- a word behind a dot is a token, and may be a reserved one ("P4 grammar")
 abbrev pub SpeltWord : Name → Type 0
 SpeltWord text = is_spelt_seen (seen_word text) ≡ true
 
+-- a type: its width, its name, its number of elements ("P4 data types")
 abbrev pub SpeltType : Type16 → Type 0
 SpeltType (kind.Bit width) = SpeltNumber width
 SpeltType kind.Bool = Unit {0}
 SpeltType (kind.Named text None) = SpeltName text
 SpeltType (kind.Named text (Some size)) = SpeltName text × SpeltNumber size
 
+-- the type of a cast ("Casts")
 abbrev pub SpeltCast : CastType → Type 0
 SpeltCast (cast_to.Bit width) = SpeltNumber width
 SpeltCast cast_to.Bool = Unit {0}
 
--- an expression, which may be a list in braces; or arguments, of which some may be lists
+-- where it stands: as an expression, which may be a list in braces; or as arguments, of which some may be lists
 pub data SpeltPlace : Type 0 where
   one : (is_list : Bool) → SpeltPlace
   many : (has_lists : Bool) → SpeltPlace
 
+-- an expression, or arguments, at its place ("Expressions")
 abbrev pub SpeltAt : SpeltPlace → Exp16 → Type 0
 SpeltAt (one b) (literal n) = SpeltNumber n
 SpeltAt (one b) (truth value) = Unit {0}
@@ -94,13 +100,16 @@ SpeltAt (many b) no_arguments = Unit {0}
 SpeltAt (many b) (argument before last) = SpeltAt (many b) before × SpeltAt (one b) last
 SpeltAt _ _ = ⊥
 
+-- an expression, which is no list
 abbrev pub SpeltExp : Exp16 → Type 0
 SpeltExp e = SpeltAt (one false) e
 
+-- a label of a switch ("Switch statement")
 abbrev pub SpeltLabel : CaseLabel → Type 0
 SpeltLabel label.Default = Unit {0}
 SpeltLabel (label.Action text) = SpeltName text
 
+-- a statement, or a list of statements or of cases, at its place ("Statements")
 abbrev pub SpeltStmt : StmtPlace → Stmt16 → Type 0
 SpeltStmt statements no_statements = Unit {0}
 SpeltStmt statements (then before last) = SpeltStmt statements before × SpeltStmt statement last
@@ -117,63 +126,78 @@ SpeltStmt _ _ = ⊥
 
 -- declarations
 
+-- an annotation ("Annotations")
 abbrev pub SpeltNote : Note → Type 0
 SpeltNote (note.Name text) = is_identifier16 text ≡ true
 SpeltNote (note.FieldList ns) = (is_some_listed ns ≡ true) × AllByRecursion SpeltNumber ns
 
+-- annotations, no kind of which stands twice
 abbrev pub SpeltNotes : List Note → Type 0
 SpeltNotes notes = AllByRecursion SpeltNote notes × (is_named_once notes ≡ true)
 
+-- a parameter: its type and its name
 abbrev pub SpeltParam : Param → Type 0
 SpeltParam p = SpeltType p.of × SpeltName p.name
 
+-- a variable, which has no initial value ("Variable declarations")
 abbrev pub SpeltVar : Var → Type 0
 SpeltVar v = SpeltType v.of × SpeltName v.name × (v.initial ≡ None)
 
+-- where a transition leads ("Transition statements")
 abbrev pub SpeltTarget : Target → Type 0
 SpeltTarget (target.State text) = SpeltName text
 SpeltTarget _ = Unit {0}
 
+-- a value of a case: `default`, a number, or a mask ("Select expressions")
 abbrev pub SpeltSimple : Simple → Type 0
 SpeltSimple simple.Default = Unit {0}
 SpeltSimple (simple.Value (literal n)) = SpeltNumber n
 SpeltSimple (simple.Mask e f) = SpeltExp e × SpeltExp f
 SpeltSimple _ = ⊥
 
+-- the values of a case, of which there is one
 abbrev pub SpeltKeyset : Keyset → Type 0
 SpeltKeyset (keyset.One x) = SpeltSimple x
 SpeltKeyset (keyset.Tuple xs) = ⊥
 
+-- a case of a select ("Select expressions")
 abbrev pub SpeltCase : SelectCase → Type 0
 SpeltCase x = SpeltKeyset x.keyset × SpeltTarget x.target
 
+-- a transition; a select has a key ("Transition statements")
 abbrev pub SpeltTransition : Transition → Type 0
 SpeltTransition (transition.Go t) = SpeltTarget t
 SpeltTransition (transition.Select es cs) = (is_some_listed es ≡ true) × AllByRecursion SpeltExp es × AllByRecursion SpeltCase cs
 
+-- a state ("Parser states")
 abbrev pub SpeltState : State → Type 0
 SpeltState x = SpeltName x.name × SpeltStmt statements x.body × SpeltTransition x.transition
 
+-- a parser, which has parameters ("Packet parsing")
 abbrev pub SpeltParser : Parser16 → Type 0
 SpeltParser p = SpeltName p.name × (is_some_listed p.parameters ≡ true) × AllByRecursion SpeltParam p.parameters × AllByRecursion SpeltVar p.vars × AllByRecursion SpeltState p.states
 
--- the members of an enumeration are names, which computes
+-- an object: its size, its width and its name; the members of an enumeration are names, which computes
 abbrev pub SpeltInstance : Instance → Type 0
 SpeltInstance (instance.Counter size m text) = SpeltExp size × SpeltName text
 SpeltInstance (instance.DirectCounter m text) = SpeltName text
 SpeltInstance (instance.Register width size text) = SpeltNumber width × SpeltExp size × SpeltName text
 SpeltInstance (instance.Meter size m text) = SpeltExp size × SpeltName text
 
+-- an action ("Actions")
 abbrev pub SpeltAction : Action16 → Type 0
 SpeltAction a = SpeltNotes a.notes × SpeltName a.name × AllByRecursion SpeltParam a.parameters × SpeltStmt statements a.body
 
+-- an action as a table names it ("Tables")
 abbrev pub SpeltActionName : ActionName → Type 0
 SpeltActionName (action_name.Declared text) = SpeltName text
 SpeltActionName action_name.NoAction = Unit {0}
 
+-- a key of a table ("Tables")
 abbrev pub SpeltKey : TableKey → Type 0
 SpeltKey k = SpeltExp k.exp × SpeltName k.kind × SpeltNotes k.notes
 
+-- a property of a table; it lists an action ("Tables")
 abbrev pub SpeltProperty : Property → Type 0
 SpeltProperty (property.Key ks) = AllByRecursion SpeltKey ks
 SpeltProperty (property.Actions names) = (is_some_listed names ≡ true) × AllByRecursion SpeltActionName names
@@ -181,26 +205,32 @@ SpeltProperty (property.Size n) = SpeltNumber n
 SpeltProperty (property.Counters text) = SpeltName text
 SpeltProperty (property.DefaultAction a given) = SpeltActionName a × SpeltAt (many false) given
 
+-- a table: each property stands once, and that of the actions stands there ("Tables")
 abbrev pub SpeltTable : Table16 → Type 0
 SpeltTable t =
     SpeltNotes t.notes × SpeltName t.name × AllByRecursion SpeltProperty t.properties
     × (all_different (property_texts t.properties) && is_among (keyword_text16 key.Actions) (property_texts t.properties) ≡ true)
 
+-- a declaration of a control ("Control blocks")
 abbrev pub SpeltLocal : Local → Type 0
 SpeltLocal (local.Instance notes i) = SpeltNotes notes × SpeltInstance i
 SpeltLocal (local.Var v) = SpeltVar v
 SpeltLocal (local.Action a) = SpeltAction a
 SpeltLocal (local.Table t) = SpeltTable t
 
+-- a control, which has parameters ("Control blocks")
 abbrev pub SpeltControl : Control16 → Type 0
 SpeltControl c = SpeltName c.name × (is_some_listed c.parameters ≡ true) × AllByRecursion SpeltParam c.parameters × AllByRecursion SpeltLocal c.locals × SpeltStmt statements c.body
 
+-- a field of a header ("Header types")
 abbrev pub SpeltBitField : BitField → Type 0
 SpeltBitField f = SpeltNumber f.width × SpeltName f.name
 
+-- a field of a struct ("Derived types")
 abbrev pub SpeltStructField : StructField → Type 0
 SpeltStructField f = SpeltNotes f.notes × SpeltType f.of × SpeltName f.name
 
+-- a declaration at the top ("P4 grammar")
 abbrev pub SpeltDecl : Decl16 → Type 0
 SpeltDecl (decl.Header h) = SpeltName h.name × AllByRecursion SpeltBitField h.fields
 SpeltDecl (decl.Struct x) = SpeltName x.name × AllByRecursion SpeltStructField x.fields
@@ -208,18 +238,19 @@ SpeltDecl (decl.Instance notes i) = SpeltNotes notes × SpeltInstance i
 SpeltDecl (decl.Parser p) = SpeltParser p
 SpeltDecl (decl.Control c) = SpeltControl c
 
+-- a whole program, whose `main` has blocks
 pub record SpeltProgram (s : Syntax16) : Type 0 where
   pub decls : AllByRecursion SpeltDecl s.decls
   pub some : is_some_listed s.main ≡ true
   pub main : AllByRecursion SpeltName s.main
 
--- the names that are written for parts of the packet and for sources, which are read there
+-- the names that are written for parts of the packet and for sources, which are read there, are spelt
 pub record SpeltNames (w : Words) (at : At) : Type 0 where
   pub roots : SpeltName (root_at w at of_headers) × SpeltName (root_at w at of_metadata) × SpeltName (root_at w at of_standard)
   pub instances : (i : ℕ) → i < length w.names.instances → SpeltName (name_of (shown_at w.names.instances i))
   pub fields : (i k : ℕ) → i < length w.names.instances → k < length (fields_of (shown_at w.names.instances i)) → SpeltName (field_at (fields_of (shown_at w.names.instances i)) k).called
   pub parameters : (j : ℕ) → j < length w.parameters → SpeltName (field_at w.parameters j).called
 
--- at both places
+-- the names that are written are spelt, as the moment stands and at the copies
 abbrev pub SpeltWords : Words → Type 0
 SpeltWords w = (at : At) → SpeltNames w at

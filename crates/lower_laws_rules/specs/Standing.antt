@@ -1,4 +1,5 @@
--- What expressions ask of where they stand, beside what a scope sees.
+-- What expressions ask of where they stand, beside what a scope sees (this project's own; P4_16 1.2, "L-values", "Name
+-- resolution").
 use Rattle.std.specs.Prelude.{◌≡◌, ℕ, ◌<◌, Bool, true, List, length}
 use Rattle.p414_sem.specs.Slots.{Slot, standard, declared}
 use Rattle.v1_core.specs.Frames.{Owner, of_standard}
@@ -10,6 +11,7 @@ abbrev pub can_at : Lowering → At → Owner → Bool
 can_at c now o = c.can_write o
 can_at c entry o = true
 
+-- the parameter of the block in which a field stands
 abbrev pub slot_owner : Lowering → Slot → Owner
 slot_owner c (standard which) = of_standard
 slot_owner c (declared i e k) = owner_of (shown_in c i)

@@ -1,4 +1,5 @@
--- What a whole program asks of its parts.
+-- What a whole program asks of its parts (this project's own, the limits, too; P4_16 1.2, "Name resolution", "Derived
+-- types", "Tables", "Control-plane API annotations"; `v1model.p4`, `V1Switch` and the parameters of its blocks).
 use Rattle.std.specs.Prelude.{◌≡◌, ℕ, ◌+◌, ◌≤◌, true, false, List, [], ◌∷◌, ◌++◌, map, flat_map, sum_by, codes, Some, None}
 use Rattle.std.specs.List.{list_all, AllByRecursion}
 use Rattle.p416_syntax.specs.declared.parts.Direction.TheVariants.{In, Out, InOut}
@@ -21,13 +22,13 @@ use Rattle.p416_syntax.specs.Breaks.{scope_of}
 use Rattle.lower_laws_rules.specs.Written.{block_param}
 use Rattle.lower_laws_rules.specs.Declared.{DeclarationKeeps}
 
--- a declaration at the top
+-- a declaration stands at the top of the program
 pub record IsIn (ds : List Decl16) (d : Decl16) : Type 0 where
   pub before : List Decl16
   pub after : List Decl16
   pub is : ds ≡ before ++ d ∷ after
 
--- what a struct holds is declared before it
+-- what the structs hold is declared before them ("Name resolution")
 abbrev pub IsOrdered : List Name → List Decl16 → Type 0
 IsOrdered seen [] = Unit {0}
 IsOrdered seen (d ∷ ds) = (list_all (has_name seen) (held_names d) ≡ true) × IsOrdered (seen ++ declared_name d ∷ []) ds
@@ -39,18 +40,23 @@ pub record RootNames : Type 0 where
   pub metadata : Name
   pub standard : Name
 
+-- the parameters of the parser (`v1model.p4`, `Parser`)
 abbrev pub parser_params : Name → Name → RootNames → List Param
 parser_params h m r = block_param None (codes "packet_in") r.packet ∷ block_param (Some Out) h r.headers ∷ block_param (Some InOut) m r.metadata ∷ block_param (Some InOut) standard_name r.standard ∷ []
 
+-- those of the blocks that verify and update (`v1model.p4`, `VerifyChecksum`, `ComputeChecksum`)
 abbrev pub checksum_params : Name → Name → RootNames → List Param
 checksum_params h m r = block_param (Some InOut) h r.headers ∷ block_param (Some InOut) m r.metadata ∷ []
 
+-- those of ingress and egress (`v1model.p4`, `Ingress`, `Egress`)
 abbrev pub pipeline_params : Name → Name → RootNames → List Param
 pipeline_params h m r = block_param (Some InOut) h r.headers ∷ block_param (Some InOut) m r.metadata ∷ block_param (Some InOut) standard_name r.standard ∷ []
 
+-- those of the deparser (`v1model.p4`, `Deparser`)
 abbrev pub deparser_params : Name → RootNames → List Param
 deparser_params h r = block_param None (codes "packet_out") r.packet ∷ block_param (Some In) h r.headers ∷ []
 
+-- a control of this name with these parameters stands at the top
 pub record HasControl (ds : List Decl16) (called : Name) (parameters : List Param) : Type 0 where
   pub control : Control16
   pub in_it : IsIn ds (decl.Control control)
@@ -79,9 +85,11 @@ pub record MainFits (s : Syntax16) (h m : Name) : Type 0 where
   pub of_headers : are_headers (layouts_of s.decls) (struct h) ≡ true
   pub of_bits : is_metadata (layouts_of s.decls) (struct m) ≡ true
 
+-- a number of cells from 1 to 1,048,576
 abbrev pub CellsFit : ℕ → Type 0
 CellsFit n = (1 ≤ n) × (n ≤ 1048576)
 
+-- a declaration at the top breaks no rule by itself
 abbrev pub EachKeeps : Syntax16 → (Decl16 → List Kind) → Decl16 → Type 0
 EachKeeps s held d = DeclarationKeeps (scope_of s d) d (held d)
 

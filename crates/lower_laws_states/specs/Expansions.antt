@@ -1,5 +1,6 @@
--- What an expanded action and an expanded control hold: primitives alone, whose arguments are those of the text but where a
--- number is taken, and no call of a control.
+-- What an expanded action and an expanded control hold: primitives alone, whose arguments are those of the text but
+-- where a parameter gave a number, and no call of a control (P4_14 1.0.5, "Actions", "Primitive Actions", "Packet
+-- Processing and Control Flow"; the definitions are this project's own).
 use Rattle.std.specs.Prelude.{◌≡◌, ◌⊎◌, ℕ, ◌<◌, false, List, [], ◌∷◌, None}
 use Rattle.std.specs.List.{AllByRecursion, AllZip}
 use Rattle.p414_syntax.specs.declared.syntax.Decl.{Decl}

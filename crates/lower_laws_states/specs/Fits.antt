@@ -1,5 +1,6 @@
 -- What keeps a state of P4_14 one of its program: which header may stand in an instance, and which numbers, effects and
--- primitives fit. All is told by the declarations alone.
+-- primitives fit (this project's own; P4_14 1.0.5, "Header Type Declarations", "Header and Metadata Instances",
+-- "Primitive Actions"). All is told by the declarations alone.
 use Rattle.std.specs.Prelude.{◌≡◌, ℕ, ◌<◌, ◌≤◌, ◌^◌, true, false, List, [], length, slice_index, Some, All, IfSome}
 use Rattle.std.specs.Option.{option_map_or}
 use Rattle.p414_syntax.specs.declared.syntax.Decl.{Decl}
@@ -19,15 +20,17 @@ use Rattle.p414_sem.specs.Fitting.{FitsHeader, FitsRequest, greatest_place}
 use Rattle.p414_sem.specs.Operations.{Primitive, write, remove_header, copy_header, pop, execute_meter, ask}
 use Rattle.p414_sem.specs.Effects.{Effect, put_field, put_header, put_stack, put_cell, count_packet, take_colour, put_request}
 
--- the widths of the fields of an instance, and of the one with this number
+-- the widths of the fields of an instance, by its header type ("Header Type Declarations")
 abbrev pub widths_in : List Decl → Decl → List ℕ
 widths_in ds (decl.Header x) = widths_of_type ds x.header_type
 widths_in ds (decl.Metadata x) = widths_of_type ds x.header_type
 widths_in ds _ = []
 
+-- the widths of the fields of the instance with this number
 abbrev pub widths_at : List Decl → ℕ → List ℕ
 widths_at ds i = option_map_or (widths_in ds) (numbered sort.Instance ds i) []
 
+-- the bits of each field of standard metadata ("Standard Intrinsic Metadata"; the widths are this project's own)
 abbrev pub standard_bits : Standard → ℕ
 standard_bits IngressPort = 9
 standard_bits EgressSpec = 9
@@ -68,6 +71,7 @@ pub record AreElements (ds : List Decl) (d : Decl) (elements : List Header) : Ty
 abbrev pub FitsTarget : List Decl → Target → Type 0
 FitsTarget ds t = (n : ℕ) → n < 2 ^ t.width → n < 2 ^ slot_bits ds t.slot
 
+-- what an effect puts somewhere fits the place: a number, a header, a stack, a request
 abbrev pub FitsEffect : List Decl → Effect → Type 0
 FitsEffect ds (put_field slot n) = n < 2 ^ slot_bits ds slot
 FitsEffect ds (put_header at h) = FitsPlace ds at h

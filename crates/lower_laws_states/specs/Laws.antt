@@ -1,4 +1,5 @@
--- What holds of each program of P4_14 that breaks no rule, whatever runs.
+-- What holds of each program of P4_14 that breaks no rule, whatever runs (this project's own; P4_14 1.0.5,
+-- "Actions", "Parser Specification", "Table Declarations", "Packet Processing and Control Flow").
 use Rattle.std.specs.Prelude.{◌≡◌, ℕ, ◌<◌, ◌^◌, List, length, Some, IfSome}
 use Rattle.std.specs.List.{AllByRecursion}
 use Rattle.state_store.specs.Ports.{IsPort}
@@ -33,6 +34,7 @@ use Rattle.lower_laws_states.specs.Expansions.{Has, IsPrimitiveOf, HasNoCall}
 use Rattle.lower_laws_states.specs.Standing.{SlotStands, IsWide, PrimitiveStands, ItemStands}
 use Rattle.lower_laws_states.specs.Bound.{NeverStopped}
 
+-- a program that breaks none of the rules C1 to C28
 abbrev pub BreaksNo : List Decl → Type 0
 BreaksNo ds = BreaksNone ds program_rules
 
@@ -40,33 +42,40 @@ BreaksNo ds = BreaksNone ds program_rules
 -- action under both rules, by a control, by parsing, and as calculated fields are updated. Arguments may be any numbers, and a
 -- control may be any statement.
 
+-- an effect that fits leaves a state of the program
 abbrev pub EffectsKeepStates : Type 0
 EffectsKeepStates = (ds : List Decl) (m : Moment) (e : Effect) → IsState ds m.state → FitsEffect ds e → IsState ds (fallen m e).state
 
+-- so does a primitive of an expanded action, whose operands may have been read in another state of the program
 abbrev pub PrimitivesKeepStates : Type 0
 PrimitivesKeepStates =
     (ds : List Decl) (x : Expanded) → BreaksNo ds → IsExpanded ds x → (action : ℕ) (i : Invocation) → Has (primitives_at x action) i
     → (arguments : List ℕ) (read now : Moment) → IsState ds read.state → IsState ds now.state
     → IsState ds (all_fallen now (effects ds arguments read (primitive_of ds x i))).state
 
+-- so does parsing
 abbrev pub ParsingKeepsStates : Type 0
 ParsingKeepsStates = (ds : List Decl) → BreaksNo ds → (s : State) → IsState ds s → IsState ds (parsed ds s).state
 
+-- so does an action, under both rules
 abbrev pub ActionsKeepStates : Type 0
 ActionsKeepStates =
     (ds : List Decl) (x : Expanded) → BreaksNo ds → IsExpanded ds x → (rule : Rule14) (action : ℕ) (arguments : List ℕ) (m : Moment)
     → IsState ds m.state → IsState ds (acted_by ds x rule action arguments m).state
 
+-- so does a control
 abbrev pub ControlsKeepStates : Type 0
 ControlsKeepStates =
     (c : Setting) → BreaksNo c.decls → IsSetting c → FewTables c.decls → (body : Stmt) (m : Moment)
     → IsState c.decls m.state → IsState c.decls (control_run c body m).state
 
+-- so does the update of calculated fields
 abbrev pub UpdatesKeepStates : Type 0
 UpdatesKeepStates = (ds : List Decl) (x : Expanded) (s : State) → IsState ds s → IsState ds (updated ds x s)
 
--- what a pass hands on are held values and preserved sets of the program
+-- passes
 
+-- the ends of ingress and of egress fit, and what is parsed again is held
 pub record PassesFit (c : Setting) : Type 0 where
   pub ingress : (store : Contents) (came : QueueItem Preserved) → IsItem c.decls came → FitsIngressEnd c.decls (ingress14 c store came)
   pub reparse : (store : Contents) (came : QueueItem Preserved) → IsItem c.decls came → IsHeld c.decls (reparse14 c store came).answer
@@ -74,24 +83,29 @@ pub record PassesFit (c : Setting) : Type 0 where
       (store : Contents) (held : Held) (port kind : ℕ) → IsHeld c.decls held → IsPort port → kind < 2 ^ 32
       → FitsEgressEnd c.decls (egress14 c store held port kind)
 
+-- that holds of each setting of the program
 abbrev pub PassesKeepStates : Type 0
 PassesKeepStates = (c : Setting) → BreaksNo c.decls → IsSetting c → FewTables c.decls → PassesFit c
 
--- a field's number fits it, and a field that is there has 1 to 128 bits
+-- numbers
 
+-- the number of a field is below 2 ^ its width
 abbrev pub NumbersFit : Type 0
 NumbersFit = (ds : List Decl) (s : State) → IsState ds s → (slot : Slot) → read s slot < 2 ^ slot_bits ds slot
 
+-- a field that is there has 1 to 128 bits
 abbrev pub FieldsAreWide : Type 0
 FieldsAreWide = (ds : List Decl) → BreaksNo ds → (slot : Slot) → SlotStands ds slot → IsWide (slot_bits ds slot)
 
--- how a packet came here stays
+-- arrival
 
+-- parsing, a control and the update of calculated fields leave how the packet came here
 pub record ArrivalStays (c : Setting) : Type 0 where
   pub parser : (s : State) → SameArrival s (parsed c.decls s).state
   pub control : (body : Stmt) (m : Moment) → SameArrival m.state (control_run c body m).state
   pub update : (s : State) → SameArrival s (updated c.decls c.expanded s)
 
+-- that holds of each program that breaks no rule
 abbrev pub ArrivalIsKept : Type 0
 ArrivalIsKept = (c : Setting) → BreaksNo c.decls → IsExpanded c.decls c.expanded → ArrivalStays c
 
@@ -99,26 +113,31 @@ ArrivalIsKept = (c : Setting) → BreaksNo c.decls → IsExpanded c.decls c.expa
 abbrev pub NoBoundStops : Type 0
 NoBoundStops = (ds : List Decl) → BreaksNo ds → NeverStopped ds
 
--- behind expansion are primitives alone that name what is there, items of lists that are there, and no calls of controls
+-- expansion
 
+-- the expanded action with this number is of primitives, which name what is there
 pub record ActionStands (ds : List Decl) (x : Expanded) (n : ℕ) (parameters : ℕ) : Type 0 where
   pub primitives : AllByRecursion (IsPrimitiveOf ds parameters) (primitives_at x n)
   pub stand : AllByRecursion (λ i. PrimitiveStands ds x parameters (primitive_of ds x i)) (primitives_at x n)
 
+-- each expanded action stands, an expanded list has items that are there, and no control is called any more
 pub record ExpansionStands (ds : List Decl) (x : Expanded) (is : IsExpanded ds x) : Type 0 where
   pub actions_stand : (n : ℕ) (lt : n < length (actions ds)) → ActionStands ds x n (length (is.each_action n lt).action.parameters)
   pub lists_stand : (n : ℕ) (items : List Item) → items_at ds n ≡ Some items → AllByRecursion (ItemStands ds) (items_in_list x n)
   pub ingress : HasNoCall x.ingress
   pub egress : HasNoCall x.egress
 
+-- that holds of each program that breaks no rule
 abbrev pub ExpansionsStand : Type 0
 ExpansionsStand = (ds : List Decl) (x : Expanded) → BreaksNo ds → (is : IsExpanded ds x) → ExpansionStands ds x is
 
--- what fills a table fits it, and what is chosen for a packet fits the action
+-- tables
 
+-- what fills a table fits its signature, and the call that is chosen for a packet fits its action
 pub record TableFits (c : Setting) (t : Table) : Type 0 where
   pub fill : FitsFill (table_sig c.decls t) (fill_of c t)
   pub choice : (s : State) → IfSome (chosen c t (found c s t)) (FitsChosen c.decls t)
 
+-- that holds of each declared table
 abbrev pub TablesFit : Type 0
 TablesFit = (c : Setting) → BreaksNo c.decls → IsSetting c → (name : Name) (t : Table) → table_of c.decls name ≡ Some t → TableFits c t

@@ -1,4 +1,5 @@
--- What an accepted program meets, so that whatever runs leaves a state of the program.
+-- What an accepted program meets, so that whatever runs leaves a state of the program (this project's own; P4_14 1.0.5,
+-- "Actions", "Table Declarations", "Parser Specification").
 use Rattle.std.specs.Prelude.{◌≡◌, ℕ, ◌<◌, ◌^◌, List, length, Some}
 use Rattle.std.specs.List.{AllByRecursion}
 use Rattle.match_core.specs.Fits.{FitsCall}
@@ -31,7 +32,7 @@ pub record FewTables (ds : List Decl) : Type 0 where
   pub tables : length (names_in sort.Table ds) < 2 ^ 32
   pub actions : (name : Name) (t : Table) → table_of ds name ≡ Some t → length (listed_in t) < 2 ^ 32
 
--- `next` follows a stack
+-- `next` follows a stack ("Parser Specification")
 abbrev pub FitsStatement : List Decl → PStmt → Type 0
 FitsStatement ds (pstmt.Extract i) = i.index ≡ Some Next → OfInstance ds (instance_number ds i.name) (λ d. (n : Literal) × (size_in d ≡ Some n))
 FitsStatement ds (pstmt.SetMetadata r v) = Unit {0}

@@ -1,5 +1,5 @@
--- What is there of what an expanded primitive names: fields, headers, stacks, objects, calculations, and the parameters of its
--- action.
+-- What is there of what an expanded primitive names: fields, headers, stacks, objects, calculations, and the parameters
+-- of its action (this project's own; P4_14 1.0.5, "Primitive Actions", "Header and Metadata Instances", "Field Lists").
 use Rattle.std.specs.Prelude.{is_some, ◌≡◌, ℕ, ◌<◌, ◌≤◌, Bool, true, List, length, Some, IfSome}
 use Rattle.p414_syntax.specs.declared.lexeme.Literal.{Literal}
 use Rattle.p414_syntax.specs.declared.calculations.Item.{Item}
@@ -27,11 +27,12 @@ pub record IsField (ds : List Decl) (i e f : ℕ) : Type 0 where
   pub element : e < elements_of (size_in instance)
   pub field : f < length (widths_in ds instance)
 
+-- a field that is there: one of standard metadata, or one of an element that is there
 abbrev pub SlotStands : List Decl → Slot → Type 0
 SlotStands ds (standard which) = Unit {0}
 SlotStands ds (declared i e f) = IsField ds i e f
 
--- the bits that a field may have
+-- the bits that a field may have: 1 to 128
 abbrev pub IsWide : ℕ → Type 0
 IsWide width = (1 ≤ width) × (width ≤ 128)
 
@@ -53,6 +54,7 @@ pub record CopyStands (ds : List Decl) (at from : Element) : Type 0 where
   pub source : HeaderStands ds from
   pub same : to.header.header_type ≡ source.header.header_type
 
+-- an instance that is a stack, with its number of elements
 pub record StackStands (ds : List Decl) (i : ℕ) : Type 0 where
   pub header : Header
   pub size : Literal
@@ -65,6 +67,7 @@ pub record ObjectStands (ds : List Decl) (is_kind : Decl → Bool) (object : ℕ
   pub is_number : object ≡ object_number ds name
   pub is_one : is_object is_kind ds name ≡ true
 
+-- the calculation that is declared under some name
 pub record CalculationStands (ds : List Decl) (x : Expanded) (c : Calculation) : Type 0 where
   pub name : Name
   pub is : c ≡ calculation_named ds x name
@@ -72,11 +75,13 @@ pub record CalculationStands (ds : List Decl) (x : Expanded) (c : Calculation) :
 
 -- sources and terms of an action with so many parameters
 
+-- an operand: a number, a field that is there, or one of so many parameters of the action
 abbrev pub SourceStands : List Decl → ℕ → Source → Type 0
 SourceStands ds count (number value) = Unit {0}
 SourceStands ds count (field slot) = SlotStands ds slot
 SourceStands ds count (parameter n) = n < count
 
+-- the operands of a term stand, and so do the register and the calculation that it names
 abbrev pub TermStands : List Decl → Expanded → ℕ → Term → Type 0
 TermStands ds x count (just a) = SourceStands ds count a
 TermStands ds x count (on_mask a b) = SourceStands ds count a × SourceStands ds count b
@@ -91,7 +96,7 @@ TermStands ds x count (cell object index) = ObjectStands ds is_register object �
 TermStands ds x count (hashed base calculation bound) =
     SourceStands ds count base × CalculationStands ds x calculation × SourceStands ds count bound
 
--- A primitive names what is there.
+-- a primitive names what is there
 abbrev pub PrimitiveStands : List Decl → Expanded → ℕ → Primitive → Type 0
 PrimitiveStands ds x count (write sums target term) = TargetStands ds target × TermStands ds x count term
 PrimitiveStands ds x count (add_header at) = HeaderStands ds at

@@ -1,4 +1,6 @@
--- What passes ask of the controls of P4_16, over moments between blocks.
+-- What passes ask of the controls of P4_16, over moments between blocks (this project's own; P4_14 1.0.5, "Packet
+-- Processing and Control Flow", "Checksums and Hash-value Generators"; the blocks are those of `v1model.p4`,
+-- `V1Switch`).
 use Rattle.std.specs.Prelude.{◌≡◌, ℕ, true, false, None, codes}
 use Rattle.p4x_bits.specs.BitLists.{bit}
 use Rattle.p414_sem.specs.CalculatedFields.{fails_verification, updated}

@@ -1,4 +1,5 @@
--- The law of all controls of a program.
+-- The law of all controls of a program (this project's own; P4_14 1.0.5, "Packet Processing and Control Flow",
+-- "Checksums and Hash-value Generators"; `v1model.p4`, `V1Switch`).
 use Rattle.std.specs.Prelude.{false, true}
 use Rattle.p414_sem.specs.Controls.{Setting as Setting14}
 use Rattle.v1_core.specs.Surroundings.{Setting}

@@ -1,4 +1,6 @@
--- What is asked of the block that verifies, and of the one that updates, as they are written.
+-- What is asked of the block that verifies, and of the one that updates, as they are written (this project's own; P4_14
+-- 1.0.5, "Checksums and Hash-value Generators"; P4_16 1.2, "Control blocks"; `v1model.p4`, `VerifyChecksum`,
+-- `ComputeChecksum`).
 use Rattle.std.specs.Prelude.{Bool, List, Some, [], filter_map, ◌≡◌}
 use Rattle.p414_syntax.specs.declared.syntax.Decl.{Decl}
 use Rattle.p414_syntax.specs.Lists.{calculated_fields}

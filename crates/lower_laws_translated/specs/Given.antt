@@ -1,4 +1,5 @@
--- What the translation is given.
+-- What the translation is given: declarations that were read, and that break none of the rules C1 to C28 (this
+-- project's own; P4_14 1.0.5, "Summary of P4 BNF").
 use Rattle.std.specs.Prelude.{◌≤◌, ◌^◌, List, length}
 use Rattle.p414_syntax.specs.declared.actions.Action.{Action}
 use Rattle.p414_syntax.specs.declared.syntax.Decl.{Decl}

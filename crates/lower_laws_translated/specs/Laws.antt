@@ -1,4 +1,5 @@
--- What holds of the program that is written.
+-- What holds of the program that is written (this project's own; both languages are meant as a whole: P4_14
+-- 1.0.5, and P4_16 1.2 with `v1model.p4`).
 use Rattle.std.specs.Prelude.{◌≡◌, ◌≤◌, ◌^◌, true, false, length}
 use Rattle.std.specs.List.{list_any}
 use Rattle.p414_syntax.specs.declared.syntax.Rule14.{Rule14}

@@ -1,4 +1,5 @@
--- What is still owed of the written program, so that it breaks no rule of P4_16.
+-- What the rules of P4_16 ask of the declarations of ingress and egress as they are written, which is shown by itself,
+-- and all other rules over it (this project's own; P4_16 1.2, "Control blocks", "Actions", "Tables").
 use Rattle.std.specs.Prelude.{List}
 use Rattle.std.specs.List.{AllByRecursion}
 use Rattle.p414_syntax.specs.declared.syntax.Decl.{Decl}

@@ -1,5 +1,8 @@
--- The whole program that is written for a program of P4_14 under one of its rules: types and objects as they are declared, the
--- parser, ingress and egress with copies of their actions and with their tables, the calculated fields, and the deparser.
+-- The whole program that is written for a program of P4_14 under one of its rules: types and objects as they are
+-- declared, the parser, ingress and egress with copies of their actions and with their tables, the calculated fields,
+-- and the deparser (this project's own; P4_14 1.0.5, "Actions", "Table Declarations", "Packet Processing and Control
+-- Flow", "Checksums and Hash-value Generators"; P4_16 1.2, "Control blocks", "Actions", "Tables", "Control-plane API
+-- annotations"; `v1model.p4`, `V1Switch`).
 use Rattle.std.specs.Prelude.{ℕ, zero, suc, ◌+◌, ◌^◌, nat_lt, replicate, Bool, true, false, not, if◌then◌else◌, codes, List, [], ◌∷◌, ◌++◌, map, flat_map, filter, filter_map, slice_get, Option, None, option_map, option_and_then, unwrap_or}
 use Rattle.std.specs.List.{list_any}
 use Rattle.std.specs.Option.{option_map_or}
@@ -52,15 +55,18 @@ use Rattle.lower_laws_declared.specs.Controls.{plan_of, deparser_written}
 -- cut, `colour_xK_` for a meter's colour. There are no others; the laws ask a name for whatever number, so the rest get names that
 -- are longer than each new name.
 
+-- a name for what no program has
 abbrev pub far_name : ℕ → ℕ → Name
 far_name K i = replicate 65 line ++ (replicate K 97 ++ replicate i 98)
 
+-- the names of the variables of a primitive
 abbrev pub near_name : ℕ → ℕ → Name
 near_name K zero = called (made_thing variable_letter K (codes "got"))
 near_name K (suc zero) = called (made_thing (variable_letter + 1) K (codes "cut"))
 near_name K (suc (suc zero)) = called (made_thing (variable_letter + 2) K (codes "colour"))
 near_name K i = far_name K i
 
+-- a name for each variable of each primitive
 abbrev pub spare_name : ℕ → ℕ → Name
 spare_name K i = if nat_lt K (2 ^ 32) then near_name K i else far_name K i
 
@@ -79,6 +85,7 @@ applied_in body = flat_map own_table (subtrees body)
 module _ (ds : List Decl) where
   -- what is written with, under new names
 
+  -- the words of the program with these copies, objects, variables and parameters
   abbrev pub words_with : (Owner → Name) → List ObjectName → (ℕ → ℕ → Name) → List NamedField → Words
   words_with copy objects spare parameters = record {
     names = new_names_of ds;
@@ -90,12 +97,15 @@ module _ (ds : List Decl) where
     parameters = parameters;
   }
 
+  -- those of the body of an action
   abbrev pub action_words : List NamedField → Words
   action_words parameters = words_with old_name (objects_by_number ds) spare_name parameters
 
+  -- those of the statements of ingress and egress
   abbrev pub pipeline_words : Words
   pipeline_words = words_with old_name (objects_by_number ds) nothing_spare []
 
+  -- those of the blocks that verify and update
   abbrev pub checksum_words : Words
   checksum_words = words_with nothing_copied (objects_by_number ds) nothing_spare []
 
@@ -105,6 +115,7 @@ module _ (ds : List Decl) where
   parameters_from action p (name ∷ names) =
       record { called = called (parameter_thing ds p name); width = parameter_width ds action p } ∷ parameters_from action (p + 1) names
 
+  -- the parameters of the action with this number under their new names
   abbrev pub new_parameters_of : ℕ → List NamedField
   new_parameters_of action = option_map_or (λ (a : Action). parameters_from action 0 a.parameters) (slice_get (actions ds) action) []
 
@@ -116,32 +127,38 @@ module _ (ds : List Decl) where
   abbrev pub counter_called : Name → Option Name
   counter_called table = option_map (new_name ds sort.Object) (first_name (filter_map (counts_entries_of table) ds))
 
-  -- the number of the action that a copy copies, and of the direct counter that it counts
+  -- the number of the action that a copy copies
   abbrev pub number_in : Copy → ℕ
   number_in c = unwrap_or (action_number ds c.action) 0
 
+  -- the direct counter that a copy counts, by its number
   abbrev pub counter_in : Copy → Option ℕ
   counter_in c = option_and_then (λ number. direct_counter ds (table_called number)) c.table
 
   module _ (x : Expanded) where
+    -- the primitives of the action with this number, expanded
     abbrev pub primitives_in : ℕ → List Primitive
     primitives_in action = primitives_of ds x (primitives_at x action)
 
     -- A table stands in egress where egress applies it, and else in ingress.
 
+    -- egress applies the table
     abbrev pub is_of_egress : Name → Bool
     is_of_egress table = has_name (applied_in x.egress) table
 
+    -- the same by the table's number
     abbrev pub is_in_egress : ℕ → Bool
     is_in_egress number = is_of_egress (table_called number)
 
+    -- the table stands in this pipeline
     abbrev pub stands_in : Bool → Name → Bool
     stands_in egress table = is_same_bit egress (is_of_egress table)
 
-    -- the names of the tables, and the copies of actions, of a pipeline
+    -- the names of the tables of a pipeline
     abbrev pub tables_in : Bool → List Name
     tables_in egress = filter (stands_in egress) (names_in sort.Table ds)
 
+    -- the copies of actions of a pipeline
     abbrev pub copies_in : Bool → List Copy
     copies_in egress = filter (in_pipeline egress) (copies ds is_in_egress)
 
@@ -172,17 +189,20 @@ module _ (ds : List Decl) where
 
       -- Only a pipeline with an action that needs copies has the variables of the parallel rule.
 
+      -- a copy of an action that needs copies of the block's parameters
       abbrev pub copy_needs : Copy → Bool
       copy_needs c = needs_copies ds under (primitives_in (number_in c))
 
+      -- the rule by which a pipeline has its variables
       abbrev pub rule_in : Bool → Rule14
       rule_in egress = if list_any copy_needs (copies_in egress) then rule.Parallel else rule.Sequential
 
+      -- what a pipeline declares behind its variables: copies of actions, and tables
       abbrev pub locals_in : Bool → List Local
       locals_in egress =
           map (λ (c : Copy). local.Action (action_written c)) (copies_in egress) ++ map (λ (name : Name). local.Table (table_written name)) (tables_in egress)
 
-      -- egress isn't asked for sums that are wrong
+      -- ingress or egress; egress isn't asked for sums that are wrong
       abbrev pub pipeline_written : Bool → Name → Stmt → Control16
       pipeline_written egress text body = record {
         name = text;
@@ -191,6 +211,7 @@ module _ (ds : List Decl) where
         body = guarded_stmt pipeline_words (not egress) (control_stmt pipeline_words ds plan block body);
       }
 
+      -- the program that is written, by its parts
       abbrev pub translated : Parts
       translated = record {
         types = top_decls ds x;
