@@ -4,12 +4,16 @@
 # It takes up again where it stopped: what the table has is tried again only where the text of the crate, or of the edit, has changed.
 #   --anew           tries all again
 #   --table          tries none, and writes the table again (with what was never tried)
+#   --whole          tries each on the whole crate at once
 #   --room FOLDER    where the clone stands in which they are tried; it is kept for the next run
 #   --rt WORDS       what runs in place of rt
 #   --first WORDS    what runs in the clone in front of a crate's edits, with the crate's name behind it, such as a command that gives it libraries
+# An edit inside of functions is tried on these alone first, by `rt check --only`: where one of them is refused, so is the crate. What that
+# doesn't settle, `rt must-fail` tries on the whole crate.
 # It tries what was committed last, and proves the crates below first where no earlier run on this machine has. It wants rt, git and python3.
-# The whole takes some ten hours of a processor; `sh bench/edits.sh >edits.log 2>&1 &` leaves it in the background, and `RT_JOBS=1` in front
-# tries one at a time. What a crate's edits came to is written when all of them were tried. The gate doesn't run it.
+# The whole takes some five hours of a processor; `sh bench/edits.sh >edits.log 2>&1 &` leaves it in the background, and `RT_JOBS=1` in front
+# tries one at a time. Two runs with rooms and crates of their own can go side by side. What a crate's edits came to is written when all of
+# them were tried. The gate doesn't run it.
 set -eu
 top=$(cd "$(dirname "$0")/.." && pwd)
 exec nice python3 - "$top" "$@" <<'END'
@@ -29,6 +33,7 @@ def options():
     parser.add_argument("crates", nargs="*")
     parser.add_argument("--anew", action="store_true")
     parser.add_argument("--table", action="store_true")
+    parser.add_argument("--whole", action="store_true")
     parser.add_argument("--room", default=f"{tempfile.gettempdir()}/p4x_edits_{os.getuid()}")
     parser.add_argument("--rt", default="rt")
     parser.add_argument("--first", default="")
@@ -245,6 +250,57 @@ def pending(top, crate, rows, anew):
     found = edits_of(top, crate)
     return {it: file for it, file in found.items() if anew or (crate, it) not in rows or rows[crate, it].text != row_text(sum_of_crate, file)}
 
+def functions_of(room, crate, file):
+    """The functions that an edit changes, by their paths below the crate, or none where a line of it stands outside of functions."""
+    found = []
+    for path, old, _ in pairs_of(file):
+        text = text_of(f"{room}/crates/{crate}/{path}")
+        name = function_at(text, text[: text.index(old)].count("\n") + 1)[0]
+        if not path.startswith("src/") or not name:
+            return []
+        parts = path[len("src/") : -len(".rt")].split("/")
+        found.append("::".join([*(it for it in parts if it not in ("lib", "main", "mod")), name]))
+    return list(dict.fromkeys(found))
+
+# What a check says of a text that it can't read, of a proof that names what is gone, and of a limit: must-fail tells these apart.
+UNSETTLED = re.compile(r"error\[|is not in scope|has no field|has no `|is no name|operand is missing|expected the end|cannot continue|was not admitted|ran out of|outgrew|step limit")
+
+def refusal(status, said):
+    """The first line of a check that refuses a function, where it settles that an edit is refused."""
+    lines = said.split("\n")
+    if status != 1 or not any(re.match(r"only=\d+ proved=\d+", it) for it in lines):
+        return ""
+    told = [it for it in lines if re.match(r"(note: )?\S+:\d+:\d+:", it)]
+    told = [it for it in told if ": error" in it or it.startswith("note: ")] or told
+    return "" if not told or any(UNSETTLED.search(it) for it in told) else told[0][:160]
+
+def check_alone(room, crate, functions, chosen):
+    """The status and the words of a check of these functions of a crate, as it stands in the clone, and of those that they call."""
+    words = [*shlex.split(chosen.rt), "check", "--jobs", "1", *(it for function in functions for it in ("--only", function))]
+    ran = subprocess.run(words, cwd=f"{room}/crates/{crate}", stdin=subprocess.DEVNULL, stdout=subprocess.PIPE, stderr=subprocess.STDOUT, text=True, errors="replace")
+    return ran.returncode, ran.stdout
+
+def write_texts(room, crate, texts):
+    for path, text in texts.items():
+        with open(f"{room}/crates/{crate}/{path}", "w", encoding="utf-8") as file:
+            file.write(text)
+
+def tried_alone(room, crate, edits, texts, chosen):
+    """What a check of its functions says of each edit that is refused by it, where they are proved as they stand, as rt says it of the crate."""
+    said, changed = {}, {it: functions_of(room, crate, file) for it, file in edits.items()}
+    every = list(dict.fromkeys(function for it in changed.values() for function in it))
+    if not every or check_alone(room, crate, every, chosen)[0]:
+        return said
+    for name in filter(changed.get, edits):
+        were = {path: text_of(f"{room}/crates/{crate}/{path}") for path in texts[name][0]}
+        write_texts(room, crate, texts[name][0])
+        line = refusal(*check_alone(room, crate, changed[name], chosen))
+        write_texts(room, crate, were)
+        if line:
+            said[name] = f"refused, as it must be: {line}"
+            print(f"{crate}/{name}: {line}", flush=True)
+    return said
+
 def tried(room, crate, edits, chosen):
     """What rt says of each of these edits of a crate, in the clone."""
     folder = f"{room}/crates/{crate}/must-fail"
@@ -254,8 +310,6 @@ def tried(room, crate, edits, chosen):
     for name, text in files.items():
         with open(f"{folder}/{name}.edit", "w", encoding="utf-8") as file:
             file.write(text)
-    if chosen.first:
-        subprocess.run([*shlex.split(chosen.first), crate], cwd=room, stdin=subprocess.DEVNULL)
     words = [*shlex.split(chosen.rt), "must-fail", *(["--anew"] if chosen.anew else []), crate]
     ran = subprocess.run(words, cwd=room, stdin=subprocess.DEVNULL, stdout=subprocess.PIPE, stderr=subprocess.STDOUT, text=True, errors="replace")
     print(ran.stdout, end="", flush=True)
@@ -271,10 +325,24 @@ def try_crate(room, crate, rows, commit, chosen):
     sums = {it: row_text(sum_of_crate, file) for it, file in edits.items()}
     bad = {it: Row(f"{BAD}: {texts[it][1]}", commit[:8], sums[it]) for it in edits if texts[it][1]}
     good = {it: edits[it] for it in edits if it not in bad}
-    said = tried(room, crate, good, chosen) if good else {}
+    if good and chosen.first:
+        subprocess.run([*shlex.split(chosen.first), crate], cwd=room, stdin=subprocess.DEVNULL)
+    said = {} if chosen.whole else tried_alone(room, crate, good, texts, chosen)
+    left = {it: file for it, file in good.items() if it not in said}
+    said |= tried(room, crate, left, chosen) if left else {}
     came = {it: came_to(said[it], texts[it][0], room, crate) for it in said}
     made = {it: Row(came[it], commit[:8], sums[it]) for it in came if came[it]}
     return {(crate, it): row for it, row in {**bad, **made}.items()}, len(good) - len(made)
+
+def put(top, path, made):
+    """Puts these rows into the table, which another run may have written meanwhile."""
+    folder = os.open(os.path.dirname(path), os.O_RDONLY)
+    try:
+        fcntl.flock(folder, fcntl.LOCK_EX)
+        rows = {**rows_of(path), **made}
+        return rows, write_table(top, rows)
+    finally:
+        os.close(folder)
 
 def main():
     top, chosen = sys.argv[1], options()
@@ -295,9 +363,8 @@ def main():
                 print(f"== {crate}", flush=True)
                 made, without = try_crate(chosen.room, crate, rows, commit, chosen)
                 left += without
-                rows = {**rows_of(path), **made}
-                write_table(top, rows)
-    count = write_table(top, rows)
+                rows, count = put(top, path, made)
+    rows, count = put(top, path, {})
     print(", ".join(f"{kind.strip('*')} {count[kind]}" for kind in sorted(count)) + (f"; {left} of this run came to nothing" if left else ""))
     sys.exit(1 if left or count[MISSED] or count[BAD] else 0)
 
