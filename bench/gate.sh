@@ -47,7 +47,7 @@ def stamp(stream, start):
 
 start = time.monotonic()
 # Kits whose rt ci keeps what it has passed know --anew; the others keep nothing, and take no names.
-keeps = "--anew" in subprocess.run(["rt", "help"], capture_output=True, text=True, errors="replace").stdout
+keeps = "--anew" in subprocess.run(["rt", "help"], stdout=subprocess.PIPE, stderr=subprocess.STDOUT, text=True, errors="replace").stdout
 child = subprocess.Popen(["rt", "ci", *(["--anew"] if keeps else []), *sys.argv[1:]], stdout=subprocess.PIPE, stderr=subprocess.STDOUT, text=True, errors="replace")
 reader = threading.Thread(target=stamp, args=(child.stdout, start))
 reader.start()
