@@ -285,12 +285,21 @@ def write_texts(room, crate, texts):
         with open(f"{room}/crates/{crate}/{path}", "w", encoding="utf-8") as file:
             file.write(text)
 
+def proved_alone(room, crate, functions, chosen):
+    """Those of these functions that a check finds by their names, where it proves them as they stand, or else none."""
+    while functions:
+        status, said = check_alone(room, crate, functions, chosen)
+        unknown = set(re.findall(r"has no function `([^`]+)`", said)) & set(functions)
+        if not unknown:
+            return [] if status else functions
+        functions = [it for it in functions if it not in unknown]
+    return []
+
 def tried_alone(room, crate, edits, texts, chosen):
     """What a check of its functions says of each edit that is refused by it, where they are proved as they stand, as rt says it of the crate."""
     said, changed = {}, {it: functions_of(room, crate, file) for it, file in edits.items()}
-    every = list(dict.fromkeys(function for it in changed.values() for function in it))
-    if not every or check_alone(room, crate, every, chosen)[0]:
-        return said
+    proved = set(proved_alone(room, crate, list(dict.fromkeys(sum(changed.values(), []))), chosen))
+    changed = {it: functions for it, functions in changed.items() if proved >= set(functions)}
     for name in filter(changed.get, edits):
         were = {path: text_of(f"{room}/crates/{crate}/{path}") for path in texts[name][0]}
         write_texts(room, crate, texts[name][0])
