@@ -1,0 +1,4 @@
+pub mod Numbered
+mod Needing
+pub mod Turning
+pub mod Kept

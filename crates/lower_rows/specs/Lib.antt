@@ -1,0 +1,3 @@
+-- Named: which instances, fields and objects rows are. Calculations: which calculation a row is.
+pub mod Named
+pub mod Calculations
