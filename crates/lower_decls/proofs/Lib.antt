@@ -1,9 +1,7 @@
--- Showing: how rows are shown. Same: what is written by tables is what the definitions say. Marking: marks of lists.
--- Named: names that are picked, each once. Used: which header types have headers. Flags: which lists are preserved. Copied: copies of actions.
+-- Showing: how rows are shown. Same: what is written by tables is what the definitions say. Used: which header types have
+-- headers. Egress: the tables that egress applies are those that its statements apply. Accepted: programs that break no rule.
 pub mod Showing
 pub mod Same
-pub mod Marking
-pub mod Named
 pub mod Used
-pub mod Flags
-pub mod Copied
+pub mod Egress
+pub mod Accepted

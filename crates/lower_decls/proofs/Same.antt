@@ -11,7 +11,8 @@ use Rattle.p416_syntax.specs.declared.program.Decl16.TheVariants as decl16
 use Rattle.agreement_of_meanings.specs.Shown.{NamedField, Shown, as_header, as_stack, as_metadata}
 use Rattle.lower_laws_names.specs.Objects.{object_decls, top_decls}
 use Rattle.lower_laws_names.specs.Types.{Member, members, is_used, header_decl, header_decls, struct_decl, struct_decls, headers_decl, metadata_decl, struct_field, struct_fields_from}
-use Rattle.lower_decls.specs.Tops.{used_from, AreUsed, marks_at, marks_in, AreMarks, marked_field, marked_from, struct_by, structs}
+use Rattle.lower_marks.specs.FieldMarks.{marks_in, AreMarks}
+use Rattle.lower_decls.specs.Tops.{used_from, AreUsed, marked_field, marked_from, struct_by, structs}
 
 -- flags
 

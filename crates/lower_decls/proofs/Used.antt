@@ -7,9 +7,9 @@ use Rattle.p414_syntax.specs.Fields.{types}
 use Rattle.p414_syntax.specs.Names.{Name, has_name}
 use Rattle.p414_syntax.specs.Views.{HeaderTypeTree}
 use Rattle.lower_laws_names.specs.Types.{has_type, is_used}
-use Rattle.lower_decls.specs.Picked.{picked_from}
+use Rattle.lower_names.specs.Picked.{picked_from}
 use Rattle.lower_decls.specs.Using.{used_in, has_of}
-use Rattle.lower_decls.proofs.Named.{bytes_turned, names_it, picked_have}
+use Rattle.lower_names.proofs.Named.{bytes_turned, names_it, picked_have}
 
 entry_is : (n : Name) (d : Decl) → names_it used_in n d ≡ has_type n d
 entry_is n (decl.Header x) = bytes_turned n x.header_type

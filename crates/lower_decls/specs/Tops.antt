@@ -3,13 +3,12 @@ use Rattle.std.specs.Prelude.{◌≡◌, ℕ, ◌+◌, Bool, false, if◌then◌
 use Rattle.p414_syntax.specs.declared.syntax.Decl.{Decl}
 use Rattle.p414_syntax.specs.Views.{HeaderTypeTree}
 use Rattle.p414_syntax.specs.Fields.{types}
-use Rattle.p414_sem.specs.Expanded.{Expanded}
 use Rattle.p416_syntax.specs.declared.parts.StructField.{StructField}
 use Rattle.p416_syntax.specs.declared.parts.Type16.TheVariants as type_of
 use Rattle.p416_syntax.specs.declared.program.Decl16.{Decl16}
 use Rattle.p416_syntax.specs.declared.program.Decl16.TheVariants as decl16
 use Rattle.agreement_of_meanings.specs.Shown.{NamedField, Shown, as_header, as_stack, as_metadata}
-use Rattle.lower_laws_names.specs.Marks.{marks_of_field}
+use Rattle.lower_marks.specs.FieldMarks.{marks_at, marks_in}
 use Rattle.lower_laws_names.specs.Types.{Member, is_used, notes_of, plain, header_member, metadata_member}
 
 -- the types that have a flag, of which the first has this number
@@ -21,17 +20,6 @@ used_from flags number (t ∷ ts) =
 -- the flags are those of the header types that a header has
 abbrev pub AreUsed : List Decl → List Bool → Type 0
 AreUsed ds flags = flags ≡ map (is_used ds) (types ds)
-
--- the marks of a field, in a table of each instance's fields
-abbrev pub marks_at : List (List ℕ) → ℕ → List ℕ
-marks_at marks f = slice_index_or marks f []
-
-abbrev pub marks_in : List (List (List ℕ)) → ℕ → List (List ℕ)
-marks_in marks k = slice_index_or marks k []
-
--- the table has the marks of each field
-abbrev pub AreMarks : List Decl → Expanded → List (List (List ℕ)) → Type 0
-AreMarks ds x marks = (k f : ℕ) → marks_at (marks_in marks k) f ≡ marks_of_field ds x k f
 
 abbrev pub marked_field : List ℕ → NamedField → StructField
 marked_field numbers field =

@@ -1,14 +1,13 @@
 // Header types.
-ghost use Rattle.std.specs.Prelude.{◌≡◌, ◌++◌, false, map, slice_index_or, IfOk, OnOk};
+ghost use Rattle.std.specs.Prelude.{◌≡◌, ◌++◌, map, IfOk, OnOk};
 ghost use Rattle.p414_syntax.specs.Fields.{field_bits, types};
 ghost use Rattle.lower_laws_names.specs.Instances.{type_fields};
 ghost use Rattle.lower_laws_names.specs.Types.{bit_field, header_decl};
 ghost use Rattle.lower_decls.specs.Table.{field_named};
 ghost use Rattle.lower_decls.specs.Tops.{used_from};
 
-use crate::members::new_field;
 use crate::numbers::plain;
-use crate::renamed::new_name;
+use lower_names::{is_at, new_field, new_name};
 use name_numbers::narrow;
 use p4x_bits::{OutOfMemory, Rows};
 use p414_names::Names14;
@@ -55,16 +54,6 @@ fn header_decl(alloc: Global, names: &Names14<'_>, of: &HeaderType) -> Result<De
     let name = new_name(alloc, names, Sort::HeaderType, of.name().as_slice())?;
     let fields = bit_fields(alloc, of)?;
     Ok(Decl16::Header(Header16 { name, fields }))
-}
-
-/// Whether a flag stands at a place.
-pub fn is_at(flags: &[bool], place: usize) -> bool
-    ensures { result ≡ slice_index_or flags.now place false }
-{
-    match flags.get(place) {
-        Some(flag) => *flag,
-        None => false,
-    }
 }
 
 /// Puts the header types that a header has behind what is there. Flags tell which these are, by number.

@@ -1,33 +1,21 @@
-//! The P4_16 names of what a P4_14 program declares, and what a translated text declares at its top. A name stays where it
-//! can; else it begins as it did, and ends in `_`, a letter, a number and `_`.
+//! What a translated text declares at its top, and the types that the rest of the lowering is written with: new names, copies of
+//! actions, and the marks of field lists.
 #![tactic(auto)]
 
-mod copies;
-mod fields;
 mod headers;
-mod making;
-mod marks;
-mod members;
+mod lowered;
 mod numbers;
 mod objects;
 mod picked;
-mod preserved;
-mod renamed;
+mod program;
 mod rows;
-mod staying;
 mod structs;
 mod table;
 mod tops;
-mod words;
 
-pub use copies::{ActionCopy, action_copies};
-pub use fields::{FieldName, new_field_names};
-pub use making::{called, made};
-pub use marks::mark_rows;
-pub use members::{new_field, new_fields, new_parameters};
+pub use lowered::LoweredTypes;
 pub use picked::used_types;
-pub use preserved::preserved_flags;
-pub use renamed::{Renamed, new_name, new_names};
+pub use program::lower_types;
 pub use rows::{MemberRow, instance_rows, member_rows};
 pub use table::{FieldRow, Form, InstanceRow};
 pub use tops::top_decls;

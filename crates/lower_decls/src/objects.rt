@@ -10,7 +10,7 @@ ghost use Rattle.p414_sem.specs.Signatures.{cells_of};
 ghost use Rattle.lower_laws_names.specs.Objects.{counter_instance, counter_member, meter_member, named_object, object_decl, object_decls, size_exp};
 
 use crate::numbers::plain;
-use crate::renamed::new_name;
+use lower_names::new_name;
 use p4x_bits::{OutOfMemory, Rows, Text};
 use p414_names::Names14;
 use p414_syntax::{CounterType as CounterType14, Decl, Sort, Stateful};

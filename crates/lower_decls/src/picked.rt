@@ -1,23 +1,15 @@
-// Names that are picked out of declarations, each once, and which header types have headers.
-ghost use Rattle.std.specs.Prelude.{◌≡◌, [], not, map, IfOk, OnOk};
-ghost use Rattle.p414_syntax.specs.Names.{has_name};
+// Which header types have headers.
+ghost use Rattle.std.specs.Prelude.{◌≡◌, [], map, IfOk, OnOk};
 ghost use Rattle.p414_syntax.specs.Fields.{types};
 ghost use Rattle.lower_laws_names.specs.Types.{is_used};
-ghost use Rattle.lower_decls.specs.Picked.{with_name, with_some, picked_from};
+ghost use Rattle.lower_names.specs.Picked.{with_some, picked_from};
 ghost use Rattle.lower_decls.specs.Using.{used_in, has_of};
 
+use lower_names::is_new;
 use p4x_bits::{OutOfMemory, Rows};
 use p414_names::{NameSet, Names14};
 use p414_syntax::Decl;
 use std::alloc::Global;
-
-/// Adds a name, and tells whether it is new.
-pub fn is_new<'a>(known: &mut NameSet<'a>, name: &'a [u8]) -> Result<bool, OutOfMemory>
-    ensures first { IfOk result (λ added. added ≡ not (has_name known.old name.now)) }
-    ensures known { OnOk result (known.new ≡ with_name known.old name.now) }
-{
-    known.add(name)
-}
 
 /// Adds the header type of a header.
 fn add_used<'a>(found: &mut NameSet<'a>, decl: &'a Decl) -> Result<(), OutOfMemory>

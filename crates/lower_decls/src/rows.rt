@@ -9,11 +9,9 @@ ghost use Rattle.lower_decls.specs.Table.{instance_shown, named_field, shown_as}
 ghost use Rattle.lower_decls.specs.Table.{field_named, form_of, header_in, member_in, metadata_in};
 
 use crate::headers::field_bits;
-use crate::making::made;
-use crate::members::new_field;
 use crate::numbers::{narrow_count, narrow_width};
-use crate::renamed::new_name;
 use crate::table::{FieldRow, Form, InstanceRow};
+use lower_names::{made, new_field, new_name};
 use name_numbers::narrow;
 use p4x_bits::{OutOfMemory, Rows, Text};
 use p414_names::Names14;

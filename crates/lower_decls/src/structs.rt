@@ -3,11 +3,13 @@ ghost use Rattle.std.specs.Prelude.{◌≡◌, ◌++◌, [], ◌∷◌, codes, f
 ghost use Rattle.lower_laws_names.specs.Types.{header_member, member_field, metadata_member, notes_of, plain};
 ghost use Rattle.lower_decls.specs.Table.{named_field};
 ghost use Rattle.lower_decls.specs.Table.{member_in};
-ghost use Rattle.lower_decls.specs.Tops.{headers_struct, marked_field, marked_from, marks_at, marks_in, metadata_struct, struct_by, structs};
+ghost use Rattle.lower_marks.specs.FieldMarks.{marks_at};
+ghost use Rattle.lower_decls.specs.Tops.{headers_struct, marked_field, marked_from, metadata_struct, struct_by, structs};
 
 use crate::numbers::plain;
 use crate::rows::MemberRow;
 use crate::table::{FieldRow, Form};
+use lower_marks::FieldMarks;
 use p4x_bits::{OutOfMemory, Rows, Text};
 use p416_syntax::{Decl16, Literal16, Note, Struct16, StructField, Type16};
 use std::alloc::Global;
@@ -54,16 +56,6 @@ fn marks_at(marks: &[Rows<u8>], field: usize) -> &[u8]
     }
 }
 
-/// The marks of the fields of an instance.
-fn marks_in(marks: &[Rows<Rows<u8>>], instance: u32) -> &[Rows<u8>]
-    ensures { result.now ≡ marks_in marks.now instance }
-{
-    match marks.get(instance as usize) {
-        Some(found) => found.as_slice(),
-        None => &[],
-    }
-}
-
 /// The fields of a struct of metadata.
 fn marked_fields(
     alloc: Global,
@@ -82,7 +74,7 @@ fn marked_fields(
 /// The struct of a metadata instance; none of another.
 fn struct_of(
     alloc: Global,
-    marks: &[Rows<Rows<u8>>],
+    marks: &FieldMarks,
     row: &MemberRow,
 ) -> Result<Option<Decl16>, OutOfMemory>
     ensures { IfOk result (λ found. found ≡ struct_by marks.now (member_in row.now)) }
@@ -92,7 +84,7 @@ fn struct_of(
         Form::Stack => Ok(None),
         Form::Metadata => {
             let name = Text::from_slice(alloc, row.type_called.as_slice())?;
-            let marks = marks_in(marks, row.number);
+            let marks = marks.of_instance(row.number);
             let fields = marked_fields(alloc, marks, row.instance.fields.as_slice())?;
             Ok(Some(Decl16::Struct(Struct16 { name, fields })))
         }
@@ -102,7 +94,7 @@ fn struct_of(
 /// Puts the structs of metadata behind what is there.
 fn add_structs_of(
     alloc: Global,
-    marks: &[Rows<Rows<u8>>],
+    marks: &FieldMarks,
     rows: &[MemberRow],
     found: &mut Rows<Decl16>,
 ) -> Result<(), OutOfMemory>
@@ -207,7 +199,7 @@ fn metadata_struct(alloc: Global, rows: &[MemberRow]) -> Result<Decl16, OutOfMem
 /// Puts all structs behind what is there.
 pub fn add_structs(
     alloc: Global,
-    marks: &[Rows<Rows<u8>>],
+    marks: &FieldMarks,
     rows: &[MemberRow],
     found: &mut Rows<Decl16>,
 ) -> Result<(), OutOfMemory>

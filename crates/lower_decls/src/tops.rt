@@ -4,13 +4,14 @@ ghost use Rattle.p414_sem.specs.Expanded.{Expanded};
 ghost use Rattle.lower_laws_names.specs.Objects.{top_decls};
 ghost use Rattle.lower_laws_names.specs.Types.{members};
 ghost use Rattle.lower_decls.specs.Table.{member_in};
-ghost use Rattle.lower_decls.specs.Tops.{AreMarks};
+ghost use Rattle.lower_marks.specs.FieldMarks.{AreMarks};
 
 use crate::headers::add_header_decls;
 use crate::objects::add_object_decls;
 use crate::picked::used_types;
 use crate::rows::member_rows;
 use crate::structs::add_structs;
+use lower_marks::FieldMarks;
 use p4x_bits::{OutOfMemory, Rows};
 use p414_names::Names14;
 use p416_syntax::Decl16;
@@ -21,7 +22,7 @@ use std::alloc::Global;
 pub fn top_decls(
     alloc: Global,
     names: &Names14<'_>,
-    marks: &[Rows<Rows<u8>>],
+    marks: &FieldMarks,
 ) -> Result<Rows<Decl16>, OutOfMemory>
     ensures { IfOk result (λ found. (x : Expanded) → AreMarks names.now x marks.now → found ≡ top_decls names.now x) }
 {

@@ -1,5 +1,5 @@
 use Rattle.std.proofs.Common.{◌≡◌, [], drop}
-use Rattle.lower_decls.specs.Picked.{picked_from}
+use Rattle.lower_names.specs.Picked.{picked_from}
 use Rattle.lower_decls.specs.Using.{used_in}
 use Rattle.lower_decls.proofs.picked.used_names.Given as goal
 

@@ -1,6 +1,0 @@
-use Rattle.std.proofs.Common.{◌≡◌, [], drop}
-use Rattle.lower_decls.specs.Copying.{directs_from}
-use Rattle.lower_decls.proofs.copies.direct_tables.Given as goal
-
-abbrev pub invariant-loop-decl : goal.invariant-loop-decl
-invariant-loop-decl l = directs_from l.found (drop l.decl-index l.decls) ≡ directs_from [] l.decls
