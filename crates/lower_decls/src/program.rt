@@ -14,6 +14,7 @@ use std::alloc::Global;
 /// copies of actions, and the marks of the lists that calls preserve. In time linear in the program and in its expanded lists
 /// but for looking names up. The one error is want of memory, which more fields of a type, more lines of tables and more
 /// declarations than have numbers of 32 bits count as.
+#[tactic(auto, using(crate::proofs::Accepted::names_once))]
 pub fn lower_types(alloc: Global, program: &Program14) -> Result<LoweredTypes, OutOfMemory>
     ensures { IfOk result (λ found. (x : Expanded) → IsExpanded program.now.decls x → AreLowered program.now.decls x found) }
 {
