@@ -6,7 +6,10 @@ use Rattle.lower_marks.specs.FieldMarks.{marked_where, marks_at, marks_in, with_
 
 -- rows without anything are put behind
 
-nothing_at : {X : Type 0} (n k : ℕ) → get_or (replicate n ([] : List X)) k [] ≡ []
+abbrev nothing : (X : Type 0) → List X
+nothing X = []
+
+nothing_at : {X : Type 0} (n k : ℕ) → get_or (replicate n (nothing X)) k [] ≡ []
 nothing_at zero k = refl
 nothing_at (suc n) zero = refl
 nothing_at (suc n) (suc k) = nothing_at n k
@@ -21,8 +24,8 @@ padded_kept old new n is k = ap (λ l. get_or l k []) is ∙ padded_at old n k
 
 pub padded_reaches : {X : Type 0} (old new : List (List X)) (n place : ℕ) → new ≡ old ++ replicate n [] → n ≡ (place + 1) - length old → place < length new
 padded_reaches {X} old new n place is count =
-    let a : length new ≡ length old + length (replicate n ([] : List X)) = ap length is ∙ length-append old (replicate n []) in
-    let b : length (replicate n ([] : List X)) ≡ n = length-replicate n [] in
+    let a : length new ≡ length old + length (replicate n (nothing X)) = ap length is ∙ length-append old (replicate n []) in
+    let b : length (replicate n (nothing X)) ≡ n = length-replicate n (nothing X) in
     omega (arith, a, b, count)
 
 pub padded_turn : {X : Type 0} (old found new : List (List X)) (n : ℕ) → found ≡ old ++ replicate n [] → new ≡ found ++ [] ∷ [] → new ≡ old ++ replicate (n + 1) []

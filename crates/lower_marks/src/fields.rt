@@ -68,11 +68,7 @@ fn mark_list(
 
 /// The marks of each field, by the lists that have a mark.
 #[tactic(auto, using(crate::proofs::Holding::lists_turn))]
-fn marks_by(
-    alloc: Global,
-    lists: &FieldLists,
-    marked: &[Marked],
-) -> Result<FieldMarks, OutOfMemory>
+fn marks_by(alloc: Global, lists: &FieldLists, marked: &[Marked]) -> Result<FieldMarks, OutOfMemory>
     ensures { IfOk result (λ found. (k f : ℕ) → marks_at (marks_in found k) f ≡ marks_where (rows_hold lists.now k f) (map marked_in marked.now) []) }
 {
     let mut found = FieldMarks::new(alloc);

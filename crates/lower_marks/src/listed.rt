@@ -72,10 +72,7 @@ fn add_calls<'a>(known: &mut NameSet<'a>, calls: &[Invocation<'a>]) -> Result<()
 
 /// The names of the lists that the calls of these actions preserve.
 #[tactic(auto, using(crate::proofs::Listing::joined_turn))]
-fn listed_by<'a>(
-    alloc: Global,
-    actions: &[ActionCalls<'a>],
-) -> Result<NameSet<'a>, OutOfMemory>
+fn listed_by<'a>(alloc: Global, actions: &[ActionCalls<'a>]) -> Result<NameSet<'a>, OutOfMemory>
     ensures { IfOk result (λ known. known ≡ with_all [] (flat_map lists_by actions.now)) }
 {
     let mut known = NameSet::new(alloc);

@@ -73,11 +73,7 @@ pub fn mark_rows(alloc: Global, names: &Names14<'_>) -> Result<Rows<Option<u8>>,
 }
 
 /// Puts the mark of a list last, if it has one.
-fn add_marked(
-    found: &mut Rows<Marked>,
-    list: usize,
-    mark: Option<u8>,
-) -> Result<(), OutOfMemory>
+fn add_marked(found: &mut Rows<Marked>, list: usize, mark: Option<u8>) -> Result<(), OutOfMemory>
     ensures { OnOk result (map marked_in found.new ≡ map marked_in found.old ++ marked_if list mark) }
 {
     if let Some(number) = mark {

@@ -64,11 +64,7 @@ fn missing(length: usize, place: u32) -> usize
 
 /// Puts fields without marks last until there is one at a place.
 #[tactic(auto, using(crate::proofs::Tables::padded_turn, crate::proofs::Tables::padded_kept, crate::proofs::Tables::padded_reaches))]
-fn reach_field(
-    alloc: Global,
-    fields: &mut Vec<Rows<u8>>,
-    place: u32,
-) -> Result<(), OutOfMemory>
+fn reach_field(alloc: Global, fields: &mut Vec<Rows<u8>>, place: u32) -> Result<(), OutOfMemory>
     ensures reached { OnOk result (place < length fields.new.items) }
     ensures kept { OnOk result ((f : ℕ) → marks_at fields.new.items f ≡ marks_at fields.old.items f) }
 {
@@ -79,11 +75,7 @@ fn reach_field(
 }
 
 /// Puts a mark last of those of a field that is there.
-fn mark_there(
-    fields: &mut Vec<Rows<u8>>,
-    field: usize,
-    mark: u8,
-) -> Result<(), OutOfMemory>
+fn mark_there(fields: &mut Vec<Rows<u8>>, field: usize, mark: u8) -> Result<(), OutOfMemory>
     requires { field < length fields.old.items }
     ensures { OnOk result (fields.new.items ≡ slice_set fields.old.items field (with_mark (marks_at fields.old.items field) mark)) }
 {
