@@ -64,11 +64,30 @@ list_turn rows i d old new whole mark h is same k f =
     ∙ sym (ap (λ xs. marked_where (list_any (row_is k f) xs) (marks_at (marks_in old k) f) mark) (drop_more rows i d h))
     ∙ same k f
 
-pub lists_turn : (ready : List (List ItemRow)) (marked : List MarkedRow) (i : ℕ) (d : MarkedRow) (old new : List (List (List ℕ))) (whole : ℕ → ℕ → List ℕ) → i < length marked → ((k f : ℕ) → marks_at (marks_in new k) f ≡ marked_where (list_any (row_is k f) (rows_at ready (get_or marked i d).list)) (marks_at (marks_in old k) f) (get_or marked i d).number) → ((k f : ℕ) → marks_where (rows_hold ready k f) (map marked_in (drop i marked)) (marks_at (marks_in old k) f) ≡ whole k f) → (k f : ℕ) → marks_where (rows_hold ready k f) (map marked_in (drop (i + 1) marked)) (marks_at (marks_in new k) f) ≡ whole k f
-lists_turn ready marked i d old new whole h is same k f =
+pub lists_turn : (ready : List (List ItemRow)) (marked : List MarkedRow) (i : ℕ) (d : MarkedRow) (old new : List (List (List ℕ))) → i < length marked → ((k f : ℕ) → marks_at (marks_in new k) f ≡ marked_where (rows_hold ready k f (marked_in (get_or marked i d))) (marks_at (marks_in old k) f) (get_or marked i d).number) → ((k f : ℕ) → marks_where (rows_hold ready k f) (map marked_in (drop i marked)) (marks_at (marks_in old k) f) ≡ marks_where (rows_hold ready k f) (map marked_in marked) []) → (k f : ℕ) → marks_where (rows_hold ready k f) (map marked_in (drop (i + 1) marked)) (marks_at (marks_in new k) f) ≡ marks_where (rows_hold ready k f) (map marked_in marked) []
+lists_turn ready marked i d old new h is same k f =
     ap (marks_where (rows_hold ready k f) (map marked_in (drop (i + 1) marked))) (is k f)
     ∙ sym (ap (λ ms. marks_where (rows_hold ready k f) (map marked_in ms) (marks_at (marks_in old k) f)) (drop_more marked i d h))
     ∙ same k f
+
+none_left : {X : Type 0} (xs : List X) (i : ℕ) → length xs ≤ i → drop i xs ≡ []
+none_left [] zero h = refl
+none_left [] (suc i) h = refl
+none_left (x ∷ xs) zero h = absurd (omega arith)
+none_left (x ∷ xs) (suc i) h = none_left xs i (omega arith)
+
+pub list_end : (rows : List ItemRow) (i : ℕ) (new whole : List (List (List ℕ))) (mark : ℕ) → length rows ≤ i → ((k f : ℕ) → marked_where (list_any (row_is k f) (drop i rows)) (marks_at (marks_in new k) f) mark ≡ marked_where (list_any (row_is k f) rows) (marks_at (marks_in whole k) f) mark) → (k f : ℕ) → marks_at (marks_in new k) f ≡ marked_where (list_any (row_is k f) rows) (marks_at (marks_in whole k) f) mark
+list_end rows i new whole mark h same k f =
+    sym (ap (λ xs. marked_where (list_any (row_is k f) xs) (marks_at (marks_in new k) f) mark) (none_left rows i h)) ∙ same k f
+
+pub lists_end : (ready : List (List ItemRow)) (marked : List MarkedRow) (i : ℕ) (new : List (List (List ℕ))) → length marked ≤ i → ((k f : ℕ) → marks_where (rows_hold ready k f) (map marked_in (drop i marked)) (marks_at (marks_in new k) f) ≡ marks_where (rows_hold ready k f) (map marked_in marked) []) → (k f : ℕ) → marks_at (marks_in new k) f ≡ marks_where (rows_hold ready k f) (map marked_in marked) []
+lists_end ready marked i new h same k f =
+    sym (ap (λ ms. marks_where (rows_hold ready k f) (map marked_in ms) (marks_at (marks_in new k) f)) (none_left marked i h)) ∙ same k f
+
+-- the rows of a list by its number
+pub rows_marked : (ready : List (List ItemRow)) (rows : List ItemRow) (n : ℕ) (old new : List (List (List ℕ))) (mark : ℕ) → rows ≡ rows_at ready n → ((k f : ℕ) → marks_at (marks_in new k) f ≡ marked_where (list_any (row_is k f) rows) (marks_at (marks_in old k) f) mark) → (k f : ℕ) → marks_at (marks_in new k) f ≡ marked_where (list_any (row_is k f) (rows_at ready n)) (marks_at (marks_in old k) f) mark
+rows_marked ready rows n old new mark same is k f =
+    is k f ∙ ap (λ xs. marked_where (list_any (row_is k f) xs) (marks_at (marks_in old k) f) mark) same
 
 -- rows and items
 

@@ -51,7 +51,7 @@ fn mark_row(
 }
 
 /// Puts a mark last of those of each field that stands in these rows, once.
-#[tactic(auto, using(crate::proofs::Holding::list_turn))]
+#[tactic(auto, using(crate::proofs::Holding::list_turn, crate::proofs::Holding::list_end))]
 fn mark_list(
     alloc: Global,
     found: &mut FieldMarks,
@@ -66,14 +66,28 @@ fn mark_list(
     Ok(())
 }
 
+/// Puts the mark of a list last of those of each field that stands in it.
+#[tactic(auto, using(crate::proofs::Holding::rows_marked))]
+fn mark_one(
+    alloc: Global,
+    found: &mut FieldMarks,
+    lists: &FieldLists,
+    list: Marked,
+) -> Result<(), OutOfMemory>
+    ensures { OnOk result ((k f : ℕ) → marks_at (marks_in found.new k) f ≡ marked_where (rows_hold lists.now k f (marked_in list)) (marks_at (marks_in found.old k) f) list.number) }
+{
+    mark_list(alloc, found, lists.rows(list.list), list.number)?;
+    Ok(())
+}
+
 /// The marks of each field, by the lists that have a mark.
-#[tactic(auto, using(crate::proofs::Holding::lists_turn))]
+#[tactic(auto, using(crate::proofs::Holding::lists_turn, crate::proofs::Holding::lists_end))]
 fn marks_by(alloc: Global, lists: &FieldLists, marked: &[Marked]) -> Result<FieldMarks, OutOfMemory>
     ensures { IfOk result (λ found. (k f : ℕ) → marks_at (marks_in found k) f ≡ marks_where (rows_hold lists.now k f) (map marked_in marked.now) []) }
 {
     let mut found = FieldMarks::new(alloc);
     for list in marked {
-        mark_list(alloc, &mut found, lists.rows(list.list), list.number)?;
+        mark_one(alloc, &mut found, lists, *list)?;
     }
     Ok(found)
 }

@@ -93,11 +93,13 @@ impl InstanceMarks {
     }
 
     /// Puts a mark last of those of a field.
+    #[tactic(auto, using(crate::proofs::Tables::field_marked))]
     fn mark(&mut self, alloc: Global, field: u32, mark: u8) -> Result<(), OutOfMemory>
         ensures { OnOk result ((f : ℕ) → marks_at self.new f ≡ marked_where (nat_eq field f) (marks_at self.old f) mark) }
     {
         reach_field(alloc, &mut self.fields, field)?;
-        mark_there(&mut self.fields, field as usize, mark)
+        mark_there(&mut self.fields, field as usize, mark)?;
+        Ok(())
     }
 }
 
@@ -118,6 +120,7 @@ fn reach_instance(
 }
 
 /// Puts a mark last of those of a field of an instance that is there.
+#[tactic(auto, using(crate::proofs::Tables::instance_marked))]
 fn mark_in(
     alloc: Global,
     instances: &mut Vec<InstanceMarks>,
@@ -128,7 +131,8 @@ fn mark_in(
     requires { instance < length instances.old.items }
     ensures { OnOk result ((k f : ℕ) → marks_at (marks_in instances.new.items k) f ≡ marked_where (nat_eq instance k && nat_eq field f) (marks_at (marks_in instances.old.items k) f) mark) }
 {
-    instances[instance].mark(alloc, field, mark)
+    instances[instance].mark(alloc, field, mark)?;
+    Ok(())
 }
 
 impl FieldMarks {
@@ -142,6 +146,7 @@ impl FieldMarks {
     }
 
     /// Puts a mark last of those of a field of an instance, unless it is the last already.
+    #[tactic(auto, using(crate::proofs::Tables::marked_behind))]
     pub fn mark(
         &mut self,
         alloc: Global,
@@ -152,7 +157,8 @@ impl FieldMarks {
         ensures { OnOk result ((k f : ℕ) → marks_at (marks_in self.new k) f ≡ marked_where (nat_eq instance k && nat_eq field f) (marks_at (marks_in self.old k) f) mark) }
     {
         reach_instance(alloc, &mut self.instances, instance)?;
-        mark_in(alloc, &mut self.instances, instance as usize, field, mark)
+        mark_in(alloc, &mut self.instances, instance as usize, field, mark)?;
+        Ok(())
     }
 
     /// The marks of the fields of an instance, from the first field on; of fields past these there are none.
