@@ -39,19 +39,19 @@ fn mark_slot(
 fn mark_row(
     alloc: Global,
     found: &mut FieldMarks,
-    row: ItemRow,
+    row: &ItemRow,
     mark: u8,
 ) -> Result<(), OutOfMemory>
-    ensures { OnOk result ((k f : ℕ) → marks_at (marks_in found.new k) f ≡ marked_where (row_is k f row) (marks_at (marks_in found.old k) f) mark) }
+    ensures { OnOk result ((k f : ℕ) → marks_at (marks_in found.new k) f ≡ marked_where (row_is k f row.now) (marks_at (marks_in found.old k) f) mark) }
 {
     match row {
-        ItemRow::Field { slot, width: _ } => mark_slot(alloc, found, slot, mark),
+        ItemRow::Field { slot, width: _ } => mark_slot(alloc, found, *slot, mark),
         _ => Ok(()),
     }
 }
 
 /// Puts a mark last of those of each field that stands in these rows, once.
-#[tactic(auto, using(crate::proofs::Holding::list_turn, crate::proofs::Holding::list_end))]
+#[tactic(auto, using(crate::proofs::Holding::list_end))]
 fn mark_list(
     alloc: Global,
     found: &mut FieldMarks,
@@ -61,7 +61,7 @@ fn mark_list(
     ensures { OnOk result ((k f : ℕ) → marks_at (marks_in found.new k) f ≡ marked_where (list_any (row_is k f) rows.now) (marks_at (marks_in found.old k) f) mark) }
 {
     for row in rows {
-        mark_row(alloc, found, *row, mark)?;
+        mark_row(alloc, found, row, mark)?;
     }
     Ok(())
 }

@@ -60,7 +60,6 @@ fn add_call<'a>(known: &mut NameSet<'a>, call: &Invocation<'a>) -> Result<(), Ou
 }
 
 /// The same of calls.
-#[tactic(auto, using(crate::proofs::Listing::joined_turn))]
 fn add_calls<'a>(known: &mut NameSet<'a>, calls: &[Invocation<'a>]) -> Result<(), OutOfMemory>
     ensures { OnOk result (known.new ≡ with_all known.old (lists_by calls.now)) }
 {
@@ -71,7 +70,6 @@ fn add_calls<'a>(known: &mut NameSet<'a>, calls: &[Invocation<'a>]) -> Result<()
 }
 
 /// The names of the lists that the calls of these actions preserve.
-#[tactic(auto, using(crate::proofs::Listing::joined_turn))]
 fn listed_by<'a>(alloc: Global, actions: &[ActionCalls<'a>]) -> Result<NameSet<'a>, OutOfMemory>
     ensures { IfOk result (λ known. known ≡ with_all [] (flat_map lists_by actions.now)) }
 {
