@@ -50,15 +50,25 @@ fn applied_tables(
     Ok(reached)
 }
 
-/// The name of the pipeline (P4_14 1.0.5, "Packet Processing and Control Flow").
-const EGRESS: &[u8] = b"egress";
+/// For each table whether egress applies it (P4_14 1.0.5, "Packet Processing and Control Flow"), by the graph of controls and
+/// tables.
+fn egress_by(
+    alloc: Global,
+    controls: &Controls<'_, '_>,
+    graph: &Digraph,
+) -> Result<Vec<bool>, OutOfMemory>
+    requires { graph.now ≡ applied_graph controls.now }
+    ensures { IfOk result (λ applied. AreApplied controls.now egress applied.items) }
+{
+    applied_tables(alloc, controls, graph, b"egress")
+}
 
-/// For each table, in the order of declaration, whether egress applies it, itself or by a control that it calls.
+/// For each table, in the order of declaration, whether egress applies it, itself or by a control that it calls. In time linear
+/// in the text but for looking names up.
 pub fn egress_tables(alloc: Global, names: &Names14<'_>) -> Result<Vec<bool>, OutOfMemory>
     ensures { IfOk result (λ applied. AreApplied names.now egress applied.items) }
 {
     let controls = Controls::of(alloc, names)?;
     let graph = applied_graph(alloc, &controls)?;
-    let applied = applied_tables(alloc, &controls, &graph, EGRESS)?;
-    Ok(applied)
+    egress_by(alloc, &controls, &graph)
 }
