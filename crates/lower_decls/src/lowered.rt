@@ -135,5 +135,6 @@ pub fn lowered(
     let marks = all_marked(alloc, names)?;
     let decls = decls_by(alloc, names, lists, marks.as_slice())?;
     let copies = all_copies(alloc, names)?;
-    with_names(alloc, names, decls, copies, marks)
+    let found = with_names(alloc, names, decls, copies, marks)?;
+    Ok(found)
 }
