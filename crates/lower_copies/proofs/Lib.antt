@@ -1,0 +1,2 @@
+-- Copied: the copies of actions are those of the definitions.
+pub mod Copied

@@ -1,0 +1,2 @@
+-- Copying: the copies of actions, by the names that came before.
+pub mod Copying

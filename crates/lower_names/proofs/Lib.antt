@@ -1,0 +1,2 @@
+-- Named: names that are picked, each once.
+pub mod Named
