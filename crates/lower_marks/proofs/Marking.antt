@@ -7,7 +7,7 @@ use Rattle.p414_syntax.specs.Names.{Name, has_name, names_in}
 use Rattle.p414_syntax.specs.Preserved.{preserved_lists}
 use Rattle.agreement_of_meanings.specs.Agrees.{Marked}
 use Rattle.lower_laws_names.specs.Marks.{marks, marks_from}
-use Rattle.lower_marks.specs.Marking.{marked_lists}
+use Rattle.lower_rows.specs.Named.{marked_lists}
 use Rattle.lower_marks.specs.Marking.{marks_by, mark_if, marked_if, next_mark, ArePreserved}
 
 marks_one : (preserved : List Name) (list number : ℕ) (name : Name) (flags : List Bool) (names : List Name) (b : Bool) → has_name preserved name ≡ b → ((k n : ℕ) → marks_by flags k n ≡ marks_from preserved k n names) → marks_by (has_name preserved name ∷ flags) list number ≡ marks_from preserved list number (name ∷ names)

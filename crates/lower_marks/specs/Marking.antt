@@ -22,12 +22,6 @@ abbrev pub next_mark : Bool → ℕ → ℕ
 next_mark true number = number + 1
 next_mark false number = number
 
--- the lists that have a mark, of which the first row has this number
-abbrev pub marked_lists : ℕ → List (Option ℕ) → List Marked
-marked_lists list [] = []
-marked_lists list (None ∷ rows) = marked_lists (list + 1) rows
-marked_lists list (Some number ∷ rows) = record { list = list; number = number } ∷ marked_lists (list + 1) rows
-
 -- the flags are those of the lists that are preserved
 abbrev pub ArePreserved : List Decl → List Bool → Type 0
 ArePreserved ds flags = flags ≡ map (has_name (preserved_lists ds)) (names_in sort.List ds)

@@ -1,7 +1,8 @@
 // The marks of the lists that are preserved.
 ghost use Rattle.std.specs.Prelude.{◌≡◌, ◌<◌, ◌≤◌, ◌+◌, ◌++◌, map, IfOk, OnOk};
 ghost use Rattle.lower_laws_names.specs.Marks.{marks};
-ghost use Rattle.lower_marks.specs.Marking.{mark_if, marked_if, marked_in, marked_lists, marks_by, next_mark};
+ghost use Rattle.lower_marks.specs.Marking.{mark_if, marked_if, marked_in, marks_by, next_mark};
+ghost use Rattle.lower_rows.specs.Named.{marked_lists};
 
 use crate::preserved::preserved_flags;
 use name_numbers::narrow;

@@ -1,5 +1,6 @@
 use Rattle.std.proofs.Common.{◌≡◌, ◌++◌, drop, map}
-use Rattle.lower_marks.specs.Marking.{marked_in, marked_lists}
+use Rattle.lower_marks.specs.Marking.{marked_in}
+use Rattle.lower_rows.specs.Named.{marked_lists}
 use Rattle.lower_marks.proofs.marks.marked_rows.Given as goal
 
 abbrev pub invariant-loop-i : goal.invariant-loop-i

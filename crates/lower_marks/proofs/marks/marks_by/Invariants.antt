@@ -1,5 +1,5 @@
 use Rattle.std.proofs.Common.{◌≡◌, ◌+◌, ◌≤◌, ◌++◌, length, drop}
-use Rattle.lower_marks.specs.Marking.{marked_lists}
+use Rattle.lower_rows.specs.Named.{marked_lists}
 use Rattle.lower_marks.specs.Marking.{marks_by}
 use Rattle.lower_marks.proofs.marks.marks_by.Given as goal
 

@@ -1,0 +1,12 @@
+pub mod Loops
+pub mod Powers
+pub mod Selects
+pub mod Leading
+pub mod Turning
+pub mod Same
+pub mod SameStates
+pub mod Starting
+pub mod Around
+pub mod SameParsers
+pub mod Fitting
+pub mod Holding

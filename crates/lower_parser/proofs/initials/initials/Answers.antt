@@ -1,0 +1,8 @@
+use Rattle.lower_expressions.specs.Table.{words_in}
+use Rattle.lower_parser.proofs.Starting.{initial_turn}
+use Rattle.lower_parser.proofs.initials.initials.Goals as goal
+
+pub loop-row-preserved : goal.loop-row-preserved
+loop-row-preserved c =
+    initial_turn (words_in c.args.table.now) _ _ _ _ _ _ _ c.args.rows.now c.loop-row.row-index _ _ c.loop-row-test.true c.loop-row.invariant
+    c.in_ok-next.ensures c.in_ok-done-2.ensures.ok
