@@ -1,0 +1,9 @@
+mod Sets
+mod Behind
+mod Passing
+mod Rows
+mod Alike
+mod SameBodies
+mod Fitting
+mod Calling
+mod Acting
