@@ -1,4 +1,5 @@
--- What rows of primitives read and change. A calculation stands by number: `items` are the fields that each one reads.
+-- What rows of primitives read and change. A calculation stands by number: `items` are the fields that each one
+-- reads (this project's own; P4_14 1.0.5, "Parallel and Sequential Semantics").
 use Rattle.std.specs.Prelude.{◌≡◌, ℕ, Bool, true, false, not, ◌&&◌, List, [], ◌∷◌, ◌++◌, map, flat_map, slice_get, Option, Some, None}
 use Rattle.std.specs.List.{list_any}
 use Rattle.std.specs.Global.{Vec}
@@ -27,14 +28,17 @@ abbrev pub slots_read : Option (Vec FieldSlot) → List Part
 slots_read (Some slots) = map number_in slots.items
 slots_read None = []
 
+-- the fields that a calculation reads, by its number
 abbrev pub items_read : List (Vec FieldSlot) → ℕ → List Part
 items_read items calculation = slots_read (slice_get items calculation)
 
+-- what a row reads
 abbrev pub row_reads : List (Vec FieldSlot) → ReadyPrimitive → List Part
 row_reads items (ready.Hash target base calculation bound) =
     target_reads (slot_in target.slot) ++ (both_read (shown_source base) (shown_source bound) ++ items_read items calculation)
 row_reads items row = reads [] (shown row)
 
+-- whether a row changes a part
 abbrev pub row_changes : ReadyPrimitive → Part → Bool
 row_changes row part = changes (shown_row (λ n. no_calculation) row) part
 
@@ -48,6 +52,7 @@ pub record IsAlike (ds : List Decl) (items : List (Vec FieldSlot)) (p : Primitiv
   pub reads_same : reads ds p ≡ row_reads items row
   pub changes_same : (x : Part) → changes p x ≡ row_changes row x
 
+-- primitives read and change what rows do, one by one
 abbrev pub AreAlike : List Decl → List (Vec FieldSlot) → List Primitive → List ReadyPrimitive → Type 0
 AreAlike ds items [] [] = Unit {0}
 AreAlike ds items (p ∷ ps) (row ∷ rows) = IsAlike ds items p row × AreAlike ds items ps rows

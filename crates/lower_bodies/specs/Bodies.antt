@@ -1,4 +1,5 @@
--- What is written for the rows of an action, one after another or at once, as in the mirror.
+-- What is written for the rows of an action, one after another or at once, as in the mirror (this project's own;
+-- P4_14 1.0.5, "Actions and Action Profiles"; P4_16 1.2, "Actions").
 use Rattle.std.specs.Prelude.{◌≡◌, ℕ, suc, ◌<◌, Bool, List, [], ◌∷◌, ◌++◌, length, Option, if◌then◌else◌}
 use Rattle.p414_syntax.specs.declared.syntax.Decl.{Decl}
 use Rattle.p414_syntax.specs.declared.syntax.Rule14.{Rule14}
@@ -22,9 +23,11 @@ rows_by of K (row ∷ rows) = of K row ++ rows_by of (suc K) rows
 
 -- bodies, behind what they do first
 
+-- each row by itself, one after another
 abbrev pub rows_in_order : WordsTable → Stmt16 → List ReadyPrimitive → Stmt16
 rows_in_order t x rows = behind_stmts x (rows_by (row_stmts t now) 0 rows)
 
+-- first what all rows read, then the rest of each
 abbrev pub rows_at_once : WordsTable → Stmt16 → List ReadyPrimitive → Stmt16
 rows_at_once t x rows =
     behind_stmts (behind_stmts (copies_stmt (words_in t) x) (rows_by (row_front t entry) 0 rows)) (rows_by (row_rest t entry) 0 rows)

@@ -1,4 +1,5 @@
--- The rows of a program's calls are kept of its primitives, where the table has the program's calculations.
+-- The rows of a program's calls are kept of its primitives, where the table has the program's calculations
+-- (this project's own).
 use Rattle.std.specs.Prelude.{List, map}
 use Rattle.p414_syntax.specs.declared.syntax.Decl.{Decl}
 use Rattle.p414_syntax.specs.Arguments.{Invocation}
@@ -9,6 +10,7 @@ use Rattle.lower_expressions.specs.declared.table.WordsTable.{WordsTable}
 use Rattle.lower_rows.specs.Calculations.{HasCalculations}
 use Rattle.lower_primitives.specs.Kept.{AreKept}
 
+-- so it is for whatever the program comes to
 abbrev pub CalledRowsAreKept : Type 0
 CalledRowsAreKept =
     (ds : List Decl) (x : Expanded) (t : WordsTable) (all : List Invocation)

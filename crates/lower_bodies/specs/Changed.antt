@@ -1,4 +1,4 @@
--- What the sets of changed parts hold.
+-- What the sets of changed parts hold (this project's own).
 use Rattle.std.specs.Prelude.{ℕ, Bool, ◌||◌}
 use Rattle.std.specs.declared.cmp.Ordering.{Ordering}
 use Rattle.std.specs.Ordering.{nat_cmp, ordering_then}
@@ -11,9 +11,11 @@ use Rattle.lower_bodies.specs.declared.changed.ChangedParts.{ChangedParts}
 abbrev pub pair_cmp : ℕ × ℕ → ℕ × ℕ → Ordering
 pair_cmp x y = ordering_then (nat_cmp x.0 y.0) (nat_cmp x.1 y.1)
 
+-- the same of three numbers
 abbrev pub triple_cmp : ℕ × ℕ × ℕ → ℕ × ℕ × ℕ → Ordering
 triple_cmp x y = ordering_then (ordering_then (nat_cmp x.0 y.0) (nat_cmp x.1 y.1)) (nat_cmp x.2 y.2)
 
+-- an element of an instance
 abbrev pub at : ℕ → ℕ → Element
 at instance element = record { instance = instance; element = element }
 

@@ -1,4 +1,4 @@
--- What is asked of rows holds of the rows of primitives that fit, in a table of the block's words.
+-- What is asked of rows holds of the rows of primitives that fit, in a table of the block's words (this project's own).
 use Rattle.std.specs.Prelude.{◌≡◌, ℕ, ◌<◌, ◌≤◌, List, length}
 use Rattle.p414_syntax.specs.declared.syntax.Decl.{Decl}
 use Rattle.p414_sem.specs.Operations.{Primitive}
@@ -17,6 +17,7 @@ pub record IsNarrow (w : Words) : Type 0 where
   pub parameters : (j : ℕ) → j < length w.parameters → (field_at w.parameters j).width ≤ 128
   pub objects : (j : ℕ) → j < length w.objects → (object_at w.objects j).width ≤ 128
 
+-- rows of primitives that fit have all that they name in the table
 abbrev pub FittingRowsHave : Type 0
 FittingRowsHave =
     (c : Lowering) (ds : List Decl) (t : WordsTable) (ps : List Primitive) (rows : List ReadyPrimitive)

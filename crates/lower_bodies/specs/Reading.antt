@@ -1,4 +1,4 @@
--- The fields that calculations read, and which bodies need copies.
+-- The fields that calculations read, and which bodies need copies (this project's own).
 use Rattle.std.specs.Prelude.{◌≡◌, Bool, false, not, List, [], ◌∷◌, map, flat_map}
 use Rattle.std.specs.Global.{Vec}
 use Rattle.p414_syntax.specs.declared.syntax.Rule14.{Rule14}
@@ -12,13 +12,16 @@ use Rattle.lower_rows.specs.declared.calculations.HashItem.TheVariants as item
 use Rattle.lower_rows.specs.declared.calculations.CalculationRow.{CalculationRow}
 use Rattle.lower_expressions.specs.declared.table.WordsTable.{WordsTable}
 
+-- the field that an item is
 abbrev pub item_parts : HashItem → List Part
 item_parts (item.Field slot) = number_in slot ∷ []
 item_parts _ = []
 
+-- the fields of a calculation
 abbrev pub row_parts : CalculationRow → List Part
 row_parts row = flat_map item_parts row.items
 
+-- the fields in these slots
 abbrev pub slots_parts : Vec FieldSlot → List Part
 slots_parts slots = map number_in slots.items
 

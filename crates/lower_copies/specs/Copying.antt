@@ -1,4 +1,5 @@
--- The copies of actions, by the names that came before: those of each pipeline, and those of the table.
+-- The copies of actions, by the names that came before: those of each pipeline, and those of the table (this project's
+-- own; P4_14 1.0.5, "Actions and Action Profiles", "Table Declarations", "Counters"; `v1model.p4`, `direct_counter`).
 use Rattle.std.specs.Prelude.{◌≡◌, ℕ, ◌+◌, ◌<◌, Bool, false, not, ◌&&◌, if◌then◌else◌, List, [], ◌∷◌, ◌++◌, length, slice_index_or, Option, Some, None, unwrap_or}
 use Rattle.p414_syntax.specs.declared.syntax.Decl.{Decl}
 use Rattle.p414_syntax.specs.declared.syntax.Decl.TheVariants as decl
@@ -31,6 +32,7 @@ abbrev pub listing_of : Lister → ℕ → Name → Listing
 listing_of at number name =
     record { table = at.table; number = number; action = name; is_counted = at.is_counted; in_egress = at.in_egress }
 
+-- the lines of a table, of which the first has this number
 abbrev pub lines_of : Lister → ℕ → List Name → List Listing
 lines_of at first names = lines_from at.is_counted at.in_egress at.table first names
 
@@ -39,6 +41,7 @@ abbrev pub direct_in : Decl → Option Name
 direct_in (decl.Counter x) = direct_table_of x.attributes
 direct_in _ = None
 
+-- the tables whose entries are counted, each once, behind those that were found
 abbrev pub directs_from : List Name → List Decl → List Name
 directs_from found ds = picked_from direct_in found ds
 
@@ -48,6 +51,7 @@ line_copies pipeline own l =
     one_if (not (has_name pipeline l.action)) (plain_copy l)
     ++ one_if (l.is_counted && not (has_name own l.action)) (counted_copy l)
 
+-- the copies of the lines of a table, by the names that its pipeline and it had before
 abbrev pub table_copies : List Name → List Name → List Listing → List Copy
 table_copies pipeline own [] = []
 table_copies pipeline own (l ∷ ls) =

@@ -1,4 +1,5 @@
--- What the rows of instances mean.
+-- What the rows of instances mean (this project's own; P4_14 1.0.5, "Header and Metadata Instances"; P4_16 1.2, "Struct types",
+-- "Header types", "Header stacks").
 use Rattle.std.specs.Prelude.{ℕ, List, map, Option, Some, None}
 use Rattle.p414_syntax.specs.declared.lexeme.Literal.{Literal}
 use Rattle.p414_syntax.specs.declared.headers.Field.{Field}

@@ -1,4 +1,5 @@
--- The declarations at the top, by what tables say: which header types are used, and which marks each field has.
+-- The declarations at the top, by what tables say: which header types are used, and which marks each field has
+-- (this project's own; P4_14 1.0.5, "Header and Metadata Instances"; P4_16 1.2, "Header types", "Struct types"; `v1model.p4`, `@field_list`).
 use Rattle.std.specs.Prelude.{◌≡◌, ℕ, ◌+◌, Bool, false, if◌then◌else◌, List, [], ◌∷◌, ◌++◌, map, filter_map, codes, slice_index_or, Option, Some, None}
 use Rattle.p414_syntax.specs.declared.syntax.Decl.{Decl}
 use Rattle.p414_syntax.specs.Views.{HeaderTypeTree}
@@ -21,6 +22,7 @@ used_from flags number (t ∷ ts) =
 abbrev pub AreUsed : List Decl → List Bool → Type 0
 AreUsed ds flags = flags ≡ map (is_used ds) (types ds)
 
+-- a field of a struct, with its marks
 abbrev pub marked_field : List ℕ → NamedField → StructField
 marked_field numbers field =
     record { notes = notes_of numbers; of = type_of.Bit (plain field.width); name = field.called }
@@ -41,6 +43,7 @@ struct_by marks m = of m.shown where
 abbrev pub headers_struct : List Member → Decl16
 headers_struct ms = decl16.Struct (record { name = codes "hs"; fields = filter_map header_member ms })
 
+-- the struct of the metadata instances
 abbrev pub metadata_struct : List Member → Decl16
 metadata_struct ms = decl16.Struct (record { name = codes "ms"; fields = filter_map metadata_member ms })
 

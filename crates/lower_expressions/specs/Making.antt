@@ -1,4 +1,4 @@
--- Expressions and statements that are put over earlier ones, which keep their places.
+-- Expressions and statements that are put over earlier ones, which keep their places (this project's own; P4_16 1.2, "Expressions", "Statements").
 use Rattle.std.specs.Prelude.{◌≡◌, ℕ, ◌<◌, length}
 use Rattle.p416_syntax.specs.Tree.{Exp16, Stmt16, Trees, exp_at, stmt_at, Keeps}
 

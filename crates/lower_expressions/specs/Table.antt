@@ -45,6 +45,7 @@ words_in t = record {
   parameters = map named_field t.parameters.now;
 }
 
+-- where operands are read
 abbrev pub at_in : ReadAt → At
 at_in reading.Now = now
 at_in reading.Entry = entry

@@ -1,4 +1,5 @@
--- The marks of each field, in a table by instance and field: the marks of the lists that hold it.
+-- The marks of each field, in a table by instance and field: the marks of the lists that hold it
+-- (this project's own; P4_14 1.0.5, "Field Lists"; `v1model.p4`, `@field_list`).
 use Rattle.std.specs.Prelude.{◌≡◌, ℕ, ◌-◌, Bool, false, ◌&&◌, nat_eq, if◌then◌else◌, List, [], ◌∷◌, ◌++◌, length, slice_get, slice_index_or, Option, Some, None}
 use Rattle.std.specs.List.{list_any}
 use Rattle.p414_syntax.specs.declared.syntax.Decl.{Decl}
@@ -14,6 +15,7 @@ use Rattle.lower_laws_names.specs.Marks.{is_field, marks_of_field}
 abbrev pub marks_at : List (List ℕ) → ℕ → List ℕ
 marks_at marks f = slice_index_or marks f []
 
+-- the marks of the fields of an instance
 abbrev pub marks_in : List (List (List ℕ)) → ℕ → List (List ℕ)
 marks_in marks k = slice_index_or marks k []
 
@@ -23,13 +25,16 @@ AreMarks ds x marks = (k f : ℕ) → marks_at (marks_in marks k) f ≡ marks_of
 
 -- a mark behind these, unless it is the last
 
+-- the last mark, if there is one, is this one
 abbrev pub is_that : Option ℕ → ℕ → Bool
 is_that None mark = false
 is_that (Some last) mark = nat_eq last mark
 
+-- the last of these marks is this one
 abbrev pub ends_in : List ℕ → ℕ → Bool
 ends_in marks mark = is_that (slice_get marks (length marks - 1)) mark
 
+-- a mark behind these, unless it is the last
 abbrev pub with_mark : List ℕ → ℕ → List ℕ
 with_mark marks mark = if ends_in marks mark then marks else marks ++ mark ∷ []
 

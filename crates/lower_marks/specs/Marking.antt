@@ -1,4 +1,5 @@
--- The marks of lists, by flags that tell which of them are preserved.
+-- The marks of lists, by flags that tell which of them are preserved (this project's own; P4_14 1.0.5,
+-- "Field Lists", "Primitive Actions"; `v1model.p4`, `@field_list`).
 use Rattle.std.specs.Prelude.{◌≡◌, ℕ, ◌+◌, Bool, true, false, List, [], ◌∷◌, map, Option, Some, None}
 use Rattle.p414_syntax.specs.declared.syntax.Decl.{Decl}
 use Rattle.p414_syntax.specs.declared.syntax.Sort.TheVariants as sort
@@ -18,6 +19,7 @@ abbrev pub mark_if : Bool → ℕ → Option ℕ
 mark_if true number = Some number
 mark_if false number = None
 
+-- the mark that is next
 abbrev pub next_mark : Bool → ℕ → ℕ
 next_mark true number = number + 1
 next_mark false number = number

@@ -10,8 +10,10 @@ use Rattle.p414_syntax.specs.Preserved.{list_of}
 abbrev pub lists_among : List ArgumentPlace → List Argument → List Name
 lists_among places arguments = flat_map list_of (placed places arguments)
 
+-- those that a call names
 abbrev pub lists_in : Invocation → List Name
 lists_in i = lists_among (primitive_places i.callee) i.arguments
 
+-- those that calls name
 abbrev pub lists_by : List Invocation → List Name
 lists_by calls = flat_map lists_in calls

@@ -1,4 +1,4 @@
--- The new names of the fields of all instances (this project's own).
+-- The new names of the fields of all instances (this project's own; P4_14 1.0.5, "Header Type Declarations", "Header and Metadata Instances").
 use Rattle.std.specs.Prelude.{ℕ, ◌+◌, List, [], ◌∷◌, ◌++◌, Option, Some, None}
 use Rattle.std.specs.Option.{option_map_or}
 use Rattle.p414_syntax.specs.declared.headers.Field.{Field}
@@ -31,5 +31,6 @@ abbrev pub instance_names_from : List Decl → ℕ → List Decl → List FieldN
 instance_names_from ds instance [] = []
 instance_names_from ds instance (d ∷ es) = names_by ds instance (type_name_in d) (λ k. instance_names_from ds k es)
 
+-- the new names of the fields of all instances
 abbrev pub new_field_names : List Decl → List FieldName
 new_field_names ds = instance_names_from ds 0 ds

@@ -7,6 +7,7 @@ use Rattle.p414_syntax.specs.Names.{Name, names_in, number_of}
 use Rattle.lower_laws_names.specs.NewNames.{new_name}
 use Rattle.lower_names.specs.declared.renamed.Renamed.{Renamed}
 
+-- the new name of what has a name in a sort
 abbrev pub renamed : List Decl → Sort → Name → Renamed
 renamed ds s name = record { sort = s; number = unwrap_or (number_of s ds name) 0; name = new_name ds s name }
 

@@ -42,5 +42,6 @@ pub record IsParserOf (ds : List Decl) (q : Parser16) : Type 0 where
   pub ends : EndsAlike ds q
   pub translates : Translates ds q
 
+-- it is that parser, where the declarations were read and break no rule
 abbrev pub IsLowered : List Decl → Parser16 → Type 0
 IsLowered ds q = IsAccepted ds → IsParserOf ds q

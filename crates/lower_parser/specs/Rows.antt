@@ -35,9 +35,11 @@ row_field w instance j = field_at (fields_of (shown_at w.names.instances instanc
 
 -- Values, as so many bits; `element` is the element that was extracted last, none where it is the stack's last one.
 
+-- so many bits from where parsing stands
 abbrev pub ahead : ℕ → Exp16
 ahead bits = lookahead (name packet_called) (Bit (plain bits)) no_arguments
 
+-- a value at a width
 abbrev pub row_value : Words → Option ℕ → ℕ → ReadyValue → Exp16
 row_value w element width (ready_value.Current offset bits) = resized bits width (resized (offset + bits) bits (ahead (offset + bits)))
 row_value w element width (ready_value.Latest instance j) =
@@ -47,9 +49,11 @@ row_value w element width (ready_value.Number n) = literal (sized width n)
 
 -- statements
 
+-- an extraction
 abbrev pub extraction : Exp16 → Stmt16
 extraction e = expression (call (member (name packet_called) (codes "extract")) (argument no_arguments e))
 
+-- a statement
 abbrev pub row_stmt : Words → Option ℕ → ReadyStatement → Stmt16
 row_stmt w element (ready_statement.Extract instance fixed bits) = extraction (row_part w (codes "next") instance fixed)
 row_stmt w element (ready_statement.Set slot width v) = assign (slot_exp w now (slot_in slot)) (row_value w element width v)
@@ -64,19 +68,23 @@ abbrev pub rows_behind : Words → Option ℕ → Stmt16 → List ReadyStatement
 rows_behind w element x [] = x
 rows_behind w element x (row ∷ rows) = rows_behind w (element_behind element row) ((then) x (row_stmt w element row)) rows
 
+-- the element that was extracted last, behind statements
 abbrev pub element_of : Option ℕ → List ReadyStatement → Option ℕ
 element_of element [] = element
 element_of element (row ∷ rows) = element_of (element_behind element row) rows
 
 -- the key of a select: all values joined
 
+-- a value of a key at its width
 abbrev pub row_key_part : Words → Option ℕ → SelectPart → Exp16
 row_key_part w element part = row_value w element part.width part.value
 
+-- what is joined behind an expression
 abbrev pub row_key_from : Words → Option ℕ → Exp16 → List SelectPart → Exp16
 row_key_from w element e [] = e
 row_key_from w element e (part ∷ parts) = row_key_from w element (binary Concatenate e (row_key_part w element part)) parts
 
+-- the key of a select
 abbrev pub row_key : Words → Option ℕ → List SelectPart → Exp16
 row_key w element [] = no_arguments
 row_key w element (part ∷ parts) = row_key_from w element (row_key_part w element part) parts
@@ -88,6 +96,7 @@ parts_in (ready_end.To to) = []
 
 -- the initial values of metadata
 
+-- the assignment of an initial value
 abbrev pub row_initial : Words → InitialRow → Stmt16
 row_initial w row = assign (slot_exp w now (slot_in row.slot)) (literal (sized (width_in w (slot_in row.slot)) row.value))
 

@@ -16,6 +16,7 @@ use Rattle.lower_laws_declared.specs.Layout.{layout_shaped}
 use Rattle.lower_laws_declared.specs.Parser.{names_of_parser, parser_written}
 use Rattle.lower_laws_translated.specs.Given.{IsGiven}
 
+-- the names of a program's parser
 abbrev pub parser_names : List Decl → ParserWords
 parser_names ds = names_of_parser (layout_shaped ds []) ds
 

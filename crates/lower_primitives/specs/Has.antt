@@ -13,6 +13,7 @@ use Rattle.lower_expressions.specs.declared.table.WordsTable.{WordsTable}
 use Rattle.lower_expressions.specs.Table.{words_in}
 use Rattle.lower_expressions.specs.Has.{SlotHas, SourceHas, ObjectHas, TargetHas, IsInstance}
 
+-- what a term names is in the table
 abbrev pub TermHas : Words → Term → Type 0
 TermHas w (just a) = SourceHas w a
 TermHas w (on_mask a mask) = SourceHas w a × SourceHas w mask
@@ -28,21 +29,25 @@ TermHas w (hashed base calculation bound) = ⊥
 
 -- the items of a calculation
 
+-- what an item of a calculation names is in the table
 abbrev pub ItemHas : Words → HashItem → Type 0
 ItemHas w (item.Number width value) = Unit {0}
 ItemHas w (item.Field slot) = SlotHas w (slot_in slot)
 ItemHas w item.Other = Unit {0}
 
+-- the same of items
 abbrev pub ItemsHave : Words → List HashItem → Type 0
 ItemsHave w [] = Unit {0}
 ItemsHave w (i ∷ items) = ItemHas w i × ItemsHave w items
 
 -- rows
 
+-- a calculation and what it reads are in the table
 pub record HashHas (t : WordsTable) (calculation : ℕ) : Type 0 where
   pub within : calculation < length t.calculations.now
   pub items : ItemsHave (words_in t) (calculation_at t.calculations.now calculation).items
 
+-- what the row of a primitive names is in the table
 abbrev pub RowHas : WordsTable → ReadyPrimitive → Type 0
 RowHas t (ready.Write target term) = TargetHas (words_in t) (shown_target target) × TermHas (words_in t) (shown_term term)
 RowHas t (ready.Hash target base calculation bound) = TargetHas (words_in t) (shown_target target) × SourceHas (words_in t) (shown_source base) × SourceHas (words_in t) (shown_source bound) × HashHas t calculation
@@ -57,6 +62,7 @@ RowHas t (ready.ExecuteMeter object index target) = ObjectHas (words_in t) objec
 RowHas t (ready.Ask kind session list) = SourceHas (words_in t) (shown_source session)
 RowHas t ready.Nothing = Unit {0}
 
+-- the same of rows
 abbrev pub RowsHave : WordsTable → List ReadyPrimitive → Type 0
 RowsHave t [] = Unit {0}
 RowsHave t (row ∷ rows) = RowHas t row × RowsHave t rows

@@ -1,4 +1,5 @@
--- What is written for rows, which keep the calculations of hashes by number.
+-- What is written for rows, which keep the calculations of hashes by number (this project's own; P4_14 1.0.5,
+-- "Primitive Actions", "Checksums and Hash-value Generators"; `v1model.p4`, `hash`).
 use Rattle.std.specs.Prelude.{ℕ, suc, ◌^◌, nat_lt, Bool, true, false, List, [], ◌∷◌, ◌++◌, Option, codes, if◌then◌else◌}
 use Rattle.p414_sem.specs.Operations.{Source}
 use Rattle.p414_slots.specs.Shown.{slot_in}
@@ -20,11 +21,13 @@ use Rattle.lower_rows.specs.Calculations.{calculation_at}
 
 -- hashes, as in the mirror
 
+-- an item of a calculation
 abbrev pub row_item_exp : Words → At → HashItem → Exp16
 row_item_exp w at (item.Number width value) = literal (sized width value)
 row_item_exp w at (item.Field slot) = slot_exp w at (slot_in slot)
 row_item_exp w at item.Other = no_arguments
 
+-- items, joined behind an expression
 abbrev pub row_items_exp : Words → At → Exp16 → List HashItem → Exp16
 row_items_exp w at given [] = given
 row_items_exp w at given (i ∷ items) = row_items_exp w at (argument given (row_item_exp w at i)) items
@@ -39,11 +42,13 @@ hash_of to algorithm base items bound =
 abbrev pub filled_stmt : Stmt16 → ℕ → Name → Name → Exp16 → Exp16 → Exp16 → Stmt16
 filled_stmt x width to algorithm base items bound = (then) ((then) x (var (Bit (plain width)) to)) (hash_of (name to) algorithm base items bound)
 
+-- the result of a hash, cut to the bits of its calculation
 abbrev pub row_cut_stmts : Words → At → Name → CalculationRow → List Stmt16
 row_cut_stmts w at to row =
     var (Bit (plain row.width)) to
     ∷ hash_stmt to row.algorithm (literal (sized 1 0)) (row_items_exp w at no_arguments row.items) (literal (sized (suc row.width) (2 ^ row.width))) ∷ []
 
+-- a hash and what becomes of its result
 abbrev pub row_hash_stmts : Words → At → ℕ → ℕ → Source → CalculationRow → Source → Bool → List Stmt16
 row_hash_stmts w at K width base row bound false =
     var (Bit (plain width)) (w.spare K 0)
@@ -55,12 +60,14 @@ row_hash_stmts w at K width base row bound true =
 
 -- the front of a row, and its rest
 
+-- what a primitive reads first
 abbrev pub row_front : WordsTable → At → ℕ → ReadyPrimitive → List Stmt16
 row_front t at K (ready.Hash target base calculation bound) =
     let row = calculation_at t.calculations.now calculation in
     row_hash_stmts (words_in t) at K target.width (shown_source base) row (shown_source bound) (nat_lt row.width (algorithm_width row.algorithm))
 row_front t at K row = front [] (words_in t) at K (shown row)
 
+-- what it does behind that
 abbrev pub row_rest : WordsTable → At → ℕ → ReadyPrimitive → List Stmt16
 row_rest t at K (ready.Hash target base calculation bound) =
     let w = words_in t in guarded w at (slot_in target.slot) (assign (slot_exp w now (slot_in target.slot)) (name (w.spare K 0))) ∷ []
@@ -77,5 +84,6 @@ single_stmt t at (ready.WriteCell object index value) =
 single_stmt t at (ready.Ask kind session list) = request_stmt (words_in t) at kind (shown_source session) list
 single_stmt t at row = no_statements
 
+-- a primitive by itself
 abbrev pub row_stmts : WordsTable → At → ℕ → ReadyPrimitive → List Stmt16
 row_stmts t at K row = row_front t at K row ++ row_rest t at K row

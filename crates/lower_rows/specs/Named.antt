@@ -1,4 +1,4 @@
--- Which instances, fields, objects and marks rows are (this project's own).
+-- Which instances, fields, objects and marks rows are (this project's own; P4_14 1.0.5, "Header and Metadata Instances").
 use Rattle.std.specs.Prelude.{ℕ, ◌+◌, List, [], ◌∷◌, map, Option, Some, None}
 use Rattle.p416_syntax.specs.Names.{Name}
 use Rattle.p416_syntax.specs.Kinds.{ObjectKind, counter, direct_counter, register, meter}
@@ -13,14 +13,17 @@ use Rattle.lower_rows.specs.declared.objects.ObjectForm.{ObjectForm}
 use Rattle.lower_rows.specs.declared.objects.ObjectForm.TheVariants as object
 use Rattle.lower_rows.specs.declared.objects.ObjectRow.{ObjectRow}
 
+-- a field by its new name, with its bits
 abbrev pub named_field : FieldRow → NamedField
 named_field f = record { called = f.called; width = f.width }
 
+-- an instance by the form in which it stands
 abbrev pub shown_as : Form → Name → List NamedField → Shown
 shown_as form.Header called fields = as_header called fields
 shown_as form.Stack called fields = as_stack called fields
 shown_as form.Metadata called fields = as_metadata called fields
 
+-- the instance that a row is
 abbrev pub instance_shown : InstanceRow → Shown
 instance_shown x = shown_as x.form x.called (map named_field x.fields)
 
@@ -28,12 +31,14 @@ instance_shown x = shown_as x.form x.called (map named_field x.fields)
 abbrev pub size_of_row : InstanceRow → ℕ
 size_of_row x = x.size
 
+-- the kind of an object
 abbrev pub kind_of_form : ObjectForm → ObjectKind
 kind_of_form object.Counter = counter
 kind_of_form object.DirectCounter = direct_counter
 kind_of_form object.Register = register
 kind_of_form object.Meter = meter
 
+-- the object that a row is
 abbrev pub object_named : ObjectRow → ObjectName
 object_named o = record { called = o.called; kind = kind_of_form o.form; width = o.width }
 

@@ -1,4 +1,4 @@
--- Moments that are alike but for their store and their work.
+-- Moments that are alike but for their store and their work (this project's own).
 use Rattle.std.specs.Prelude.{◌≡◌, ℕ, ◌+◌, ◌%◌, ◌^◌, Bool, List, Option}
 use Rattle.state_store.specs.State.{Contents, count, read, write, colour, colour_taken}
 use Rattle.p416_syntax.specs.declared.controls.Action16.{Action16}
@@ -28,6 +28,7 @@ pub record Pairing : Type 1 where
 abbrev pub other : Moment → Contents → ℕ → Moment
 other m store work = record m { store = store; work = work }
 
+-- moments that are alike
 pub data Like (k : Pairing) : Moment → Moment → Type 0 where
   like : (m : Moment) (store : Contents) (work : ℕ) → k.stores m.store store → k.works m.work work → Like k m (other m store work)
 
@@ -35,9 +36,11 @@ pub data Like (k : Pairing) : Moment → Moment → Type 0 where
 pub data LikeValued (k : Pairing) : Valued → Valued → Type 0 where
   like_valued : (v : Value) (m n : Moment) → Like k m n → LikeValued k (valued v m) (valued v n)
 
+-- what is referred to, in moments that are alike
 pub data LikeReferred (k : Pairing) : Referred → Referred → Type 0 where
   like_referred : (r : Reference) (m n : Moment) → Like k m n → LikeReferred k (referred r m) (referred r n)
 
+-- what a table did, in moments that are alike
 pub data LikeApplied (k : Pairing) : Applied → Applied → Type 0 where
   like_applied : (hit : Bool) (action : Option Name) (m n : Moment) → Like k m n → LikeApplied k (record { hit = hit; action = action; moment = m }) (record { hit = hit; action = action; moment = n })
 
@@ -46,19 +49,24 @@ pub record LikeWorld (k : Pairing) (w : World) : Type 0 where
   pub acts : (a : Action16) (m n : Moment) → Like k m n → Like k (w.act a m) (w.act a n)
   pub applies : (text : Name) (m n : Moment) → Like k m n → LikeApplied k (w.apply text m) (w.apply text n)
 
+-- arguments that were given, in moments that are alike
 pub data LikeGiven (k : Pairing) : Given × Moment → Given × Moment → Type 0 where
   like_given : (g : Given) (m n : Moment) → Like k m n → LikeGiven k (g, m) (g, n)
 
+-- the same of a list of arguments
 pub data LikeArguments (k : Pairing) : Arguments → Arguments → Type 0 where
   like_arguments : (given : List Given) (m n : Moment) → Like k m n → LikeArguments k (record { given = given; moment = m }) (record { given = given; moment = n })
 
+-- the same of the keys of a table
 pub data LikeKeys (k : Pairing) : Keys → Keys → Type 0 where
   like_keys : (keys : List Key) (m n : Moment) → Like k m n → LikeKeys k (record { keys = keys; moment = m }) (record { keys = keys; moment = n })
 
+-- where statements go on, in moments that are alike
 pub data LikeOnward (k : Pairing) : Onward → Onward → Type 0 where
   like_onward : (called : Name) (m n : Moment) → Like k m n → LikeOnward k (onward called m) (onward called n)
   like_finished : (m n : Moment) → Like k m n → LikeOnward k (finished m) (finished n)
 
+-- ends of a parser, in moments that are alike
 pub data LikeParsed (k : Pairing) : Parsed → Parsed → Type 0 where
   like_parsed : (e : ParserError) (m n : Moment) → Like k m n → LikeParsed k (record { error = e; moment = m }) (record { error = e; moment = n })
 
