@@ -1,5 +1,5 @@
 -- What rows of primitives read and change. A calculation stands by number: `items` are the fields that each one
--- reads (this project's own; P4_14 1.0.5, "Parallel and Sequential Semantics").
+-- reads (this project's own; P4_14 1.0.5, "Actions").
 use Rattle.std.specs.Prelude.{◌≡◌, ℕ, Bool, true, false, not, ◌&&◌, List, [], ◌∷◌, ◌++◌, map, flat_map, slice_get, Option, Some, None}
 use Rattle.std.specs.List.{list_any}
 use Rattle.std.specs.Global.{Vec}

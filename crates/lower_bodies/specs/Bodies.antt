@@ -1,5 +1,5 @@
 -- What is written for the rows of an action, one after another or at once, as in the mirror (this project's own;
--- P4_14 1.0.5, "Actions and Action Profiles"; P4_16 1.2, "Actions").
+-- P4_14 1.0.5, "Actions"; P4_16 1.2, "Actions").
 use Rattle.std.specs.Prelude.{◌≡◌, ℕ, suc, ◌<◌, Bool, List, [], ◌∷◌, ◌++◌, length, Option, if◌then◌else◌}
 use Rattle.p414_syntax.specs.declared.syntax.Decl.{Decl}
 use Rattle.p414_syntax.specs.declared.syntax.Rule14.{Rule14}

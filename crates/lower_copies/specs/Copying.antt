@@ -1,5 +1,5 @@
 -- The copies of actions, by the names that came before: those of each pipeline, and those of the table (this project's
--- own; P4_14 1.0.5, "Actions and Action Profiles", "Table Declarations", "Counters"; `v1model.p4`, `direct_counter`).
+-- own; P4_14 1.0.5, "Actions", "Table Declarations", "Counters"; `v1model.p4`, `direct_counter`).
 use Rattle.std.specs.Prelude.{◌≡◌, ℕ, ◌+◌, ◌<◌, Bool, false, not, ◌&&◌, if◌then◌else◌, List, [], ◌∷◌, ◌++◌, length, slice_index_or, Option, Some, None, unwrap_or}
 use Rattle.p414_syntax.specs.declared.syntax.Decl.{Decl}
 use Rattle.p414_syntax.specs.declared.syntax.Decl.TheVariants as decl
